@@ -1,0 +1,153 @@
+-- Runs side by side: what is claimed of a chart and the network that flattening writes of it, over any list of calls.
+use Prim.Native.Nat.{ℕ, zero, suc, _+_, _-_, _<_}
+use mathlib.Core.Bool.{Bool, true, false, cond, not, _&&_, _||_}
+use mathlib.Core.List.{List, [], _∷_, _++_, map}
+use mathlib.Core.Path.{_≡_}
+use lib.Dec.{leb, ltb, eqb}
+use lib.ListN.{getD, length}
+use Rattle.expr.specs.Lists.{has, all, any, below, keep, bitsOf}
+use Rattle.expr.specs.Answer.{Answer, done, refused}
+use Rattle.chart.specs.Chart.{Chart, transitionAt}
+use Rattle.chart.specs.Tree.{children, sequentials}
+use Rattle.chart.specs.Rules.{chartOf}
+use Rattle.chart.specs.Machine as chart
+use Rattle.chart.specs.declared.configuration.Configuration as chart-type
+use Rattle.network.specs.Network.{Network, networkOf}
+use Rattle.network.specs.Machine as network
+use Rattle.network.specs.declared.configuration.Configuration as network-type
+use Rattle.flattener.specs.Flatten.{Place, idle, child, number, automaton, flagAt, sorted, hasExit, hasEntry}
+use Rattle.flattener.specs.File.{flattenOf}
+
+abbrev pub ChartConfiguration : Type 0
+ChartConfiguration = chart-type.Configuration
+
+abbrev pub NetworkConfiguration : Type 0
+NetworkConfiguration = network-type.Configuration
+
+-- a call of one machine, on the configuration that the call before it returned or left
+pub data Call : Type 0 where
+  step : List ℕ → Call
+  wait : ℕ → Call
+
+unfoldable pub onChart : Chart → ChartConfiguration → Call → Answer ChartConfiguration
+onChart c σ (step ms) = chart.step c σ ms
+onChart c σ (wait d) = chart.wait c σ d
+
+unfoldable pub onNetwork : Network → NetworkConfiguration → Call → Answer NetworkConfiguration
+onNetwork n σ (step ms) = network.step n σ ms
+onNetwork n σ (wait d) = network.wait n σ d
+
+-- what a call returned, or left where it was refused
+unfoldable pub left : {A : Type 0} → A → Answer A → A
+left a (done b) = b
+left a (refused k) = a
+
+-- the transition numbers on a move's edges, ascending and without 255
+unfoldable pub carried : Network → List ℕ → List ℕ
+carried n ms = sorted (keep (λ t. not (eqb t 255)) (map (λ m. network.edgeAt n m .transition) ms))
+
+-- a move with an edge that leaves an urgent location
+unfoldable pub isUrgent : Network → List ℕ → Bool
+isUrgent n ms = any (λ m. network.urgentAt n (network.edgeAt n m .source)) ms
+
+-- the exits and entries that some transitions name together
+unfoldable pub named : Chart → List ℕ → ℕ
+named c [] = 0
+named c (t ∷ ts) = cond (hasExit c t) 1 0 + cond (hasEntry c t) 1 0 + named c ts
+
+-- the picture of a chart configuration
+
+-- the place of a sequential state: its active child, or idle
+unfoldable pub pictured : Chart → ChartConfiguration → ℕ → Place
+pictured c σ q = cond (chart.isActive σ q) (child (getD (keep (chart.isActive σ) (children c q)) 0 0)) (idle q)
+
+unfoldable pub picture : Chart → ChartConfiguration → NetworkConfiguration
+picture c σ = record {
+  locations = map (λ a. cond (ltb a (length (sequentials c))) (number c (pictured c σ (getD (sequentials c) a 0))) 0) (below 16);
+  flags = map (λ a. cond (ltb a (length (sequentials c))) (bitsOf (flagAt c (getD (sequentials c) a 0) (pictured c σ (getD (sequentials c) a 0))) 8) 0) (below 16);
+  variables = σ .variables;
+  clocks = σ .clocks;
+}
+
+-- both machines, the chart list read so far, and how many urgent moves are owed
+pub record Run : Type 0 where
+  pub network : NetworkConfiguration
+  pub chart : ChartConfiguration
+  pub reading : List Call
+  pub owed : ℕ
+
+-- a move that carries ts adds the chart step with this list; an urgent one carries none and adds nothing
+moved : Chart → NetworkConfiguration → Run → List ℕ → Run
+moved c σ r [] = record { network = σ; chart = r .chart; reading = r .reading; owed = r .owed - 1 }
+moved c σ r (t ∷ ts) = record {
+  network = σ;
+  chart = left (r .chart) (chart.step c (r .chart) (t ∷ ts));
+  reading = r .reading ++ (step (t ∷ ts) ∷ []);
+  owed = named c (t ∷ ts);
+}
+
+-- one more network call: a refused one adds nothing, an accepted wait itself
+unfoldable pub extended : Chart → Network → Run → Call → Run
+unfolding moved
+extended c n r (step ms) = elim (network.step n (r .network) ms) [ done σ ↦ moved c σ r (carried n ms) | refused k ↦ r ]
+extended c n r (wait d) = elim (network.wait n (r .network) d) [
+  | done σ ↦ record { network = σ; chart = left (r .chart) (chart.wait c (r .chart) d); reading = r .reading ++ (wait d ∷ []); owed = r .owed }
+  | refused k ↦ r
+]
+
+unfoldable pub runFrom : Chart → Network → Run → List Call → Run
+runFrom c n r [] = r
+runFrom c n r (x ∷ xs) = runFrom c n (extended c n r x) xs
+
+unfoldable pub run : Chart → Network → List Call → Run
+run c n calls = runFrom c n (record { network = network.start n; chart = chart.start c; reading = []; owed = 0 }) calls
+
+-- the chart accepts every call of a list
+unfoldable pub acceptsAll : Chart → ChartConfiguration → List Call → Bool
+acceptsAll c σ [] = true
+acceptsAll c σ (x ∷ xs) = elim (onChart c σ x) [ done τ ↦ acceptsAll c τ xs | refused k ↦ false ]
+
+-- a chart list without its refused calls
+unfoldable pub accepted : Chart → ChartConfiguration → List Call → List Call
+accepted c σ [] = []
+accepted c σ (x ∷ xs) = elim (onChart c σ x) [ done τ ↦ x ∷ accepted c τ xs | refused k ↦ accepted c σ xs ]
+
+unfoldable pub Accepts : {A : Type 0} → Answer A → Type 0
+Accepts {A} a = (b : A) × (a ≡ done b)
+
+-- both accept, or both refuse with the same number
+unfoldable pub Alike : {A B : Type 0} → Answer A → Answer B → Type 0
+Alike (done a) (done b) = Unit {0}
+Alike (done a) (refused k) = ⊥
+Alike (refused j) (done b) = ⊥
+Alike (refused j) (refused k) = j ≡ k
+
+-- while urgent moves are owed
+pub record Owing (n : Network) (r : Run) : Type 0 where
+  pub no-wait : (d : ℕ) → Accepts (network.wait n (r .network) d) → ⊥
+  pub only-urgent : (ms : List ℕ) → Accepts (network.step n (r .network) ms) → (isUrgent n ms ≡ true) × (carried n ms ≡ [])
+  pub some-urgent : (ms : List ℕ) × Accepts (network.step n (r .network) ms)
+
+-- with none owed
+pub record Settled (c : Chart) (n : Network) (r : Run) : Type 0 where
+  pub pictures : r .network ≡ picture c (r .chart)
+  pub carries : (ms : List ℕ) → Accepts (network.step n (r .network) ms) → carried n ms ≡ [] → ⊥
+  pub waits : (d : ℕ) → Alike (network.wait n (r .network) d) (chart.wait c (r .chart) d)
+  pub step-moves : (ts : List ℕ) → Accepts (chart.step c (r .chart) ts) → (ms : List ℕ) × Accepts (network.step n (r .network) ms) × (carried n ms ≡ ts)
+  pub move-steps : (ms : List ℕ) → Accepts (network.step n (r .network) ms) → Accepts (chart.step c (r .chart) (carried n ms))
+  pub only-one : (ms ns : List ℕ) → Accepts (network.step n (r .network) ms) → Accepts (network.step n (r .network) ns) → carried n ms ≡ carried n ns → ms ≡ ns
+
+-- one claim about a list of network calls
+pub record Agrees (c : Chart) (n : Network) (calls : List Call) : Type 0 where
+  pub accepts-reading : acceptsAll c (chart.start c) (run c n calls .reading) ≡ true
+  pub same-variables : run c n calls .network .variables ≡ run c n calls .chart .variables
+  pub same-clocks : run c n calls .network .clocks ≡ run c n calls .chart .clocks
+  pub owing : 0 < run c n calls .owed → Owing n (run c n calls)
+  pub settled : run c n calls .owed ≡ 0 → Settled c n (run c n calls)
+
+-- demand 3: of a chart that flattening accepts and the network that it writes
+abbrev pub Demand3 : Type 0
+Demand3 = (file bytes : List ℕ) (room : ℕ) (c : Chart) → chartOf file ≡ done c → flattenOf file room ≡ done bytes
+    → (n : Network) × (networkOf bytes ≡ done n)
+    × ((calls : List Call) → Agrees c n calls)
+    × ((calls : List Call) → (net : List Call) × (run c n net .reading ≡ accepted c (chart.start c) calls))

@@ -1,0 +1,1 @@
+// Demand 3 and what its proof needs: theory alone, no function.

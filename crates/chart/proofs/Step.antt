@@ -1,0 +1,147 @@
+-- What a step that is not refused says, and that start and step stay within the trees.
+use mathlib.Core.Path.{_≡_, refl, sym, ap, _∙_, subst}
+use mathlib.Core.Bool.{true, not, _&&_}
+use mathlib.Core.Logic.{_⊎_, inl, inr, ⊎-elim, _≢_}
+use mathlib.Core.List.{List, map, List·Memᴰ as Mem}
+use Prim.Native.Nat.{ℕ, _<_}
+use native.Mathlib.Omega.{arith}
+use native.Mathlib.Decide.{ℕ-discrete}
+use borrow.Author.Tests.{eqb-true, eqb-false, eq-eqb, ne-eqb, ltb-true, not-true}
+use lib.Dec.{ltb, eqb}
+use lib.ListN.{length}
+use Rattle.expr.specs.Lists.{has}
+use Rattle.expr.specs.Answer.{done}
+use Rattle.expr.specs.Moves.{known, allowed}
+use Rattle.expr.proofs.Bools.{parts, clash, decided, and-l, both, cond-yes, cond-no, not-yes}
+use Rattle.expr.proofs.Lists.{all-at, all-below, map-at, map-by, getD-mem}
+use Rattle.expr.proofs.Answer.{unless-at}
+use Rattle.expr.proofs.Moves.{allowed-at}
+use Rattle.chart.specs.Chart.{Chart, Transition, stateAt, transitionAt, parentOf, basic, sequential, home}
+use Rattle.chart.specs.Tree.{under}
+use Rattle.chart.specs.Rules.{siblings, entries, apart}
+use Rattle.chart.specs.Machine.{isActive, isTree, isConfiguration, activeTransition, after, tested, start, step, boundsKept}
+use Rattle.chart.specs.declared.configuration.Configuration.{Configuration}
+use Rattle.chart.proofs.Entered.{Entry}
+use Rattle.chart.proofs.Rules.{Passed}
+use Rattle.chart.proofs.Ranges.{Ranges}
+use Rattle.chart.proofs.After.{Fires, start-is-tree, after-is-tree}
+
+-- 10 of a transition: its source and its destination are children of one sequential state
+pub record Siblings (c : Chart) (t : Transition) : Type 0 where
+  pub source-below : t .source ≢ 0
+  pub destination-below : t .destination ≢ 0
+  pub same-parent : parentOf c (t .source) ≡ parentOf c (t .destination)
+  pub home-sequential : sequential c (parentOf c (t .source)) ≡ true
+
+pub siblings-at : (c : Chart) (t : Transition) → siblings c t ≡ true → Siblings c t
+unfolding siblings
+siblings-at c t h = record {
+  source-below = eqb-false (t .source) 0 (not-true _ (search parts));
+  destination-below = eqb-false (t .destination) 0 (not-true _ (search parts));
+  same-parent = eqb-true (parentOf c (t .source)) (parentOf c (t .destination)) (search parts);
+  home-sequential = search parts;
+}
+
+-- 12 of a transition: how its destination is entered
+pub entry-at : (c : Chart) (t : Transition) → ((t .entry < c .entries) ⊎ (t .entry ≡ 255)) → entries c t ≡ true → Entry c (t .destination) (t .entry)
+unfolding entries
+entry-at c t range h = ⊎-elim
+    (λ b. inl (b, eqb-true (t .entry) 255 (sym (cond-yes (eqb (t .entry) 255) _ b) ∙ h)))
+    (λ b. let k = sym (cond-no (eqb (t .entry) 255) (not (eqb (t .entry) 255) && has (stateAt c (t .destination) .entries) (t .entry)) b) ∙ h in
+    let n = eqb-false (t .entry) 255 (not-true _ (search parts)) in
+    inr (n, ⊎-elim (λ l. l) (λ e. absurd (n e)) range, search parts))
+    (decided (basic c (t .destination)))
+
+-- what a step that is not refused says
+pub record Stepped (c : Chart) (σ : Configuration) (ms : List ℕ) (τ : Configuration) : Type 0 where
+  pub given : isConfiguration c σ ≡ true
+  pub each-known : (m : ℕ) → Mem m ms → m < length (c .transitions)
+  pub each-active : (m : ℕ) → Mem m ms → activeTransition c σ (transitionAt c m) ≡ true
+  pub is-allowed : allowed (λ m. transitionAt c m .label) (home c) (λ m. activeTransition c σ (transitionAt c m)) (length (c .transitions)) (c .rendezvous) ms ≡ true
+  pub bounds-kept : boundsKept c τ ≡ true
+  pub result : after c (map (transitionAt c) ms) σ ≡ τ
+
+tested-at : (c : Chart) (σ : Configuration) {τ : Configuration} → tested c σ ≡ done τ → (boundsKept c τ ≡ true) × (σ ≡ τ)
+unfolding tested
+tested-at c σ {τ} h = let u = unless-at 21 _ _ h in (subst (λ (x : Configuration). boundsKept c x ≡ true) (same (u .1)) (u .0), same (u .1))
+  where
+    same : done σ ≡ done τ → σ ≡ τ
+    same e = cc
+
+known-at : (n : ℕ) (ms : List ℕ) → known n ms ≡ true → (m : ℕ) → Mem m ms → m < n
+unfolding known
+known-at n ms h m k = ltb-true m n (all-at (λ m. ltb m n) ms (search parts) k)
+
+pub step-at : (c : Chart) (σ : Configuration) (ms : List ℕ) {τ : Configuration} → step c σ ms ≡ done τ → Stepped c σ ms τ
+unfolding step
+step-at c σ ms h =
+    let a = unless-at 17 _ _ h in
+    let b = unless-at 18 _ _ (a .1) in
+    let d = unless-at 19 _ _ (b .1) in
+    let e = unless-at 20 _ _ (d .1) in
+    let f = tested-at c _ (e .1) in
+    record { given = a .0; each-known = known-at _ ms (b .0); each-active = λ m k. all-at _ _ (d .0) (map-by (transitionAt c) k); is-allowed = e .0; bounds-kept = f .0; result = f .1 }
+
+-- a known transition is one of the chart's
+pub transition-mem : (c : Chart) (m : ℕ) → m < length (c .transitions) → Mem (transitionAt c m) (c .transitions)
+unfolding transitionAt
+transition-mem c m h = getD-mem (c .transitions) m _ h
+
+-- an active transition's source is active
+pub active-source : (c : Chart) (σ : Configuration) (t : Transition) → activeTransition c σ t ≡ true → isActive σ (t .source) ≡ true
+unfolding activeTransition
+active-source c σ t h = and-l (isActive σ (t .source)) _ h
+
+-- a configuration is a tree
+pub configuration-tree : (c : Chart) (σ : Configuration) → isConfiguration c σ ≡ true → isTree c σ ≡ true
+unfolding isConfiguration
+configuration-tree c σ h = and-l (isTree c σ) _ h
+
+-- 14: two transitions of one channel, one's home above the other's, have one home
+pub apart-at : (c : Chart) → apart c ≡ true → (t u : ℕ) → t < length (c .transitions) → u < length (c .transitions)
+    → transitionAt c t .label .signal ≢ 0 → transitionAt c u .label .signal ≢ 0 → transitionAt c t .label .channel ≡ transitionAt c u .label .channel → under c (home c t) (home c u) ≡ true → home c t ≡ home c u
+unfolding apart
+apart-at c h t u i j a b e v = elim (ℕ-discrete (home c t) (home c u)) [
+  | yes z ↦ z
+  | no d ↦ clash (both (not-yes (ne-eqb (transitionAt c t .label .signal) 0 a)) (both (not-yes (ne-eqb (transitionAt c u .label .signal) 0 b)) (both (eq-eqb (transitionAt c t .label .channel) (transitionAt c u .label .channel) e) (both (not-yes (ne-eqb (home c t) (home c u) d)) v))))
+      (not-true _ (all-below _ _ (all-below _ _ h t i) u j))
+]
+
+module _ (c : Chart) (passed : Passed c) (ranges : Ranges c) where
+  pub fires-at : (σ : Configuration) (t : Transition) → Mem t (c .transitions) → isActive σ (t .source) ≡ true → Fires c (isActive σ) t
+  fires-at σ t m a =
+      let s = siblings-at c t (all-at _ _ (passed .transitions) m) in
+      let r = ranges .of-transition t m in
+      record {
+        from = record { known = r .source-known; below-root = s .source-below; parent-is = refl };
+        to = record { known = r .destination-known; below-root = s .destination-below; parent-is = sym (s .same-parent) };
+        home-is = s .home-sequential;
+        from-active = a;
+        entry-is = entry-at c t (r .entry-known) (all-at _ _ (passed .enter) m);
+      }
+
+  -- the start
+  pub start-tree : isTree c (start c) ≡ true
+  unfolding has
+  start-tree = start-is-tree c (passed .tree) (passed .entry-marks) (omega (arith, ranges .states-some)) (ranges .states-few)
+      (inr (omega arith, ranges .entries-some, ap (λ (x : ℕ). has x 0) (passed .entry-marks .root) ∙ first))
+    where
+      first : has 1 0 ≡ true
+      first = refl
+
+  -- the homes of a step's transitions are not nested
+  pub homes-apart : (σ : Configuration) (ms : List ℕ) {τ : Configuration} → Stepped c σ ms τ → (a b : ℕ) → Mem a ms → Mem b ms → under c (home c a) (home c b) ≡ true → a ≡ b
+  homes-apart σ ms s a b m n u =
+      let w = allowed-at _ _ _ _ _ ms (s .is-allowed) in
+      ⊎-elim (λ e. e) (λ e. w .owners a b m n (apart-at c (passed .not-nested) a b (s .each-known a m) (s .each-known b n) (e .0) (e .1) (e .2) u)) (w .channels a b m n)
+
+  -- a step keeps the tree
+  pub step-tree : (σ : Configuration) (ms : List ℕ) {τ : Configuration} → step c σ ms ≡ done τ → isTree c τ ≡ true
+  unfolding home
+  step-tree σ ms {τ} h =
+      let s = step-at c σ ms h in
+      subst (λ (x : Configuration). isTree c x ≡ true) (s .result)
+      (after-is-tree c (passed .tree) (passed .entry-marks) (omega (arith, ranges .states-some)) (ranges .states-few) σ (configuration-tree c σ (s .given)) (map (transitionAt c) ms)
+      (λ t m. let k = map-at (transitionAt c) ms m in subst (Fires c (isActive σ)) (sym (k .2)) (fires-at σ (transitionAt c (k .0)) (transition-mem c (k .0) (s .each-known (k .0) (k .1))) (active-source c σ _ (s .each-active (k .0) (k .1)))))
+      (λ t u m n v. let k = map-at (transitionAt c) ms m in let l = map-at (transitionAt c) ms n in
+      k .2 ∙ ap (transitionAt c) (homes-apart σ ms s (k .0) (l .0) (k .1) (l .1) (subst (λ (x : Transition). under c (parentOf c (transitionAt c (k .0) .source)) (parentOf c (x .source)) ≡ true) (l .2) (subst (λ (x : Transition). under c (parentOf c (x .source)) (parentOf c (u .source)) ≡ true) (k .2) v))) ∙ sym (l .2)))

@@ -1,0 +1,2 @@
+// The check of charts, and the chart machine.
+pub mod configuration;

@@ -1,0 +1,155 @@
+-- Readers at a place: what the bytes from a place on give, by the test that the code makes.
+use mathlib.Core.Path.{_≡_, refl, sym, ap, _∙_, subst}
+use mathlib.Core.Bool.{Bool, true, false, cond}
+use mathlib.Core.List.{List}
+use Prim.Native.Nat.{ℕ, _+_, _*_, _-_, _≤_, _<_}
+use native.Mathlib.Omega.{arith}
+use borrow.Author.Tests.{le-leb, lt-leb, eq-eqb, ne-eqb, ltb-true, ltb-false}
+use lib.Dec.{ltb}
+use lib.ListN.{length, getD, take, drop, length-take, length-drop}
+use lib.Seq.{getD-drop, drop-drop}
+use Rattle.expr.specs.Places.{onward, faultOf, byteOf, wordOf, frameOf, FrameFits, reached, wholly}
+use Rattle.expr.specs.declared.field.Fault.the-variants as Fl
+use Rattle.expr.specs.declared.field.ByteRead.{ByteRead}
+use Rattle.expr.specs.declared.field.ByteRead.the-variants as Bt
+use Rattle.expr.specs.declared.field.WordRead.{WordRead}
+use Rattle.expr.specs.declared.field.WordRead.the-variants as Wd
+use Rattle.expr.specs.declared.field.Frame.{Frame}
+use Rattle.expr.specs.declared.field.Frame.the-variants as Fr
+use Rattle.expr.specs.declared.field.Reached.{Reached}
+use Rattle.expr.specs.declared.field.Reached.the-variants as Rd
+use Rattle.expr.specs.Reading.{Fault, length-fault, range-fault, Read, got, fault, Reader, yield, next, _>>=_, field, byte, byte4, such, end, framed, whole, recorded}
+
+-- a field of n bytes at a place that has so many, and at one that has not
+pub field-some : (n : ℕ) (value : List ℕ → ℕ) (s : List ℕ) (at : ℕ) → n ≤ length s - at → field n value (onward s at) ≡ got (value (onward s at)) (onward s (at + n))
+unfolding field onward
+field-some n value s at h = rw (length-drop at s, le-leb n (length s - at) h, drop-drop n at s)
+
+pub field-none : (n : ℕ) (value : List ℕ → ℕ) (s : List ℕ) (at : ℕ) → length s - at < n → field n value (onward s at) ≡ fault length-fault
+unfolding field onward
+field-none n value s at h = rw (length-drop at s, lt-leb n (length s - at) h)
+
+pub getD-onward : (s : List ℕ) (at i : ℕ) → getD (onward s at) i 0 ≡ getD s (at + i) 0
+unfolding onward
+getD-onward s at i = getD-drop at s i 0
+
+pub getD-here : (s : List ℕ) (at : ℕ) → getD (onward s at) 0 0 ≡ getD s at 0
+getD-here s at = getD-onward s at 0 ∙ ap (λ (i : ℕ). getD s i 0) (omega arith)
+
+pub onward-all : (s : List ℕ) → onward s 0 ≡ s
+unfolding onward
+onward-all s = refl
+
+-- the value of a byte, and of four, at a place
+pub byte-some : (s : List ℕ) (at : ℕ) → at < length s → byte (onward s at) ≡ got (getD s at 0) (onward s (at + 1))
+unfolding byte
+byte-some s at h = field-some 1 _ s at (omega arith) ∙ ap (λ x. got x (onward s (at + 1))) (getD-here s at)
+
+pub byte-none : (s : List ℕ) (at : ℕ) → length s ≤ at → byte (onward s at) ≡ fault length-fault
+unfolding byte
+byte-none s at h = field-none 1 _ s at (omega arith)
+
+pub byte4-some : (s : List ℕ) (at : ℕ) {n : ℕ} → n ≡ length s - at → 4 ≤ n → byte4 (onward s at) ≡ got (256 * (256 * (256 * getD s at 0 + getD s (at + 1) 0) + getD s (at + 2) 0) + getD s (at + 3) 0) (onward s (at + 4))
+unfolding byte4
+byte4-some s at e h = field-some 4 _ s at (omega arith) ∙ rw (getD-here s at, getD-onward s at 1, getD-onward s at 2, getD-onward s at 3)
+
+pub byte4-none : (s : List ℕ) (at : ℕ) {n : ℕ} → n ≡ length s - at → n < 4 → byte4 (onward s at) ≡ fault length-fault
+unfolding byte4
+byte4-none s at e h = field-none 4 _ s at (omega arith)
+
+-- going on after what was read, and ending at a fault
+module _ {A B : Type 0} (r : Reader A) (k : A → Reader B) (s : List ℕ) where
+  pub bind-got : {a : A} {t : List ℕ} → r s ≡ got a t → (r >>= k) s ≡ k a t
+  unfolding _>>=_ next
+  bind-got h = rw h
+
+  pub bind-fault : {f : Fault} → r s ≡ fault f → (r >>= k) s ≡ fault f
+  unfolding _>>=_ next
+  bind-fault h = rw h
+
+module _ (r : Reader ℕ) (p : ℕ → Bool) (s : List ℕ) where
+  pub such-got : {x : ℕ} {t : List ℕ} → r s ≡ got x t → p x ≡ true → such r p s ≡ got x t
+  unfolding such
+  such-got h e = bind-got _ _ s h ∙ rw e
+
+  pub such-not : {x : ℕ} {t : List ℕ} → r s ≡ got x t → p x ≡ false → such r p s ≡ fault range-fault
+  unfolding such
+  such-not h e = bind-got _ _ s h ∙ rw e
+
+  pub such-fault : {f : Fault} → r s ≡ fault f → such r p s ≡ fault f
+  unfolding such
+  such-fault h = bind-fault _ _ s h
+
+-- the bytes of a record whose length was read
+module _ (size : Reader ℕ) (b s : List ℕ) (n from : ℕ) (h : size b ≡ got n (onward s from)) where
+  pub framed-got : {m : ℕ} → m ≡ length s - from → n ≤ m → framed size b ≡ got (take (from + n - from) (drop from s)) (onward s (from + n))
+  unfolding framed onward
+  framed-got e l = bind-got _ _ b h ∙ rw (length-drop from s, le-leb n (length s - from) (omega arith), drop-drop n from s, (let z : from + n - from ≡ n = omega arith in z))
+
+  pub framed-long : {m : ℕ} → m ≡ length s - from → m < n → framed size b ≡ fault length-fault
+  unfolding framed onward
+  framed-long e l = bind-got _ _ b h ∙ rw (length-drop from s, lt-leb n (length s - from) (omega arith))
+
+pub framed-fault : (size : Reader ℕ) (b : List ℕ) {f : Fault} → size b ≡ fault f → framed size b ≡ fault f
+unfolding framed
+framed-fault size b h = bind-fault _ _ b h
+
+-- what an answer of the code that is known says of the definition
+pub byte-got : (s : List ℕ) {q : ByteRead} {d : Read ℕ} {x n : ℕ} → byteOf s q ≡ d → q ≡ Bt.Value x n → d ≡ got x (onward s n)
+byte-got s h e = sym h ∙ ap (byteOf s) e
+
+pub byte-stop : (s : List ℕ) {q : ByteRead} {d : Read ℕ} {f : _} → byteOf s q ≡ d → q ≡ Bt.Fault f → d ≡ fault (faultOf f)
+byte-stop s h e = sym h ∙ ap (byteOf s) e
+
+pub word-got : (s : List ℕ) {q : WordRead} {d : Read ℕ} {x n : ℕ} → wordOf s q ≡ d → q ≡ Wd.Value x n → d ≡ got x (onward s n)
+word-got s h e = sym h ∙ ap (wordOf s) e
+
+pub word-stop : (s : List ℕ) {q : WordRead} {d : Read ℕ} {f : _} → wordOf s q ≡ d → q ≡ Wd.Fault f → d ≡ fault (faultOf f)
+word-stop s h e = sym h ∙ ap (wordOf s) e
+
+pub frame-got : (s : List ℕ) {q : Frame} {d : Read (List ℕ)} {from to : ℕ} → frameOf s q ≡ d → q ≡ Fr.Part from to → d ≡ got (take (to - from) (drop from s)) (onward s to)
+frame-got s h e = sym h ∙ ap (frameOf s) e
+
+pub frame-stop : (s : List ℕ) {q : Frame} {d : Read (List ℕ)} {f : _} → frameOf s q ≡ d → q ≡ Fr.Fault f → d ≡ fault (faultOf f)
+frame-stop s h e = sym h ∙ ap (frameOf s) e
+
+pub frame-fits : (s : List ℕ) {q : Frame} {from to : ℕ} → FrameFits s q → q ≡ Fr.Part from to → (from ≤ to) × (to ≤ length s)
+frame-fits s h e = subst (FrameFits s) e h
+
+pub part-length : (s : List ℕ) (from to : ℕ) → from ≤ to → to ≤ length s → to - from ≡ length (take (to - from) (drop from s))
+part-length s from to h k = simp (length-take, length-drop) (omega arith)
+
+pub reached-got : {A : Type 0} (s : List ℕ) (a : A) {q : Reached} {d : Read A} {n : ℕ} → reached s a q ≡ d → q ≡ Rd.At n → d ≡ got a (onward s n)
+reached-got s a h e = sym h ∙ ap (reached s a) e
+
+pub reached-stop : {A : Type 0} (s : List ℕ) (a : A) {q : Reached} {d : Read A} {f : _} → reached s a q ≡ d → q ≡ Rd.Fault f → d ≡ fault (faultOf f)
+reached-stop s a h e = sym h ∙ ap (reached s a) e
+
+-- the last field of a record, which is not looked at
+pub reached-bind : {A B : Type 0} (s : List ℕ) (r : Reader A) (f : A → B) (b : List ℕ) (a : A) (q : Reached) → reached s a q ≡ r b → reached s (f a) q ≡ (r >>= λ x. yield (f x)) b
+unfolding yield
+reached-bind s r f b a (Rd.At n) h = sym (bind-got r _ b (sym h))
+reached-bind s r f b a (Rd.Fault e) h = sym (bind-fault r _ b (sym h))
+
+-- nothing is left at a place, or something
+pub end-none : (s : List ℕ) (n : ℕ) → length s ≤ n → end (onward s n) ≡ got tt (onward s n)
+unfolding end onward
+end-none s n h = rw (length-drop n s, eq-eqb (length s - n) 0 (omega arith))
+
+pub end-some : (s : List ℕ) (n : ℕ) → n < length s → end (onward s n) ≡ fault length-fault
+unfolding end onward
+end-some s n h = rw (length-drop n s, ne-eqb (length s - n) 0 (λ e. omega arith))
+
+-- a record's content that was read, of bytes p that end at `to`
+pub recorded-got : {A : Type 0} (size : Reader ℕ) (r : Reader A) (b s p : List ℕ) (to m : ℕ) (a : A) (q : Reached) → framed size b ≡ got p (onward s to) → m ≡ length p → reached p a q ≡ r (onward p 0) → reached s a (wholly q m to) ≡ recorded size r b
+unfolding recorded whole next
+recorded-got size r b s p to m a (Rd.At n) h e k = used (ltb n m) refl ∙ sym (bind-got _ _ b h ∙ rw (sym (k ∙ ap r (onward-all p))))
+  where
+    used : (t : Bool) → ltb n m ≡ t → reached s a (cond t (Rd.Fault Fl.Length) (Rd.At to)) ≡ next (end (onward p n)) (λ u v. got a (onward s to))
+    used true l = rw (end-some p n (omega (arith, ltb-true n m l)))
+    used false l = rw (end-none p n (omega (arith, ltb-false n m l)))
+recorded-got size r b s p to m a (Rd.Fault f) h e k = sym (bind-got _ _ b h ∙ rw (sym (k ∙ ap r (onward-all p))))
+
+pub recorded-fault : {A : Type 0} (size : Reader ℕ) (r : Reader A) (b : List ℕ) {f : Fault} → framed size b ≡ fault f → recorded size r b ≡ fault f
+unfolding recorded
+recorded-fault size r b h = bind-fault _ _ b h

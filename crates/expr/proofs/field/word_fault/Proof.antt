@@ -1,0 +1,27 @@
+use mathlib.Core.Path.{_≡_}
+use Prim.Native.Nat.{ℕ}
+use native.Mathlib.Omega.{arith}
+use borrow.Author.Needs.{needs}
+use Rattle.expr.proofs.field.word_fault.Statement.{statement}
+use Rattle.expr.proofs.field.word_fault.Tie as tie
+use Rattle.expr.proofs.field.word_fault.Reads as reads
+use Rattle.expr.proofs.field.word_fault.Lts as lts
+
+-- src/lib.rt:57:25
+enum-known-w : tie.Need-enum-known-w
+enum-known-w c = search needs
+
+-- src/lib.rt:58:34
+enum-told : tie.Need-enum-told
+enum-told c = search needs
+
+-- src/lib.rt:53:1
+returns : tie.Need-returns
+returns c = λ f e. cc (c .before .w .given .1)
+
+-- src/lib.rt:53:1
+returns-2 : tie.Need-returns-2
+returns-2 c = λ f e. absurd (let z : _≡_ {A = ℕ} 0 1 = cc (c .enum-told .given .1) in omega arith)
+
+pub word-fault-spec : {M : Type 1} → statement M
+word-fault-spec = tie.close (tie.spec enum-known-w enum-told returns returns-2)

@@ -1,0 +1,3 @@
+// Expressions and guards.
+pub mod clock;
+pub mod field;

@@ -1,0 +1,3 @@
+// The network machine.
+pub mod configuration;
+pub mod location;
