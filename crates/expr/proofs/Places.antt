@@ -8,17 +8,13 @@ use borrow.Author.Tests.{le-leb, lt-leb, eq-eqb, ne-eqb, ltb-true, ltb-false}
 use lib.Dec.{ltb}
 use lib.ListN.{length, getD, take, drop, length-take, length-drop}
 use lib.Seq.{getD-drop, drop-drop}
-use Rattle.expr.specs.Places.{onward, faultOf, byteOf, wordOf, frameOf, FrameFits, reached, wholly}
+use Rattle.expr.specs.Places.{onward, faultOf, FrameFits, reached, wholly}
 use Rattle.expr.specs.declared.field.Fault.the-variants as Fl
-use Rattle.expr.specs.declared.field.ByteRead.{ByteRead}
-use Rattle.expr.specs.declared.field.ByteRead.the-variants as Bt
-use Rattle.expr.specs.declared.field.WordRead.{WordRead}
-use Rattle.expr.specs.declared.field.WordRead.the-variants as Wd
 use Rattle.expr.specs.declared.field.Frame.{Frame}
 use Rattle.expr.specs.declared.field.Frame.the-variants as Fr
 use Rattle.expr.specs.declared.field.Reached.{Reached}
 use Rattle.expr.specs.declared.field.Reached.the-variants as Rd
-use Rattle.expr.specs.Reading.{Fault, length-fault, range-fault, Read, got, fault, Reader, yield, next, _>>=_, field, byte, byte4, such, end, framed, whole, recorded}
+use Rattle.expr.specs.Reading.{Fault, length-fault, range-fault, Read, got, fault, Reader, yield, next, _>>=_, field, byte, byte2, byte4, such, end, framed, whole, recorded}
 
 -- a field of n bytes at a place that has so many, and at one that has not
 pub field-some : (n : ℕ) (value : List ℕ → ℕ) (s : List ℕ) (at : ℕ) → n ≤ length s - at → field n value (onward s at) ≡ got (value (onward s at)) (onward s (at + n))
@@ -40,7 +36,7 @@ pub onward-all : (s : List ℕ) → onward s 0 ≡ s
 unfolding onward
 onward-all s = refl
 
--- the value of a byte, and of four, at a place
+-- the value of a byte, of two and of four, at a place
 pub byte-some : (s : List ℕ) (at : ℕ) → at < length s → byte (onward s at) ≡ got (getD s at 0) (onward s (at + 1))
 unfolding byte
 byte-some s at h = field-some 1 _ s at (omega arith) ∙ ap (λ x. got x (onward s (at + 1))) (getD-here s at)
@@ -48,6 +44,14 @@ byte-some s at h = field-some 1 _ s at (omega arith) ∙ ap (λ x. got x (onward
 pub byte-none : (s : List ℕ) (at : ℕ) → length s ≤ at → byte (onward s at) ≡ fault length-fault
 unfolding byte
 byte-none s at h = field-none 1 _ s at (omega arith)
+
+pub byte2-some : (s : List ℕ) (at : ℕ) {n : ℕ} → n ≡ length s - at → 2 ≤ n → byte2 (onward s at) ≡ got (256 * getD s at 0 + getD s (at + 1) 0) (onward s (at + 2))
+unfolding byte2
+byte2-some s at e h = field-some 2 _ s at (omega arith) ∙ rw (getD-here s at, getD-onward s at 1)
+
+pub byte2-none : (s : List ℕ) (at : ℕ) {n : ℕ} → n ≡ length s - at → n < 2 → byte2 (onward s at) ≡ fault length-fault
+unfolding byte2
+byte2-none s at e h = field-none 2 _ s at (omega arith)
 
 pub byte4-some : (s : List ℕ) (at : ℕ) {n : ℕ} → n ≡ length s - at → 4 ≤ n → byte4 (onward s at) ≡ got (256 * (256 * (256 * getD s at 0 + getD s (at + 1) 0) + getD s (at + 2) 0) + getD s (at + 3) 0) (onward s (at + 4))
 unfolding byte4
@@ -95,35 +99,14 @@ unfolding framed
 framed-fault size b h = bind-fault _ _ b h
 
 -- what an answer of the code that is known says of the definition
-pub byte-got : (s : List ℕ) {q : ByteRead} {d : Read ℕ} {x n : ℕ} → byteOf s q ≡ d → q ≡ Bt.Value x n → d ≡ got x (onward s n)
-byte-got s h e = sym h ∙ ap (byteOf s) e
-
-pub byte-stop : (s : List ℕ) {q : ByteRead} {d : Read ℕ} {f : _} → byteOf s q ≡ d → q ≡ Bt.Fault f → d ≡ fault (faultOf f)
-byte-stop s h e = sym h ∙ ap (byteOf s) e
-
-pub word-got : (s : List ℕ) {q : WordRead} {d : Read ℕ} {x n : ℕ} → wordOf s q ≡ d → q ≡ Wd.Value x n → d ≡ got x (onward s n)
-word-got s h e = sym h ∙ ap (wordOf s) e
-
-pub word-stop : (s : List ℕ) {q : WordRead} {d : Read ℕ} {f : _} → wordOf s q ≡ d → q ≡ Wd.Fault f → d ≡ fault (faultOf f)
-word-stop s h e = sym h ∙ ap (wordOf s) e
-
-pub frame-got : (s : List ℕ) {q : Frame} {d : Read (List ℕ)} {from to : ℕ} → frameOf s q ≡ d → q ≡ Fr.Part from to → d ≡ got (take (to - from) (drop from s)) (onward s to)
-frame-got s h e = sym h ∙ ap (frameOf s) e
-
-pub frame-stop : (s : List ℕ) {q : Frame} {d : Read (List ℕ)} {f : _} → frameOf s q ≡ d → q ≡ Fr.Fault f → d ≡ fault (faultOf f)
-frame-stop s h e = sym h ∙ ap (frameOf s) e
+pub answered : {Q D : Type 0} (meaning : Q → D) {q r : Q} {d : D} → meaning q ≡ d → q ≡ r → d ≡ meaning r
+answered meaning h e = sym h ∙ ap meaning e
 
 pub frame-fits : (s : List ℕ) {q : Frame} {from to : ℕ} → FrameFits s q → q ≡ Fr.Part from to → (from ≤ to) × (to ≤ length s)
 frame-fits s h e = subst (FrameFits s) e h
 
 pub part-length : (s : List ℕ) (from to : ℕ) → from ≤ to → to ≤ length s → to - from ≡ length (take (to - from) (drop from s))
 part-length s from to h k = simp (length-take, length-drop) (omega arith)
-
-pub reached-got : {A : Type 0} (s : List ℕ) (a : A) {q : Reached} {d : Read A} {n : ℕ} → reached s a q ≡ d → q ≡ Rd.At n → d ≡ got a (onward s n)
-reached-got s a h e = sym h ∙ ap (reached s a) e
-
-pub reached-stop : {A : Type 0} (s : List ℕ) (a : A) {q : Reached} {d : Read A} {f : _} → reached s a q ≡ d → q ≡ Rd.Fault f → d ≡ fault (faultOf f)
-reached-stop s a h e = sym h ∙ ap (reached s a) e
 
 -- the last field of a record, which is not looked at
 pub reached-bind : {A B : Type 0} (s : List ℕ) (r : Reader A) (f : A → B) (b : List ℕ) (a : A) (q : Reached) → reached s a q ≡ r b → reached s (f a) q ≡ (r >>= λ x. yield (f x)) b

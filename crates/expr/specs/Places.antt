@@ -1,8 +1,9 @@
 -- What the readers of the code answer: a place in s stands for the bytes from there on.
 use Prim.Native.Nat.{ℕ, _-_, _≤_}
-use mathlib.Core.Bool.{cond}
+use mathlib.Core.Bool.{Bool, cond}
 use mathlib.Core.List.{List}
 use lib.Dec.{ltb}
+use lib.IntN.{ℤ}
 use lib.ListN.{length, take, drop}
 use Rattle.expr.specs.Reading.{Read, got, fault, length-fault, range-fault}
 use Rattle.expr.specs.Reading as reading
@@ -10,6 +11,12 @@ use Rattle.expr.specs.declared.field.Fault.{Fault}
 use Rattle.expr.specs.declared.field.Fault.the-variants as Fl
 use Rattle.expr.specs.declared.field.ByteRead.{ByteRead}
 use Rattle.expr.specs.declared.field.ByteRead.the-variants as Bt
+use Rattle.expr.specs.declared.field.ShortRead.{ShortRead}
+use Rattle.expr.specs.declared.field.ShortRead.the-variants as Sh
+use Rattle.expr.specs.declared.field.ValueRead.{ValueRead}
+use Rattle.expr.specs.declared.field.ValueRead.the-variants as Vl
+use Rattle.expr.specs.declared.field.TestRead.{TestRead}
+use Rattle.expr.specs.declared.field.TestRead.the-variants as Te
 use Rattle.expr.specs.declared.field.WordRead.{WordRead}
 use Rattle.expr.specs.declared.field.WordRead.the-variants as Wd
 use Rattle.expr.specs.declared.field.Frame.{Frame}
@@ -33,6 +40,30 @@ abbrev pub byteEnd : ByteRead → ℕ
 byteEnd (Bt.Value x n) = n
 byteEnd (Bt.Fault f) = 0
 
+abbrev pub shortOf : List ℕ → ShortRead → Read ℕ
+shortOf s (Sh.Value x n) = got x (onward s n)
+shortOf s (Sh.Fault f) = fault (faultOf f)
+
+abbrev pub shortEnd : ShortRead → ℕ
+shortEnd (Sh.Value x n) = n
+shortEnd (Sh.Fault f) = 0
+
+abbrev pub valueOf : List ℕ → ValueRead → Read ℤ
+valueOf s (Vl.Value z n) = got z (onward s n)
+valueOf s (Vl.Fault f) = fault (faultOf f)
+
+abbrev pub valueEnd : ValueRead → ℕ
+valueEnd (Vl.Value z n) = n
+valueEnd (Vl.Fault f) = 0
+
+abbrev pub testOf : List ℕ → TestRead → Read Bool
+testOf s (Te.Value b n) = got b (onward s n)
+testOf s (Te.Fault f) = fault (faultOf f)
+
+abbrev pub testEnd : TestRead → ℕ
+testEnd (Te.Value b n) = n
+testEnd (Te.Fault f) = 0
+
 abbrev pub wordOf : List ℕ → WordRead → Read ℕ
 wordOf s (Wd.Value x n) = got x (onward s n)
 wordOf s (Wd.Fault f) = fault (faultOf f)
@@ -51,7 +82,40 @@ abbrev pub reached : {A : Type 0} → List ℕ → A → Reached → Read A
 reached s a (Rd.At n) = got a (onward s n)
 reached s a (Rd.Fault f) = fault (faultOf f)
 
+abbrev pub reachedEnd : Reached → ℕ
+reachedEnd (Rd.At n) = n
+reachedEnd (Rd.Fault f) = 0
+
 -- the place after a record of `size` bytes that ends at `to`, where its reader reached so much of them
 abbrev pub wholly : Reached → ℕ → ℕ → Reached
 wholly (Rd.At used) size to = cond (ltb used size) (Rd.Fault Fl.Length) (Rd.At to)
 wholly (Rd.Fault f) size to = Rd.Fault f
+
+-- the fault of an answer that has one
+abbrev pub byteFault : ByteRead → Fault
+byteFault (Bt.Value x n) = Fl.Length
+byteFault (Bt.Fault f) = f
+
+abbrev pub shortFault : ShortRead → Fault
+shortFault (Sh.Value x n) = Fl.Length
+shortFault (Sh.Fault f) = f
+
+abbrev pub wordFault : WordRead → Fault
+wordFault (Wd.Value x n) = Fl.Length
+wordFault (Wd.Fault f) = f
+
+abbrev pub valueFault : ValueRead → Fault
+valueFault (Vl.Value z n) = Fl.Length
+valueFault (Vl.Fault f) = f
+
+abbrev pub testFault : TestRead → Fault
+testFault (Te.Value b n) = Fl.Length
+testFault (Te.Fault f) = f
+
+abbrev pub frameFault : Frame → Fault
+frameFault (Fr.Part from to) = Fl.Length
+frameFault (Fr.Fault f) = f
+
+abbrev pub reachedFault : Reached → Fault
+reachedFault (Rd.At n) = Fl.Length
+reachedFault (Rd.Fault f) = f

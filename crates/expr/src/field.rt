@@ -1,11 +1,10 @@
-// Expressions and guards.
+// Fields of a record, read from left to right: one, two and four bytes, and the frame of a record.
 ghost use mathlib.Core.Path.{_≡_};
 ghost use Prim.Native.Nat.{_+_, _*_, _-_, _≤_};
 ghost use lib.ListN.{length};
 ghost use lib.Dec.{ltb};
-ghost use Rattle.expr.specs.Reading.{byte, byte4, such, framed};
-ghost use Rattle.expr.specs.Clocks.{isBound, row};
-ghost use Rattle.expr.specs.Places.{onward, byteOf, byteEnd, wordOf, frameOf, FrameFits, reached, wholly};
+ghost use Rattle.expr.specs.Reading.{byte, byte2, byte4, such, framed};
+ghost use Rattle.expr.specs.Places.{onward, byteOf, byteEnd, shortOf, shortEnd, wordOf, frameOf, FrameFits, wholly, byteFault, shortFault, wordFault, valueFault, testFault, frameFault, reachedFault};
 
 // What a file can have wrong: a length, or a field out of its range.
 pub enum Fault {
@@ -19,8 +18,25 @@ pub enum ByteRead {
     Fault(Fault),
 }
 
+pub enum ShortRead {
+    Value(u16, usize),
+    Fault(Fault),
+}
+
 pub enum WordRead {
     Value(u32, usize),
+    Fault(Fault),
+}
+
+// The value of an expression.
+pub enum ValueRead {
+    Value(i32, usize),
+    Fault(Fault),
+}
+
+// Whether a test holds.
+pub enum TestRead {
+    Value(bool, usize),
     Fault(Fault),
 }
 
@@ -37,7 +53,7 @@ pub enum Reached {
 }
 
 pub fn byte_fault(b: ByteRead) -> Fault
-    ensures { λ r. ⌜ ((f : _) → b ≡ ByteRead.Fault f → r ≡ f) ⌝ }
+    ensures { λ r. ⌜ r ≡ byteFault b ⌝ }
 {
     match b {
         ByteRead::Fault(f) => f,
@@ -45,8 +61,44 @@ pub fn byte_fault(b: ByteRead) -> Fault
     }
 }
 
+pub fn short_fault(h: ShortRead) -> Fault
+    ensures { λ r. ⌜ r ≡ shortFault h ⌝ }
+{
+    match h {
+        ShortRead::Fault(f) => f,
+        ShortRead::Value(_, _) => Fault::Length,
+    }
+}
+
+pub fn value_fault(v: ValueRead) -> Fault
+    ensures { λ r. ⌜ r ≡ valueFault v ⌝ }
+{
+    match v {
+        ValueRead::Fault(f) => f,
+        ValueRead::Value(_, _) => Fault::Length,
+    }
+}
+
+pub fn test_fault(t: TestRead) -> Fault
+    ensures { λ r. ⌜ r ≡ testFault t ⌝ }
+{
+    match t {
+        TestRead::Fault(f) => f,
+        TestRead::Value(_, _) => Fault::Length,
+    }
+}
+
+pub fn reached_fault(q: Reached) -> Fault
+    ensures { λ r. ⌜ r ≡ reachedFault q ⌝ }
+{
+    match q {
+        Reached::Fault(f) => f,
+        Reached::At(_) => Fault::Length,
+    }
+}
+
 pub fn word_fault(w: WordRead) -> Fault
-    ensures { λ r. ⌜ ((f : _) → w ≡ WordRead.Fault f → r ≡ f) ⌝ }
+    ensures { λ r. ⌜ r ≡ wordFault w ⌝ }
 {
     match w {
         WordRead::Fault(f) => f,
@@ -55,7 +107,7 @@ pub fn word_fault(w: WordRead) -> Fault
 }
 
 pub fn frame_fault(p: Frame) -> Fault
-    ensures { λ r. ⌜ ((f : _) → p ≡ Frame.Fault f → r ≡ f) ⌝ }
+    ensures { λ r. ⌜ r ≡ frameFault p ⌝ }
 {
     match p {
         Frame::Fault(f) => f,
@@ -95,6 +147,24 @@ pub fn read_byte_below(s: &[u8], at: usize, limit: u8) -> ByteRead
     }
 }
 
+// A big-endian number of two bytes.
+pub fn short_of(a: u8, b: u8) -> u16
+    ensures { λ r. ⌜ r ≡ 256 * a + b ⌝ }
+{
+    256 * (a as u16) + (b as u16)
+}
+
+pub fn read_short(s: &[u8], at: usize) -> ShortRead
+    ensures means { λ r. ⌜ shortOf (now (s .entry)) r ≡ byte2 (onward (now (s .entry)) at) ⌝ }
+    ensures within { λ r. ⌜ shortEnd r ≤ length (now (s .entry)) ⌝ }
+{
+    if left(s, at) < 2 {
+        ShortRead::Fault(Fault::Length)
+    } else {
+        ShortRead::Value(short_of(s[at], s[at + 1]), at + 2)
+    }
+}
+
 // A big-endian number of four bytes.
 pub fn word_of(a: u8, b: u8, c: u8, d: u8) -> u32
     ensures { λ r. ⌜ r ≡ 256 * (256 * (256 * a + b) + c) + d ⌝ }
@@ -120,6 +190,23 @@ pub fn read_frame(s: &[u8], at: usize) -> Frame
     let b = read_byte(s, at);
     let ByteRead::Value(n, from) = b else {
         return Frame::Fault(byte_fault(b));
+    };
+    let size = n as usize;
+    if s.len() - from < size {
+        Frame::Fault(Fault::Length)
+    } else {
+        Frame::Part(from, from + size)
+    }
+}
+
+// A record's length, in two bytes, and where its bytes stand.
+pub fn read_long_frame(s: &[u8], at: usize) -> Frame
+    ensures means { λ r. ⌜ frameOf (now (s .entry)) r ≡ framed byte2 (onward (now (s .entry)) at) ⌝ }
+    ensures within { λ r. ⌜ FrameFits (now (s .entry)) r ⌝ }
+{
+    let h = read_short(s, at);
+    let ShortRead::Value(n, from) = h else {
+        return Frame::Fault(short_fault(h));
     };
     let size = n as usize;
     if s.len() - from < size {

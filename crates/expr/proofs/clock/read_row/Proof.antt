@@ -1,4 +1,4 @@
-use Rattle.expr.proofs.Places.{word-got, word-stop}
+use Rattle.expr.proofs.Places.{answered}
 use mathlib.Core.List.{List, []}
 use Prim.Native.Nat.{ℕ}
 use mathlib.Core.Path.{_≡_, refl, sym, ap, _∙_}
@@ -8,7 +8,7 @@ use Prim.Native.Nat.{_-_}
 use Rattle.expr.specs.Lists.{padded}
 use Rattle.expr.specs.Reading.{got, fault, such, byte4}
 use Rattle.expr.specs.Clocks.{isBound, no-bound}
-use Rattle.expr.specs.Places.{onward, wordOf, faultOf, reached}
+use Rattle.expr.specs.Places.{onward, wordOf, faultOf, reached, wordFault}
 use Rattle.expr.proofs.Many.{Going, going-none, going-more, going-stop, going-all, padded-more}
 use Rattle.expr.proofs.Rows.{row-got, row-fault}
 use Rattle.expr.proofs.clock.read_row.Statement.{statement}
@@ -52,8 +52,8 @@ no-row-requires c κs = search needs
 
 -- src/lib.rt:160:13
 returns : tie.Need-returns Inv-loop μ-loop
-returns c = rw (c .no-row .ensures, c .before .word-fault .ensures _ (c .before .before .enum-told .given .1))
-    (sym (row-fault _ _ (going-stop _ _ _ (c .before .before .before .before .before .before .loop .inv .1) (c .before .before .before .before .before .loop-test .taken) (word-stop _ (c .before .before .before .before .read-bound .ensures) (c .before .before .enum-told .given .1)))))
+returns c = rw (c .no-row .ensures, (c .before .word-fault .ensures ∙ ap wordFault (c .before .before .enum-told .given .1)))
+    (sym (row-fault _ _ (going-stop _ _ _ (c .before .before .before .before .before .before .loop .inv .1) (c .before .before .before .before .before .loop-test .taken) (answered (wordOf _) (c .before .before .before .before .read-bound .ensures) (c .before .before .enum-told .given .1)))))
 
 -- src/lib.rt:162:9
 mul-row : tie.Need-mul-row Inv-loop μ-loop
@@ -74,7 +74,7 @@ loop-less c = omega arith
 -- src/lib.rt:157:5
 loop-again : tie.Need-loop-again Inv-loop μ-loop
 loop-again c = let g = c .before .before .before .before .before .loop .inv in
-    (_, going-more _ _ _ (g .1) (c .before .before .before .before .loop-test .taken) (word-got _ (c .before .before .before .read-bound .ensures) (c .before .w .given .1)), rw (g .2) (padded-more 8 no-bound (g .0) _ (g .1 .count) (omega arith)))
+    (_, going-more _ _ _ (g .1) (c .before .before .before .before .loop-test .taken) (answered (wordOf _) (c .before .before .before .read-bound .ensures) (c .before .w .given .1)), rw (g .2) (padded-more 8 no-bound (g .0) _ (g .1 .count) (omega arith)))
 
 -- src/lib.rt:150:1
 returns-2 : tie.Need-returns-2 Inv-loop μ-loop

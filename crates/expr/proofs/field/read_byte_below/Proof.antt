@@ -1,7 +1,7 @@
 use mathlib.Core.Path.{sym, ap, _∙_}
 use borrow.Author.Tests.{lt-ltb, le-ltb}
 use Rattle.expr.specs.Places.{byteOf}
-use Rattle.expr.proofs.Places.{such-got, such-not, such-fault, byte-got, byte-stop}
+use Rattle.expr.proofs.Places.{such-got, such-not, such-fault, answered}
 use borrow.Author.Needs.{needs}
 use Rattle.expr.proofs.field.read_byte_below.Statement.{statement}
 use Rattle.expr.proofs.field.read_byte_below.Tie as tie
@@ -23,15 +23,15 @@ enum-told c = search needs
 
 -- src/lib.rt:94:9
 returns : tie.Need-returns
-returns c = ap (byteOf _) (c .enum-told .given .1) ∙ sym (such-fault _ _ _ (byte-stop _ (c .before .before .read-byte .ensures .0) (c .enum-told .given .1)))
+returns c = ap (byteOf _) (c .enum-told .given .1) ∙ sym (such-fault _ _ _ (answered (byteOf _) (c .before .before .read-byte .ensures .0) (c .enum-told .given .1)))
 
 -- src/lib.rt:89:1
 returns-2 : tie.Need-returns-2
-returns-2 c = sym (such-got _ _ _ (byte-got _ (c .before .before .before .before .read-byte .ensures .0) (c .before .before .b .given .1)) (lt-ltb _ _ (c .if1 .taken)))
+returns-2 c = sym (such-got _ _ _ (answered (byteOf _) (c .before .before .before .before .read-byte .ensures .0) (c .before .before .b .given .1)) (lt-ltb _ _ (c .if1 .taken)))
 
 -- src/lib.rt:89:1
 returns-3 : tie.Need-returns-3
-returns-3 c = sym (such-not _ _ _ (byte-got _ (c .before .before .before .before .read-byte .ensures .0) (c .before .before .b .given .1)) (le-ltb _ _ (c .if1 .left)))
+returns-3 c = sym (such-not _ _ _ (answered (byteOf _) (c .before .before .before .before .read-byte .ensures .0) (c .before .before .b .given .1)) (le-ltb _ _ (c .if1 .left)))
 
 pub read-byte-below-spec : {M : Type 1} → statement M
 read-byte-below-spec =

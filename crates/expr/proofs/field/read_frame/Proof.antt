@@ -3,8 +3,8 @@ use native.Mathlib.Omega.{arith}
 use Prim.Native.Nat.{_≤_}
 use lib.ListN.{length}
 use Rattle.expr.specs.Reading.{got, fault, byte, framed}
-use Rattle.expr.specs.Places.{onward, byteOf, byteEnd, faultOf}
-use Rattle.expr.proofs.Places.{framed-fault, framed-got, framed-long, byte-got, byte-stop}
+use Rattle.expr.specs.Places.{onward, byteOf, byteEnd, faultOf, byteFault}
+use Rattle.expr.proofs.Places.{framed-fault, framed-got, framed-long, answered}
 use borrow.Author.Needs.{needs}
 use Rattle.expr.proofs.field.read_frame.Statement.{statement}
 use Rattle.expr.proofs.field.read_frame.Tie as tie
@@ -14,7 +14,7 @@ use Rattle.expr.proofs.field.byte_fault.Reads as byte-fault-reads
 use Rattle.expr.proofs.field.read_byte.Reads as read-byte-reads
 
 got-n : (c : tie.After-known-told) → byte (onward (c .before .before .before .before .before .args .s .now) (c .before .before .before .before .before .args .at)) ≡ got (c .before .b .given .0 .0) (onward (c .before .before .before .before .before .args .s .now) (c .before .b .given .0 .1 .0))
-got-n c = byte-got _ (c .before .before .before .read-byte .ensures .0) (c .before .b .given .1)
+got-n c = answered (byteOf _) (c .before .before .before .read-byte .ensures .0) (c .before .b .given .1)
 
 from-fits : (c : tie.After-known-told) → c .before .b .given .0 .1 .0 ≤ length (c .before .before .before .before .before .args .s .now)
 from-fits c = omega (arith, ap byteEnd (c .before .b .given .1), c .before .before .before .read-byte .ensures .1)
@@ -37,7 +37,7 @@ byte-fault-requires c κs = search needs
 
 -- src/lib.rt:179:9
 returns : tie.Need-returns
-returns c = (ap (λ f. fault (faultOf f)) (c .byte-fault .ensures _ (c .before .enum-told .given .1)) ∙ sym (framed-fault _ _ (byte-stop _ (c .before .before .before .read-byte .ensures .0) (c .before .enum-told .given .1))), tt)
+returns c = (ap (λ f. fault (faultOf f)) ((c .byte-fault .ensures ∙ ap byteFault (c .before .enum-told .given .1))) ∙ sym (framed-fault _ _ (answered (byteOf _) (c .before .before .before .read-byte .ensures .0) (c .before .enum-told .given .1))), tt)
 
 -- src/lib.rt:181:16
 cast-size : tie.Need-cast-size

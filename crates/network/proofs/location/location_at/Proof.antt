@@ -1,9 +1,10 @@
+use Rattle.expr.specs.Places.{frameFault, frameOf}
 use Rattle.network.specs.Answers.{locationOf}
-use mathlib.Core.Path.{_≡_, sym, _∙_}
+use mathlib.Core.Path.{_≡_, sym, _∙_, ap}
 use native.Mathlib.Omega.{arith}
 use Prim.Native.Nat.{_≤_}
 use lib.ListN.{length}
-use Rattle.expr.proofs.Places.{recorded-got, recorded-fault, frame-got, frame-stop, frame-fits, part-length}
+use Rattle.expr.proofs.Places.{recorded-got, recorded-fault, frame-fits, part-length, answered}
 use borrow.Author.Needs.{needs}
 use Rattle.network.proofs.location.location_at.Statement.{statement}
 use Rattle.network.proofs.location.location_at.Tie as tie
@@ -40,8 +41,8 @@ no-location-requires c κs = search needs
 
 -- src/lib.rt:93:9
 returns : tie.Need-returns
-returns c = rw (c .no-location .ensures, c .before .frame-fault .ensures _ (c .before .before .enum-told .given .1))
-    (sym (recorded-fault _ _ _ (frame-stop _ (c .before .before .before .before .read-frame .ensures .0) (c .before .before .enum-told .given .1))))
+returns c = rw (c .no-location .ensures, (c .before .frame-fault .ensures ∙ ap frameFault (c .before .before .enum-told .given .1)))
+    (sym (recorded-fault _ _ _ (answered (frameOf _) (c .before .before .before .before .read-frame .ensures .0) (c .before .before .enum-told .given .1))))
 
 -- src/lib.rt:95:27
 sub-read-location : tie.Need-sub-read-location
@@ -72,7 +73,7 @@ returns-2 : tie.Need-returns-2
 returns-2 c = let l = c .before .before .read-location in
     let k = fits (c .before .before .before .before) in
     rw (c .before .whole .ensures)
-    (recorded-got _ _ _ _ _ _ _ (locationOf (l .result .location)) (l .result .reached) (frame-got _ (c .before .before .before .before .before .before .before .read-frame .ensures .0) (c .before .before .before .before .before .p .given .1)) (part-length _ _ _ (k .0) (k .1)) (l .ensures))
+    (recorded-got _ _ _ _ _ _ _ (locationOf (l .result .location)) (l .result .reached) (answered (frameOf _) (c .before .before .before .before .before .before .before .read-frame .ensures .0) (c .before .before .before .before .before .p .given .1)) (part-length _ _ _ (k .0) (k .1)) (l .ensures))
 
 pub location-at-spec : {M : Type 1} → statement M
 location-at-spec =

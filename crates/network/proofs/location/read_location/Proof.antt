@@ -1,6 +1,7 @@
-use mathlib.Core.Path.{_≡_, sym, _∙_}
+use Rattle.expr.specs.Places.{byteFault, byteOf}
+use mathlib.Core.Path.{_≡_, sym, _∙_, ap}
 use Rattle.network.specs.Network.{location}
-use Rattle.expr.proofs.Places.{bind-got, bind-fault, byte-got, byte-stop, reached-bind}
+use Rattle.expr.proofs.Places.{bind-got, bind-fault, reached-bind, answered}
 use borrow.Author.Needs.{needs}
 use Rattle.network.proofs.location.read_location.Statement.{statement}
 use Rattle.network.proofs.location.read_location.Tie as tie
@@ -34,8 +35,8 @@ no-location-requires c κs = search needs
 -- src/lib.rt:62:9
 returns : tie.Need-returns
 unfolding location
-returns c = rw (c .no-location .ensures, c .before .byte-fault .ensures _ (c .before .before .enum-told .given .1))
-    (sym (bind-fault _ _ _ (byte-stop _ (c .before .before .before .before .read-byte-below .ensures) (c .before .before .enum-told .given .1))))
+returns c = rw (c .no-location .ensures, (c .before .byte-fault .ensures ∙ ap byteFault (c .before .before .enum-told .given .1)))
+    (sym (bind-fault _ _ _ (answered (byteOf _) (c .before .before .before .before .read-byte-below .ensures) (c .before .before .enum-told .given .1))))
 
 -- src/lib.rt:64:9
 read-byte-below-requires-2 : tie.Need-read-byte-below-requires-2
@@ -60,9 +61,9 @@ no-location-requires-2 c κs = search needs
 -- src/lib.rt:66:9
 returns-2 : tie.Need-returns-2
 unfolding location
-returns-2 c = rw (c .no-location2 .ensures, c .before .byte-fault2 .ensures _ (c .before .before .enum-told2 .given .1))
-    (sym (bind-got _ _ _ (byte-got _ (c .before .before .before .before .before .before .before .before .read-byte-below .ensures) (c .before .before .before .before .before .before .a .given .1))
-    ∙ bind-fault _ _ _ (byte-stop _ (c .before .before .before .before .read-byte-below2 .ensures) (c .before .before .enum-told2 .given .1))))
+returns-2 c = rw (c .no-location2 .ensures, (c .before .byte-fault2 .ensures ∙ ap byteFault (c .before .before .enum-told2 .given .1)))
+    (sym (bind-got _ _ _ (answered (byteOf _) (c .before .before .before .before .before .before .before .before .read-byte-below .ensures) (c .before .before .before .before .before .before .a .given .1))
+    ∙ bind-fault _ _ _ (answered (byteOf _) (c .before .before .before .before .read-byte-below2 .ensures) (c .before .before .enum-told2 .given .1))))
 
 -- src/lib.rt:68:9
 read-byte-below-requires-3 : tie.Need-read-byte-below-requires-3
@@ -87,10 +88,10 @@ no-location-requires-3 c κs = search needs
 -- src/lib.rt:70:9
 returns-3 : tie.Need-returns-3
 unfolding location
-returns-3 c = rw (c .no-location3 .ensures, c .before .byte-fault3 .ensures _ (c .before .before .enum-told3 .given .1))
-    (sym (bind-got _ _ _ (byte-got _ (c .before .before .before .before .before .before .before .before .before .before .before .before .read-byte-below .ensures) (c .before .before .before .before .before .before .before .before .before .before .a .given .1))
-    ∙ bind-got _ _ _ (byte-got _ (c .before .before .before .before .before .before .before .before .read-byte-below2 .ensures) (c .before .before .before .before .before .before .u .given .1))
-    ∙ bind-fault _ _ _ (byte-stop _ (c .before .before .before .before .read-byte-below3 .ensures) (c .before .before .enum-told3 .given .1))))
+returns-3 c = rw (c .no-location3 .ensures, (c .before .byte-fault3 .ensures ∙ ap byteFault (c .before .before .enum-told3 .given .1)))
+    (sym (bind-got _ _ _ (answered (byteOf _) (c .before .before .before .before .before .before .before .before .before .before .before .before .read-byte-below .ensures) (c .before .before .before .before .before .before .before .before .before .before .a .given .1))
+    ∙ bind-got _ _ _ (answered (byteOf _) (c .before .before .before .before .before .before .before .before .read-byte-below2 .ensures) (c .before .before .before .before .before .before .u .given .1))
+    ∙ bind-fault _ _ _ (answered (byteOf _) (c .before .before .before .before .read-byte-below3 .ensures) (c .before .before .enum-told3 .given .1))))
 
 -- src/lib.rt:72:9
 read-row-requires : tie.Need-read-row-requires
@@ -100,9 +101,9 @@ read-row-requires c κs = search needs
 returns-4 : tie.Need-returns-4
 unfolding location
 returns-4 c = reached-bind _ _ (λ r. record { automaton = _; urgent = _; initial = _; bounds = r }) _ (c .before .read-row .result .row) (c .before .read-row .result .reached) (c .before .read-row .ensures)
-    ∙ sym (bind-got _ _ _ (byte-got _ (c .before .before .before .before .before .before .before .before .before .before .before .before .before .read-byte-below .ensures) (c .before .before .before .before .before .before .before .before .before .before .before .a .given .1))
-    ∙ bind-got _ _ _ (byte-got _ (c .before .before .before .before .before .before .before .before .before .read-byte-below2 .ensures) (c .before .before .before .before .before .before .before .u .given .1))
-    ∙ bind-got _ _ _ (byte-got _ (c .before .before .before .before .before .read-byte-below3 .ensures) (c .before .before .before .i .given .1)))
+    ∙ sym (bind-got _ _ _ (answered (byteOf _) (c .before .before .before .before .before .before .before .before .before .before .before .before .before .read-byte-below .ensures) (c .before .before .before .before .before .before .before .before .before .before .before .a .given .1))
+    ∙ bind-got _ _ _ (answered (byteOf _) (c .before .before .before .before .before .before .before .before .before .read-byte-below2 .ensures) (c .before .before .before .before .before .before .before .u .given .1))
+    ∙ bind-got _ _ _ (answered (byteOf _) (c .before .before .before .before .before .read-byte-below3 .ensures) (c .before .before .before .i .given .1)))
 
 pub read-location-spec : {M : Type 1} → statement M
 read-location-spec =

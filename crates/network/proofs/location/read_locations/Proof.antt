@@ -4,8 +4,8 @@ use borrow.Author.Needs.{needs}
 use Prim.Native.Nat.{_-_}
 use lib.ListN.{length, length-set}
 use Rattle.expr.specs.Reading.{byte, recorded}
-use Rattle.expr.specs.Places.{onward}
-use Rattle.expr.proofs.Places.{reached-got, reached-stop}
+use Rattle.expr.specs.Places.{onward, reached}
+use Rattle.expr.proofs.Places.{answered}
 use Rattle.expr.proofs.Many.{Going, going-none, going-stop, going-set, going-table}
 use Rattle.network.specs.Network.{location}
 use Rattle.network.specs.Answers.{locationOf, locationsOf}
@@ -46,7 +46,7 @@ enum-told c = search needs
 returns : tie.Need-returns Inv-loop μ-loop
 returns c = let l = c .before .before .location-at in
     rw (c .enum-told .given .1)
-    (sym (going-stop _ _ _ (c .before .before .before .before .loop .inv .1) (c .before .before .before .loop-test .taken) (reached-stop _ (locationOf (l .result .location)) (l .ensures) (c .enum-told .given .1))))
+    (sym (going-stop _ _ _ (c .before .before .before .before .loop .inv .1) (c .before .before .before .loop-test .taken) (answered (reached _ (locationOf (l .result .location))) (l .ensures) (c .enum-told .given .1))))
 
 -- src/lib.rt:117:9
 mul-table : tie.Need-mul-table Inv-loop μ-loop
@@ -68,7 +68,7 @@ loop-less c = omega arith
 loop-again : tie.Need-loop-again Inv-loop μ-loop
 loop-again c = let g = c .before .before .before .before .before .before .loop .inv in
     let l = c .before .before .before .before .location-at in
-    (simp length-set (g .0), going-set locationOf _ _ _ (c .before .before .before .before .before .before .loop .table) (g .1) (l .result .location) (omega arith) (c .before .before .before .before .before .loop-test .taken) (reached-got _ (locationOf (l .result .location)) (l .ensures) (c .before .before .q .given .1)))
+    (simp length-set (g .0), going-set locationOf _ _ _ (c .before .before .before .before .before .before .loop .table) (g .1) (l .result .location) (omega arith) (c .before .before .before .before .before .loop-test .taken) (answered (reached _ (locationOf (l .result .location))) (l .ensures) (c .before .before .q .given .1)))
 
 -- src/lib.rt:103:1
 returns-2 : tie.Need-returns-2 Inv-loop μ-loop
