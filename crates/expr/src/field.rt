@@ -1,8 +1,9 @@
 // Fields of a record, read from left to right: one, two and four bytes, and the frame of a record.
 ghost use mathlib.Core.Path.{_≡_};
-ghost use Prim.Native.Nat.{_+_, _*_, _-_, _≤_};
+ghost use Prim.Native.Nat.{_+_, _*_, _-_, _≤_, _^_};
 ghost use lib.ListN.{length};
-ghost use lib.Dec.{ltb};
+ghost use mathlib.Core.Bool.{_||_};
+ghost use lib.Dec.{ltb, eqb};
 ghost use Rattle.expr.specs.Reading.{byte, byte2, byte4, such, framed};
 ghost use Rattle.expr.specs.Places.{onward, byteOf, byteEnd, shortOf, shortEnd, wordOf, frameOf, FrameFits, wholly, byteFault, shortFault, wordFault, valueFault, testFault, frameFault, reachedFault};
 
@@ -147,6 +148,53 @@ pub fn read_byte_below(s: &[u8], at: usize, limit: u8) -> ByteRead
     }
 }
 
+// A number below a limit, or 255 for none.
+fn known_or_none(x: u8, limit: u8) -> bool
+    ensures { λ r. ⌜ r ≡ (ltb x limit || eqb x 255) ⌝ }
+{
+    x < limit || x == 255
+}
+
+pub fn read_byte_or_none(s: &[u8], at: usize, limit: u8) -> ByteRead
+    ensures { λ r. ⌜ byteOf (now (s .entry)) r ≡ such byte (λ x. ltb x limit || eqb x 255) (onward (now (s .entry)) at) ⌝ }
+{
+    let b = read_byte(s, at);
+    let ByteRead::Value(x, _) = b else {
+        return b;
+    };
+    if known_or_none(x, limit) {
+        b
+    } else {
+        ByteRead::Fault(Fault::Range)
+    }
+}
+
+// A number of so many bits.
+pub fn in_width(x: u32, width: u8) -> bool
+    ensures { λ r. ⌜ r ≡ ltb x (2 ^ width) ⌝ }
+{
+    if width < 32 {
+        x >> width == 0
+    } else {
+        true
+    }
+}
+
+// A set of marks in a byte, of which only the first `width` are in use.
+pub fn read_marks(s: &[u8], at: usize, width: u8) -> ByteRead
+    ensures { λ r. ⌜ byteOf (now (s .entry)) r ≡ such byte (λ x. ltb x (2 ^ width)) (onward (now (s .entry)) at) ⌝ }
+{
+    let b = read_byte(s, at);
+    let ByteRead::Value(x, _) = b else {
+        return b;
+    };
+    if in_width(x as u32, width) {
+        b
+    } else {
+        ByteRead::Fault(Fault::Range)
+    }
+}
+
 // A big-endian number of two bytes.
 pub fn short_of(a: u8, b: u8) -> u16
     ensures { λ r. ⌜ r ≡ 256 * a + b ⌝ }
@@ -162,6 +210,21 @@ pub fn read_short(s: &[u8], at: usize) -> ShortRead
         ShortRead::Fault(Fault::Length)
     } else {
         ShortRead::Value(short_of(s[at], s[at + 1]), at + 2)
+    }
+}
+
+// A set of marks in two bytes, of which only the first `width` are in use.
+pub fn read_long_marks(s: &[u8], at: usize, width: u8) -> ShortRead
+    ensures { λ r. ⌜ shortOf (now (s .entry)) r ≡ such byte2 (λ x. ltb x (2 ^ width)) (onward (now (s .entry)) at) ⌝ }
+{
+    let h = read_short(s, at);
+    let ShortRead::Value(x, _) = h else {
+        return h;
+    };
+    if in_width(x as u32, width) {
+        h
+    } else {
+        ShortRead::Fault(Fault::Range)
     }
 }
 
