@@ -7,7 +7,7 @@ use native.Mathlib.Omega.{arith}
 use borrow.Author.Tests.{le-leb, lt-leb, eq-eqb, ne-eqb, ltb-true, ltb-false}
 use lib.Dec.{ltb}
 use lib.ListN.{length, getD, take, drop, length-take, length-drop}
-use lib.Seq.{getD-drop, drop-drop}
+use lib.Seq.{getD-drop, drop-drop, take-all}
 use Rattle.expr.specs.Places.{onward, faultOf, FrameFits, reached, wholly}
 use Rattle.expr.specs.declared.field.Fault.the-variants as Fl
 use Rattle.expr.specs.declared.field.Frame.{Frame}
@@ -35,6 +35,22 @@ getD-here s at = getD-onward s at 0 ∙ ap (λ (i : ℕ). getD s i 0) (omega ari
 pub onward-all : (s : List ℕ) → onward s 0 ≡ s
 unfolding onward
 onward-all s = refl
+
+pub onward-onward : (s : List ℕ) (a n : ℕ) → onward (onward s a) n ≡ onward s (a + n)
+unfolding onward
+onward-onward s a n = drop-drop n a s
+
+-- the part of a slice from a place on, as a callee has it: what it reads there, as the caller has it
+pub part-onward : (s : List ℕ) (a : ℕ) → take (length s - a) (drop a s) ≡ onward s a
+unfolding onward
+part-onward s a = take-all (length s - a) (drop a s) (omega (arith, length-drop a s))
+
+module _ {A : Type 0} (r : Reader A) (s : List ℕ) (a : ℕ) where
+  pub part-got : {x : A} (n : ℕ) → r (take (length s - a) (drop a s)) ≡ got x (onward (take (length s - a) (drop a s)) n) → r (onward s a) ≡ got x (onward s (a + n))
+  part-got n h = simp (part-onward s a, onward-onward s a n) at h
+
+  pub part-fault : {f : Fault} → r (take (length s - a) (drop a s)) ≡ fault f → r (onward s a) ≡ fault f
+  part-fault h = simp (part-onward s a) at h
 
 -- the value of a byte, of two and of four, at a place
 pub byte-some : (s : List ℕ) (at : ℕ) → at < length s → byte (onward s at) ≡ got (getD s at 0) (onward s (at + 1))
