@@ -10,6 +10,7 @@ use lib.Dec.{leb, eqb}
 use lib.ListN.{length, getD, drop, length-drop, length-append, List·getD-append}
 use lib.Seq.{drop-append-le, drop-drop}
 use Rattle.expr.specs.Reading.{Fault, Read, got, fault, Reader, yield, next, _>>=_, field, byte, byte2, byte4, such, many}
+use Rattle.expr.specs.Expression.{Expr, Code, constant-code, variable-code, sum-code, difference-code, product-code, quotient-code, remainder-code, divisor, two, by, after, expression}
 use Rattle.expr.specs.Places.{onward}
 use Rattle.expr.proofs.Places.{bind-got, such-got}
 use Rattle.expr.proofs.Reading.{no-answer, bind-at, such-at, yield-at, yield-rest}
@@ -94,3 +95,52 @@ pub many-looks : {A : Type 0} (n : ℕ) (r : Reader A) → Looks r → Looks (ma
 unfolding many
 many-looks zero r f = yield-looks []
 many-looks (suc n) r f = bind-looks r _ f (λ x. bind-looks (many n r) _ (many-looks n r f) (λ xs. yield-looks (x ∷ xs)))
+
+-- the formats: expressions, guards, assignments
+
+-- a reader that always ends in a fault
+never-leaves : {A : Type 0} {f : Fault} → Leaves {A = A} (λ s. fault f)
+never-leaves s a t h = no-answer h
+
+never-looks : {A : Type 0} {f : Fault} → Looks {A = A} (λ s. fault f)
+never-looks s u a t h = no-answer h
+
+byte-leaves : Leaves byte
+unfolding byte
+byte-leaves = field-leaves 1 _
+
+byte4-leaves : Leaves byte4
+unfolding byte4
+byte4-leaves = field-leaves 4 _
+
+module _ (v : ℕ) (r : Reader Expr) where
+  after-leaves : Leaves r → (c : Code) → Leaves (after v r c)
+  unfolding after two by divisor
+  after-leaves f constant-code = bind-leaves byte4 _ byte4-leaves (λ x. yield-leaves _)
+  after-leaves f variable-code = bind-leaves _ _ (such-leaves byte _ byte-leaves) (λ i. yield-leaves _)
+  after-leaves f sum-code = bind-leaves r _ f (λ a. bind-leaves r _ f (λ b. yield-leaves _))
+  after-leaves f difference-code = bind-leaves r _ f (λ a. bind-leaves r _ f (λ b. yield-leaves _))
+  after-leaves f product-code = bind-leaves r _ f (λ a. bind-leaves r _ f (λ b. yield-leaves _))
+  after-leaves f quotient-code = bind-leaves r _ f (λ a. bind-leaves _ _ (such-leaves byte4 _ byte4-leaves) (λ d. yield-leaves _))
+  after-leaves f remainder-code = bind-leaves r _ f (λ a. bind-leaves _ _ (such-leaves byte4 _ byte4-leaves) (λ d. yield-leaves _))
+
+  after-looks : Looks r → (c : Code) → Looks (after v r c)
+  unfolding after two by divisor
+  after-looks f constant-code = bind-looks byte4 _ byte4-looks (λ x. yield-looks _)
+  after-looks f variable-code = bind-looks _ _ (such-looks byte _ byte-looks) (λ i. yield-looks _)
+  after-looks f sum-code = bind-looks r _ f (λ a. bind-looks r _ f (λ b. yield-looks _))
+  after-looks f difference-code = bind-looks r _ f (λ a. bind-looks r _ f (λ b. yield-looks _))
+  after-looks f product-code = bind-looks r _ f (λ a. bind-looks r _ f (λ b. yield-looks _))
+  after-looks f quotient-code = bind-looks r _ f (λ a. bind-looks _ _ (such-looks byte4 _ byte4-looks) (λ d. yield-looks _))
+  after-looks f remainder-code = bind-looks r _ f (λ a. bind-looks _ _ (such-looks byte4 _ byte4-looks) (λ d. yield-looks _))
+
+pub expression-leaves : (v k : ℕ) → Leaves (expression v k)
+unfolding expression
+expression-leaves v zero = bind-leaves byte _ byte-leaves (λ c. never-leaves)
+expression-leaves v (suc k) = bind-leaves _ _ (such-leaves byte _ byte-leaves) (λ c. after-leaves v _ (expression-leaves v k) _)
+
+-- the value of an expression is that of its own bytes
+pub expression-looks : (v k : ℕ) → Looks (expression v k)
+unfolding expression
+expression-looks v zero = bind-looks byte _ byte-looks (λ c. never-looks)
+expression-looks v (suc k) = bind-looks _ _ (such-looks byte _ byte-looks) (λ c. after-looks v _ (expression-looks v k) _)
