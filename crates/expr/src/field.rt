@@ -4,7 +4,7 @@ ghost use Prim.Native.Nat.{_+_, _*_, _-_, _≤_};
 ghost use lib.ListN.{length};
 ghost use lib.Dec.{ltb};
 ghost use Rattle.expr.specs.Reading.{byte, byte2, byte4, such, framed};
-ghost use Rattle.expr.specs.Places.{onward, byteOf, byteEnd, shortOf, shortEnd, wordOf, frameOf, FrameFits, wholly, byteFault, shortFault, wordFault, valueFault, testFault, frameFault, reachedFault};
+ghost use Rattle.expr.specs.Places.{onward, byteOf, byteEnd, shortOf, shortEnd, wordOf, wordEnd, frameOf, FrameFits, wholly, byteFault, shortFault, wordFault, valueFault, testFault, frameFault, reachedFault};
 
 // What a file can have wrong: a length, or a field out of its range.
 pub enum Fault {
@@ -173,7 +173,8 @@ pub fn word_of(a: u8, b: u8, c: u8, d: u8) -> u32
 }
 
 pub fn read_word(s: &[u8], at: usize) -> WordRead
-    ensures { λ r. ⌜ wordOf (now (s .entry)) r ≡ byte4 (onward (now (s .entry)) at) ⌝ }
+    ensures means { λ r. ⌜ wordOf (now (s .entry)) r ≡ byte4 (onward (now (s .entry)) at) ⌝ }
+    ensures within { λ r. ⌜ wordEnd r ≤ length (now (s .entry)) ⌝ }
 {
     if left(s, at) < 4 {
         WordRead::Fault(Fault::Length)

@@ -1,3 +1,4 @@
 // Expressions and guards.
 pub mod clock;
+pub mod expression;
 pub mod field;
