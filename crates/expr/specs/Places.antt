@@ -68,6 +68,10 @@ abbrev pub wordOf : List ℕ → WordRead → Read ℕ
 wordOf s (Wd.Value x n) = got x (onward s n)
 wordOf s (Wd.Fault f) = fault (faultOf f)
 
+abbrev pub wordEnd : WordRead → ℕ
+wordEnd (Wd.Value x n) = n
+wordEnd (Wd.Fault f) = 0
+
 -- the bytes of a record, and what follows them
 abbrev pub frameOf : List ℕ → Frame → Read (List ℕ)
 frameOf s (Fr.Part from to) = got (take (to - from) (drop from s)) (onward s to)

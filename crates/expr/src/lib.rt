@@ -1,3 +1,4 @@
 // Expressions and guards.
 pub mod clock;
 pub mod field;
+pub mod signed;
