@@ -3,8 +3,10 @@ ghost use mathlib.Core.Path.{_≡_};
 ghost use Prim.Native.Nat.{_+_, _*_, _-_, _≤_};
 ghost use lib.ListN.{length};
 ghost use lib.Dec.{ltb};
-ghost use Rattle.expr.specs.Reading.{byte, byte2, byte4, such, framed};
-ghost use Rattle.expr.specs.Places.{onward, byteOf, byteEnd, shortOf, shortEnd, wordOf, wordEnd, frameOf, FrameFits, wholly, byteFault, shortFault, wordFault, valueFault, testFault, frameFault, reachedFault};
+ghost use Rattle.expr.specs.Reading.{byte, byte2, byte4, such, framed, mapped};
+ghost use Rattle.expr.specs.Integer.{signed};
+ghost use Rattle.expr.specs.Places.{onward, byteOf, byteEnd, shortOf, shortEnd, wordOf, wordEnd, valueOf, valueEnd, frameOf, FrameFits, wholly, byteFault, shortFault, wordFault, valueFault, testFault, frameFault, reachedFault};
+use crate::signed::signed;
 
 // What a file can have wrong: a length, or a field out of its range.
 pub enum Fault {
@@ -181,6 +183,18 @@ pub fn read_word(s: &[u8], at: usize) -> WordRead
     } else {
         WordRead::Value(word_of(s[at], s[at + 1], s[at + 2], s[at + 3]), at + 4)
     }
+}
+
+// The signed number whose bits are the four bytes.
+pub fn read_signed(s: &[u8], at: usize) -> ValueRead
+    ensures means { λ r. ⌜ valueOf (now (s .entry)) r ≡ mapped signed (byte4 (onward (now (s .entry)) at)) ⌝ }
+    ensures within { λ r. ⌜ valueEnd r ≤ length (now (s .entry)) ⌝ }
+{
+    let w = read_word(s, at);
+    let WordRead::Value(x, next) = w else {
+        return ValueRead::Fault(word_fault(w));
+    };
+    ValueRead::Value(signed(x), next)
 }
 
 // A record's length, in one byte, and where its bytes stand.

@@ -2,3 +2,4 @@
 pub mod clock;
 pub mod expression;
 pub mod field;
+pub mod signed;
