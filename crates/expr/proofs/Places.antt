@@ -8,13 +8,17 @@ use borrow.Author.Tests.{le-leb, lt-leb, eq-eqb, ne-eqb, ltb-true, ltb-false}
 use lib.Dec.{ltb}
 use lib.ListN.{length, getD, take, drop, length-take, length-drop}
 use lib.Seq.{getD-drop, drop-drop, take-all}
-use Rattle.expr.specs.Places.{onward, faultOf, FrameFits, reached, wholly}
+use Rattle.expr.specs.Places.{onward, faultOf, byteOf, byteEnd, wordOf, wordEnd, FrameFits, reached, reachedEnd, byteReached, wordReached, wholly}
 use Rattle.expr.specs.declared.field.Fault.the-variants as Fl
+use Rattle.expr.specs.declared.field.ByteRead.{ByteRead}
+use Rattle.expr.specs.declared.field.ByteRead.the-variants as Bt
+use Rattle.expr.specs.declared.field.WordRead.{WordRead}
+use Rattle.expr.specs.declared.field.WordRead.the-variants as Wd
 use Rattle.expr.specs.declared.field.Frame.{Frame}
 use Rattle.expr.specs.declared.field.Frame.the-variants as Fr
 use Rattle.expr.specs.declared.field.Reached.{Reached}
 use Rattle.expr.specs.declared.field.Reached.the-variants as Rd
-use Rattle.expr.specs.Reading.{Fault, length-fault, range-fault, Read, got, fault, Reader, yield, next, _>>=_, field, byte, byte2, byte4, such, end, framed, whole, recorded}
+use Rattle.expr.specs.Reading.{Fault, length-fault, range-fault, Read, got, fault, Reader, yield, next, _>>=_, field, byte, byte2, byte4, such, end, framed, whole, recorded, mapped, skipped}
 
 -- a field of n bytes at a place that has so many, and at one that has not
 pub field-some : (n : ℕ) (value : List ℕ → ℕ) (s : List ℕ) (at : ℕ) → n ≤ length s - at → field n value (onward s at) ≡ got (value (onward s at)) (onward s (at + n))
@@ -117,6 +121,25 @@ framed-fault size b h = bind-fault _ _ b h
 -- what an answer of the code that is known says of the definition
 pub answered : {Q D : Type 0} (meaning : Q → D) {q r : Q} {d : D} → meaning q ≡ d → q ≡ r → d ≡ meaning r
 answered meaning h e = sym h ∙ ap meaning e
+
+-- only where a value ends
+pub byte-skipped : (s : List ℕ) (b : ByteRead) {q : Reached} {d : Read ℕ} → q ≡ byteReached b → byteOf s b ≡ d → reached s tt q ≡ skipped d
+unfolding skipped mapped
+byte-skipped s (Bt.Value x n) e h = rw (e, ← h)
+byte-skipped s (Bt.Fault f) e h = rw (e, ← h)
+
+pub byte-skipped-end : (b : ByteRead) {q : Reached} (l : ℕ) → q ≡ byteReached b → byteEnd b ≤ l → reachedEnd q ≤ l
+byte-skipped-end (Bt.Value x n) l e h = rw e h
+byte-skipped-end (Bt.Fault f) l e h = rw e h
+
+pub word-skipped : (s : List ℕ) (w : WordRead) {q : Reached} {d : Read ℕ} → q ≡ wordReached w → wordOf s w ≡ d → reached s tt q ≡ skipped d
+unfolding skipped mapped
+word-skipped s (Wd.Value x n) e h = rw (e, ← h)
+word-skipped s (Wd.Fault f) e h = rw (e, ← h)
+
+pub word-skipped-end : (w : WordRead) {q : Reached} (l : ℕ) → q ≡ wordReached w → wordEnd w ≤ l → reachedEnd q ≤ l
+word-skipped-end (Wd.Value x n) l e h = rw e h
+word-skipped-end (Wd.Fault f) l e h = rw e h
 
 pub frame-fits : (s : List ℕ) {q : Frame} {from to : ℕ} → FrameFits s q → q ≡ Fr.Part from to → (from ≤ to) × (to ≤ length s)
 frame-fits s h e = subst (FrameFits s) e h

@@ -4,8 +4,10 @@ ghost use Prim.Native.Nat.{_+_, _*_, _-_, _≤_, _^_};
 ghost use lib.ListN.{length};
 ghost use mathlib.Core.Bool.{_||_};
 ghost use lib.Dec.{ltb, eqb};
-ghost use Rattle.expr.specs.Reading.{byte, byte2, byte4, such, framed};
-ghost use Rattle.expr.specs.Places.{onward, byteOf, byteEnd, shortOf, shortEnd, wordOf, frameOf, FrameFits, wholly, byteFault, shortFault, wordFault, valueFault, testFault, frameFault, reachedFault};
+ghost use Rattle.expr.specs.Reading.{byte, byte2, byte4, such, framed, mapped};
+ghost use Rattle.expr.specs.Integer.{signed};
+ghost use Rattle.expr.specs.Places.{onward, byteOf, byteEnd, shortOf, shortEnd, wordOf, wordEnd, valueOf, valueEnd, frameOf, FrameFits, wholly, byteFault, shortFault, wordFault, valueFault, testFault, frameFault, reachedFault};
+use crate::signed::signed;
 
 // What a file can have wrong: a length, or a field out of its range.
 pub enum Fault {
@@ -236,13 +238,26 @@ pub fn word_of(a: u8, b: u8, c: u8, d: u8) -> u32
 }
 
 pub fn read_word(s: &[u8], at: usize) -> WordRead
-    ensures { λ r. ⌜ wordOf (now (s .entry)) r ≡ byte4 (onward (now (s .entry)) at) ⌝ }
+    ensures means { λ r. ⌜ wordOf (now (s .entry)) r ≡ byte4 (onward (now (s .entry)) at) ⌝ }
+    ensures within { λ r. ⌜ wordEnd r ≤ length (now (s .entry)) ⌝ }
 {
     if left(s, at) < 4 {
         WordRead::Fault(Fault::Length)
     } else {
         WordRead::Value(word_of(s[at], s[at + 1], s[at + 2], s[at + 3]), at + 4)
     }
+}
+
+// The signed number whose bits are the four bytes.
+pub fn read_signed(s: &[u8], at: usize) -> ValueRead
+    ensures means { λ r. ⌜ valueOf (now (s .entry)) r ≡ mapped signed (byte4 (onward (now (s .entry)) at)) ⌝ }
+    ensures within { λ r. ⌜ valueEnd r ≤ length (now (s .entry)) ⌝ }
+{
+    let w = read_word(s, at);
+    let WordRead::Value(x, next) = w else {
+        return ValueRead::Fault(word_fault(w));
+    };
+    ValueRead::Value(signed(x), next)
 }
 
 // A record's length, in one byte, and where its bytes stand.

@@ -1,4 +1,6 @@
 // Expressions and guards.
 pub mod clock;
+pub mod expression;
 pub mod field;
 pub mod guard;
+pub mod signed;

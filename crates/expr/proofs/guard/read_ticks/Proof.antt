@@ -25,17 +25,17 @@ enum-told c = search needs
 -- src/guard.rt:21:9
 returns : tie.Need-returns
 unfolding ticks
-returns c = ap (wordOf _) (c .enum-told .given .1) ∙ sym (such-fault _ _ _ (answered (wordOf _) (c .before .before .read-word .ensures) (c .enum-told .given .1)))
+returns c = ap (wordOf _) (c .enum-told .given .1) ∙ sym (such-fault _ _ _ (answered (wordOf _) (c .before .before .read-word .ensures .0) (c .enum-told .given .1)))
 
 -- src/guard.rt:16:1
 returns-2 : tie.Need-returns-2
 unfolding ticks
-returns-2 c = sym (such-got _ _ _ (answered (wordOf _) (c .before .before .before .before .read-word .ensures) (c .before .before .w .given .1)) (lt-ltb _ _ (c .if1 .taken)))
+returns-2 c = sym (such-got _ _ _ (answered (wordOf _) (c .before .before .before .before .read-word .ensures .0) (c .before .before .w .given .1)) (lt-ltb _ _ (c .if1 .taken)))
 
 -- src/guard.rt:16:1
 returns-3 : tie.Need-returns-3
 unfolding ticks
-returns-3 c = sym (such-not _ _ _ (answered (wordOf _) (c .before .before .before .before .read-word .ensures) (c .before .before .w .given .1)) (le-ltb _ _ (c .if1 .left)))
+returns-3 c = sym (such-not _ _ _ (answered (wordOf _) (c .before .before .before .before .read-word .ensures .0) (c .before .before .w .given .1)) (le-ltb _ _ (c .if1 .left)))
 
 pub read-ticks-spec : {M : Type 1} → statement M
 read-ticks-spec =
