@@ -40,6 +40,10 @@ pub onward-all : (s : List ℕ) → onward s 0 ≡ s
 unfolding onward
 onward-all s = refl
 
+pub length-onward : (s : List ℕ) (at : ℕ) → length (onward s at) ≡ length s - at
+unfolding onward
+length-onward s at = length-drop at s
+
 pub onward-onward : (s : List ℕ) (a n : ℕ) → onward (onward s a) n ≡ onward s (a + n)
 unfolding onward
 onward-onward s a n = drop-drop n a s
