@@ -12,7 +12,7 @@ use lib.Dec.{ltb}
 use lib.IntN.{ℤ}
 use lib.ListN.{length, getD}
 use Rattle.expr.specs.Reading.{length-fault, range-fault, Read, got, fault, Reader, yield, next, _>>=_, byte, byte4, such, mapped}
-use Rattle.expr.specs.Integer.{signed}
+use Rattle.expr.specs.Integer.{signed, floorDiv, floorMod}
 use Rattle.expr.specs.Expression.{Expr, constant, variable, sum, difference, product, quotient, remainder, constant-code, codes, divisor, two, by, after, expression, value, combined, divided}
 use Rattle.expr.specs.Places.{onward}
 use Rattle.expr.proofs.Bools.{and-l, and-r}
@@ -77,6 +77,14 @@ division-value vars (suc (suc (suc (suc zero)))) h l a d = absurd (omega arith)
 division-value vars (suc (suc (suc (suc (suc zero))))) h l a d = refl
 division-value vars (suc (suc (suc (suc (suc (suc zero)))))) h l a d = refl
 division-value vars (suc (suc (suc (suc (suc (suc (suc n))))))) h l a d = absurd (omega arith)
+
+pub divided-quotient : {c : ℕ} (x : ℤ) (d : ℕ) → c ≡ 5 → divided c x d ≡ floorDiv x d
+unfolding divided
+divided-quotient {c} x d h = rw (eq-eqb c 5 h)
+
+pub divided-remainder : {c : ℕ} (x : ℤ) (d : ℕ) → c ≢ 5 → divided c x d ≡ floorMod x d
+unfolding divided
+divided-remainder {c} x d h = rw (ne-eqb c 5 h)
 
 -- a divisor that is read is in its range
 pub divisor-in : (s : List ℕ) {d : ℕ} {t : List ℕ} → divisor s ≡ got d t → (1 ≤ d) × (d < 2 ^ 31)
