@@ -1,3 +1,5 @@
 // Expressions and guards.
 pub mod clock;
 pub mod field;
+pub mod mark;
+pub mod step;
