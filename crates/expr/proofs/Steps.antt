@@ -5,10 +5,10 @@ use mathlib.Core.Logic.{_≢_}
 use mathlib.Core.List.{List, [], _∷_, map, map-map}
 use Prim.Native.Nat.{ℕ, _+_, _≤_, _<_}
 use native.Mathlib.Omega.{arith}
-use borrow.Author.Tests.{eq-eqb, ne-eqb}
+use borrow.Author.Tests.{eq-eqb, ne-eqb, lt-ltb, le-ltb}
 use lib.Dec.{ltb, eqb}
 use lib.ListN.{length, getD, drop, length-drop, length-map}
-use Rattle.expr.specs.Lists.{all, any, elem, keep, below, ascending}
+use Rattle.expr.specs.Lists.{elem, below, ascending}
 use Rattle.expr.specs.Label.{Label, distinct, sends, receives}
 use Rattle.expr.specs.Moves.{senders, oneSends, maximal, noneFits, allowed}
 use Rattle.expr.specs.Cases.{member, ownerOf, signalsOn, takesPart, oneSender, allowedIf, caseOf, caseAllows}
@@ -19,9 +19,16 @@ use Rattle.expr.proofs.Bools.{or-l, or-r}
 use Rattle.expr.proofs.Lists.{all-map, keep-map, all-same, below-at, drop-next, all-next, all-stop}
 
 -- ascending, from a place on
-pub ascending-next : (l : List ℕ) (i : ℕ) → i + 1 < length l → ascending (drop i l) ≡ (ltb (getD l i 0) (getD l (i + 1) 0) && ascending (drop (i + 1) l))
-unfolding ascending
-ascending-next l i h = rw (drop-next l i 0 (omega arith), drop-next l (i + 1) 0 h)
+module _ (l : List ℕ) (i : ℕ) (h : i + 1 < length l) where
+  ascending-two : ascending (drop i l) ≡ (ltb (getD l i 0) (getD l (i + 1) 0) && ascending (drop (i + 1) l))
+  unfolding ascending
+  ascending-two = rw (drop-next l i 0 (omega arith), drop-next l (i + 1) 0 h)
+
+  pub ascending-next : getD l i 0 < getD l (i + 1) 0 → ascending (drop i l) ≡ ascending (drop (i + 1) l)
+  ascending-next k = rw (ascending-two, lt-ltb (getD l i 0) (getD l (i + 1) 0) k)
+
+  pub ascending-stop : getD l (i + 1) 0 ≤ getD l i 0 → ascending (drop i l) ≡ false
+  ascending-stop k = rw (ascending-two, le-ltb (getD l i 0) (getD l (i + 1) 0) k)
 
 pub ascending-end : (l : List ℕ) (i : ℕ) → length l ≤ i + 1 → ascending (drop i l) ≡ true
 unfolding ascending

@@ -6,8 +6,6 @@ use Rattle.expr.proofs.Bits.{has-high}
 use borrow.Author.Needs.{needs}
 use Rattle.expr.proofs.mark.has.Statement.{statement}
 use Rattle.expr.proofs.mark.has.Tie as tie
-use Rattle.expr.proofs.mark.has.Reads as reads
-use Rattle.expr.proofs.mark.has.Lts as lts
 
 shr-result : tie.Need-shr-result
 shr-result c = search needs

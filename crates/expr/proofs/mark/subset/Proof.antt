@@ -3,8 +3,6 @@ use native.Mathlib.Omega.{arith}
 use Rattle.expr.proofs.Bits.{subset-and}
 use Rattle.expr.proofs.mark.subset.Statement.{statement}
 use Rattle.expr.proofs.mark.subset.Tie as tie
-use Rattle.expr.proofs.mark.subset.Reads as reads
-use Rattle.expr.proofs.mark.subset.Lts as lts
 
 returns : tie.Need-returns
 returns c = sym (subset-and 32 (c .args .a) (c .args .b) (omega arith))

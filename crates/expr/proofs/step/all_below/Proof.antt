@@ -9,8 +9,6 @@ use Rattle.expr.specs.Lists.{all}
 use Rattle.expr.proofs.Lists.{drop-next, all-next, all-stop}
 use Rattle.expr.proofs.step.all_below.Statement.{statement}
 use Rattle.expr.proofs.step.all_below.Tie as tie
-use Rattle.expr.proofs.step.all_below.Reads as reads
-use Rattle.expr.proofs.step.all_below.Lts as lts
 
 abbrev Inv-loop : tie.InvT-loop
 Inv-loop list count i₀ i = all (λ m. ltb m count) list ≡ all (λ m. ltb m count) (drop i list)

@@ -9,9 +9,6 @@ use Rattle.expr.specs.Cases.{takesPart}
 use Rattle.expr.proofs.Lists.{taken-next, taken-end, all-next, all-stop}
 use Rattle.expr.proofs.step.all_take_part.Statement.{statement}
 use Rattle.expr.proofs.step.all_take_part.Tie as tie
-use Rattle.expr.proofs.step.all_take_part.Reads as reads
-use Rattle.expr.proofs.step.all_take_part.Lts as lts
-use Rattle.expr.proofs.step.takes_part.Reads as takes-part-reads
 
 abbrev Inv-loop : tie.InvT-loop
 Inv-loop count channel members i₀ i = all (takesPart channel) (take count members) ≡ all (takesPart channel) (drop i (take count members))

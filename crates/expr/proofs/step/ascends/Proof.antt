@@ -2,14 +2,11 @@ use mathlib.Core.Path.{_≡_, refl, sym, _∙_}
 use Prim.Native.Nat.{_-_, _≤_}
 use native.Mathlib.Omega.{arith}
 use borrow.Author.Needs.{needs}
-use borrow.Author.Tests.{lt-ltb, le-ltb}
 use lib.ListN.{length, drop}
 use Rattle.expr.specs.Lists.{ascending}
-use Rattle.expr.proofs.Steps.{ascending-next, ascending-end}
+use Rattle.expr.proofs.Steps.{ascending-next, ascending-stop, ascending-end}
 use Rattle.expr.proofs.step.ascends.Statement.{statement}
 use Rattle.expr.proofs.step.ascends.Tie as tie
-use Rattle.expr.proofs.step.ascends.Reads as reads
-use Rattle.expr.proofs.step.ascends.Lts as lts
 
 abbrev Inv-loop : tie.InvT-loop
 Inv-loop list i₀ i = (i ≤ length list - 1) × (ascending list ≡ ascending (drop i list))
@@ -40,7 +37,7 @@ shared-slice-read-if1-2 c = search needs
 
 returns : tie.Need-returns Inv-loop μ-loop
 returns c = let l = c .before .before .before in
-    sym (l .before .loop .inv .1 ∙ ascending-next _ _ (l .loop-test .taken) ∙ rw (le-ltb _ _ (c .if1 .taken)))
+    sym (l .before .loop .inv .1 ∙ ascending-stop (l .before .before .args .list .now) (l .before .loop .i) (l .loop-test .taken) (omega arith))
 
 add-i : tie.Need-add-i Inv-loop μ-loop
 add-i c = omega arith
@@ -50,7 +47,7 @@ loop-less c = omega arith
 
 loop-again : tie.Need-loop-again Inv-loop μ-loop
 loop-again c = let l = c .before .before .before in
-    (omega arith, l .before .loop .inv .1 ∙ ascending-next _ _ (l .loop-test .taken) ∙ rw (lt-ltb _ _ (c .if1 .left)))
+    (omega arith, l .before .loop .inv .1 ∙ ascending-next (l .before .before .args .list .now) (l .before .loop .i) (l .loop-test .taken) (omega arith))
 
 returns-2 : tie.Need-returns-2 Inv-loop μ-loop
 returns-2 c = sym (c .before .loop .inv .1 ∙ ascending-end _ _ (c .loop-test .left))

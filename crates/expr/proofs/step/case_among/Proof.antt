@@ -1,6 +1,6 @@
 use mathlib.Core.Path.{_≡_, sym, ap, _∙_}
 use mathlib.Core.Bool.{true}
-use mathlib.Core.List.{List, _∷_, map}
+use mathlib.Core.List.{_∷_, map}
 use Prim.Native.Nat.{ℕ, _-_, _≤_, _<_}
 use native.Mathlib.Omega.{arith}
 use borrow.Author.Tests.{eq-eqb, ne-eqb, lt-ltb, le-ltb, not-true, not-false}
@@ -13,11 +13,6 @@ use Rattle.expr.proofs.Steps.{case-owners, case-alone, case-senders, ca
 use borrow.Author.Needs.{needs}
 use Rattle.expr.proofs.step.case_among.Statement.{statement}
 use Rattle.expr.proofs.step.case_among.Tie as tie
-use Rattle.expr.proofs.step.case_among.Reads as reads
-use Rattle.expr.proofs.step.case_among.Lts as lts
-use Rattle.expr.proofs.step.allowed_if.Reads as allowed-if-reads
-use Rattle.expr.proofs.step.one_sender.Reads as one-sender-reads
-use Rattle.expr.proofs.step.owners_distinct.Reads as owners-distinct-reads
 
 abbrev nobody : Member
 nobody = record { signal = 0; channel = 0; owner = 0 }

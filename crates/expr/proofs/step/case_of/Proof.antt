@@ -7,9 +7,6 @@ use Rattle.expr.specs.Cases.{caseOf}
 use borrow.Author.Needs.{needs}
 use Rattle.expr.proofs.step.case_of.Statement.{statement}
 use Rattle.expr.proofs.step.case_of.Tie as tie
-use Rattle.expr.proofs.step.case_of.Reads as reads
-use Rattle.expr.proofs.step.case_of.Lts as lts
-use Rattle.expr.proofs.step.case_among.Reads as case-among-reads
 
 case-among-requires : tie.Need-case-among-requires
 case-among-requires c κs = search needs

@@ -1,4 +1,4 @@
-use mathlib.Core.Path.{_≡_, refl, sym, ap, _∙_}
+use mathlib.Core.Path.{_≡_, sym, _∙_}
 use mathlib.Core.Logic.{⊎-elim}
 use Prim.Native.Nat.{_+_, _-_, _≤_}
 use native.Mathlib.Omega.{arith}
@@ -9,9 +9,6 @@ use Rattle.expr.specs.Cases.{signalsOn}
 use Rattle.expr.proofs.Lists.{taken-next, taken-end, counted-next, counted-left, counted-all}
 use Rattle.expr.proofs.step.count_senders.Statement.{statement}
 use Rattle.expr.proofs.step.count_senders.Tie as tie
-use Rattle.expr.proofs.step.count_senders.Reads as reads
-use Rattle.expr.proofs.step.count_senders.Lts as lts
-use Rattle.expr.proofs.step.signals_on.Reads as signals-on-reads
 
 abbrev Inv-loop : tie.InvT-loop
 Inv-loop count channel members senders₀ i₀ senders i = (senders ≤ i) × (senders + length (keep (signalsOn 1 channel) (drop i (take count members))) ≡ length (keep (signalsOn 1 channel) (take count members)))

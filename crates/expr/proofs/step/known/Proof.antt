@@ -4,36 +4,26 @@ use borrow.Author.Tests.{le-leb, lt-leb}
 use Rattle.expr.specs.Moves.{known}
 use Rattle.expr.proofs.step.known.Statement.{statement}
 use Rattle.expr.proofs.step.known.Tie as tie
-use Rattle.expr.proofs.step.known.Reads as reads
-use Rattle.expr.proofs.step.known.Lts as lts
-use Rattle.expr.proofs.step.all_below.Reads as all-below-reads
-use Rattle.expr.proofs.step.ascends.Reads as ascends-reads
 
--- src/step.rt:57:9
 returns : tie.Need-returns
 unfolding known
 returns c = rw (lt-leb 1 _ (c .if1 .taken))
 
--- src/step.rt:60:9
 returns-2 : tie.Need-returns-2
 unfolding known
 returns-2 c = rw (le-leb 1 _ (c .before .if1 .left), lt-leb _ 16 (c .if2 .taken))
 
--- src/step.rt:62:5
 ascends-requires : tie.Need-ascends-requires
 ascends-requires c κs = search needs
 
--- src/step.rt:62:22
 all-below-requires : tie.Need-all-below-requires
 all-below-requires c κs = search needs
 
--- src/step.rt:53:1
 returns-3 : tie.Need-returns-3
 unfolding known
 returns-3 c = let e = c .before .before in
     rw (le-leb 1 _ (e .before .before .if1 .left), le-leb _ 16 (e .before .if2 .left), sym (e .ascends .ensures) ∙ c .before .if3 .taken) (c .all-below .ensures)
 
--- src/step.rt:53:1
 returns-4 : tie.Need-returns-4
 unfolding known
 returns-4 c = let e = c .before in

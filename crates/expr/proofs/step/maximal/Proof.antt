@@ -13,8 +13,6 @@ use Rattle.expr.proofs.Lists.{drop-next, any-next, any-stop}
 use Rattle.expr.proofs.Steps.{none-fits-other, none-fits-next, none-fits-stop}
 use Rattle.expr.proofs.step.maximal.Statement.{statement}
 use Rattle.expr.proofs.step.maximal.Tie as tie
-use Rattle.expr.proofs.step.maximal.Reads as reads
-use Rattle.expr.proofs.step.maximal.Lts as lts
 
 abbrev Inv-chosen : tie.InvT-chosen
 Inv-chosen receivers owners none-fits₀ r owner c₀ none-fits c = (none-fits ≡ none-fits₀) × (elem owner owners ≡ elem owner (drop c owners)) × (c ≤ length owners)

@@ -3,25 +3,17 @@ use borrow.Author.Tests.{eq-eqb, ne-eqb}
 use Rattle.expr.specs.Cases.{oneSender}
 use Rattle.expr.proofs.step.one_sender.Statement.{statement}
 use Rattle.expr.proofs.step.one_sender.Tie as tie
-use Rattle.expr.proofs.step.one_sender.Reads as reads
-use Rattle.expr.proofs.step.one_sender.Lts as lts
-use Rattle.expr.proofs.step.all_take_part.Reads as all-take-part-reads
-use Rattle.expr.proofs.step.count_senders.Reads as count-senders-reads
 
--- src/step.rt:115:5
 count-senders-requires : tie.Need-count-senders-requires
 count-senders-requires c κs = search needs
 
--- src/step.rt:115:52
 all-take-part-requires : tie.Need-all-take-part-requires
 all-take-part-requires c κs = search needs
 
--- src/step.rt:111:1
 returns : tie.Need-returns
 unfolding oneSender
 returns c = rw (← c .before .before .count-senders .ensures, eq-eqb _ 1 (c .before .if1 .taken)) (c .all-take-part .ensures)
 
--- src/step.rt:111:1
 returns-2 : tie.Need-returns-2
 unfolding oneSender
 returns-2 c = rw (← c .before .count-senders .ensures, ne-eqb _ 1 (c .if1 .left))

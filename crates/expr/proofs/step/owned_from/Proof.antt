@@ -11,8 +11,6 @@ use Rattle.expr.specs.Cases.{ownerOf}
 use Rattle.expr.proofs.Lists.{taken-next, taken-end, any-next, any-stop}
 use Rattle.expr.proofs.step.owned_from.Statement.{statement}
 use Rattle.expr.proofs.step.owned_from.Tie as tie
-use Rattle.expr.proofs.step.owned_from.Reads as reads
-use Rattle.expr.proofs.step.owned_from.Lts as lts
 
 abbrev Inv-loop : tie.InvT-loop
 Inv-loop from count owner members i₀ i = elem owner (map ownerOf (drop from (take count members))) ≡ elem owner (map ownerOf (drop i (take count members)))

@@ -11,9 +11,6 @@ use Rattle.expr.proofs.Lists.{taken-next, taken-end}
 use Rattle.expr.proofs.Steps.{distinct-next, distinct-stop}
 use Rattle.expr.proofs.step.owners_distinct.Statement.{statement}
 use Rattle.expr.proofs.step.owners_distinct.Tie as tie
-use Rattle.expr.proofs.step.owners_distinct.Reads as reads
-use Rattle.expr.proofs.step.owners_distinct.Lts as lts
-use Rattle.expr.proofs.step.owned_from.Reads as owned-from-reads
 
 abbrev Inv-loop : tie.InvT-loop
 Inv-loop count members i₀ i = distinct (map ownerOf (take count members)) ≡ distinct (map ownerOf (drop i (take count members)))

@@ -2,8 +2,6 @@ use borrow.Author.Tests.{eq-eqb, ne-eqb}
 use Rattle.expr.specs.Cases.{signalsOn}
 use Rattle.expr.proofs.step.signals_on.Statement.{statement}
 use Rattle.expr.proofs.step.signals_on.Tie as tie
-use Rattle.expr.proofs.step.signals_on.Reads as reads
-use Rattle.expr.proofs.step.signals_on.Lts as lts
 
 returns : tie.Need-returns
 unfolding signalsOn

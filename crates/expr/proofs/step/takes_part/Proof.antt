@@ -3,9 +3,6 @@ use Rattle.expr.specs.Cases.{takesPart}
 use borrow.Author.Needs.{needs}
 use Rattle.expr.proofs.step.takes_part.Statement.{statement}
 use Rattle.expr.proofs.step.takes_part.Tie as tie
-use Rattle.expr.proofs.step.takes_part.Reads as reads
-use Rattle.expr.proofs.step.takes_part.Lts as lts
-use Rattle.expr.proofs.step.signals_on.Reads as signals-on-reads
 
 signals-on-requires : tie.Need-signals-on-requires
 signals-on-requires c κs = search needs
