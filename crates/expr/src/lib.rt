@@ -4,3 +4,5 @@ pub mod expression;
 pub mod field;
 pub mod guard;
 pub mod signed;
+pub mod mark;
+pub mod step;
