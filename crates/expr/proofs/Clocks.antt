@@ -7,16 +7,12 @@ use native.Mathlib.Omega.{arith}
 use native.Mathlib.Numerals.{add-one}
 use native.Mathlib.Nat.{zero-min, min-zero, suc-min-suc, min-comm, min-le-left, min-le-right, le-min}
 use native.Mathlib.Decide.{decLt}
-use borrow.Author.Tests.{leb-true, le-leb, ne-eqb}
-use mir.Syntax.{w32}
-use mir.Val.{ofZ, SFits}
-use lib.Dec.{leb, eqb}
-use lib.IntN.{ℤ, pos, negsuc}
+use borrow.Author.Tests.{leb-true, le-leb}
+use lib.Dec.{leb}
 use lib.ListN.{length, getD, set, getD-replicate, List·getD-eq-default}
 use lib.Seq.{ext-getD}
 use Rattle.expr.specs.Lists.{has, all, below}
 use Rattle.expr.specs.Clocks.{clock-limit, no-bound, free, join, joinTables, keeps, resetFrom, reset, later, inLimit}
-use Rattle.expr.specs.Moves.{isZero}
 use Rattle.expr.proofs.Bools.{fails, and-l, and-r, both, same}
 use Rattle.expr.proofs.Lists.{length-zipWith, getD-zipWith, all-below, below-all}
 
@@ -39,8 +35,8 @@ min-assoc x y z = omega arith
 
 pub join-assoc : (a b c : List ℕ) → join (join a b) c ≡ join a (join b c)
 join-assoc a b c =
-    ext-getD 0 (join (join a b) c) (join a (join b c)) (rw (length-join, length-join, length-join, length-join) (min-assoc (length a) (length b) (length c)))
-    (λ i h. rw (getD-join, getD-join, getD-join, getD-join) (min-assoc (getD a i 0) (getD b i 0) (getD c i 0)))
+    ext-getD 0 (join (join a b) c) (join a (join b c)) (simp length-join (min-assoc (length a) (length b) (length c)))
+    (λ i h. simp getD-join (min-assoc (getD a i 0) (getD b i 0) (getD c i 0)))
 
 -- tables of rows
 pub length-joinTables : (a b : List (List ℕ)) → length (joinTables a b) ≡ min (length a) (length b)
@@ -186,9 +182,3 @@ limit-later n d cs f = limit-by n (later n d cs) (λ i l h. let k : i < length c
 
 pub limit-later-not : (n d : ℕ) (cs : List ℕ) (i : ℕ) → i < n → i < length cs → clock-limit < getD cs i 0 + d → inLimit n (later n d cs) ≡ false
 limit-later-not n d cs i l k h = limit-not n (later n d cs) i l (rw (later-moved n d cs i l k) h)
-
--- an i32 is 0 where its bits are
-pub is-zero : (z : ℤ) → SFits w32 z → eqb (ofZ w32 z) 0 ≡ isZero z
-unfolding isZero
-is-zero (pos n) f = refl
-is-zero (negsuc n) f = ne-eqb (ofZ w32 (negsuc n)) 0 (λ e. omega (arith, f .sfits))

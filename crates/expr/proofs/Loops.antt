@@ -1,7 +1,7 @@
 -- Loops over the places of a list: one that fills it, and one that tests what is left of it.
 use mathlib.Core.Path.{_≡_, refl, sym, ap, _∙_}
 use mathlib.Core.Bool.{Bool, true, false, _&&_}
-use mathlib.Core.List.{List, [], _∷_, _++_}
+use mathlib.Core.List.{List}
 use Prim.Native.Nat.{ℕ, _+_, _≤_, _<_}
 use native.Mathlib.Omega.{arith}
 use native.Mathlib.Numerals.{add-one}
@@ -25,13 +25,13 @@ module _ {A : Type 0} (n : ℕ) (whole l : List A) where
         record {
           size = F .size;
           long = length-set l i v ∙ F .long;
-          done = rw (add-one, take-suc-set l i v (omega (arith, F .long)), F .done, e) (sym (take-suc whole i d (omega (arith, F .size))))
+          done = rw (add-one, take-suc-set l i v (omega (arith, F .long)), F .done, e) (sym (take-suc whole i d (omega (arith, F .size))));
         }
 
     pub filled-all : n ≤ i → l ≡ whole
     filled-all h = sym (take-all i l (omega (arith, F .long))) ∙ F .done ∙ take-all i whole (omega (arith, F .size))
 
--- each of the n elements of xs that stand from `first` on and before i passes
+-- xs has n elements, and all from `first` on pass where all from i on do
 pub record Passed {A : Type 0} (p : A → Bool) (n : ℕ) (xs : List A) (first i : ℕ) : Type 0 where
   pub long : length xs ≡ n
   pub left : all p (drop first xs) ≡ all p (drop i xs)

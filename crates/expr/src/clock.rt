@@ -210,12 +210,15 @@ pub fn later(count: usize, ticks: u32, clocks: [u32; 8]) -> Delayed
     ensures within { λ r. ⌜ r .within ≡ inLimit count (later count ticks clocks) ⌝ }
     ensures moved { λ r. ⌜ (r .within ≡ true → r .clocks ≡ later count ticks clocks) ⌝ }
 {
-    let n = at_most_eight(count);
+    let moving = at_most_eight(count);
     let mut moved = clocks;
-    for i in 0..n {
+    for i in 0..moving {
         let clock = clocks[i];
         if !fits(clock, ticks) {
-            return Delayed { within: false, clocks };
+            return Delayed {
+                within: false,
+                clocks,
+            };
         }
         moved[i] = clock + ticks;
     }

@@ -8,9 +8,6 @@ use Rattle.expr.specs.Clocks.{clock-limit}
 use Rattle.expr.proofs.Clocks.{limit-by, limit-not}
 use Rattle.expr.proofs.clock.in_limit.Statement.{statement}
 use Rattle.expr.proofs.clock.in_limit.Tie as tie
-use Rattle.expr.proofs.clock.in_limit.Reads as reads
-use Rattle.expr.proofs.clock.in_limit.Lts as lts
-use Rattle.expr.proofs.clock.at_most_eight.Reads as at-most-eight-reads
 
 abbrev Inv-loop : tie.InvT-loop
 Inv-loop count clocks n i₀ i = (length clocks ≡ 8) × ((k : ℕ) → k < i → getD clocks k 0 ≤ clock-limit)
@@ -31,7 +28,7 @@ array-read-if1 : tie.Need-array-read-if1 Inv-loop μ-loop
 array-read-if1 c = omega arith
 
 returns : tie.Need-returns Inv-loop μ-loop
-returns c = sym (limit-not _ _ _ (omega arith) (c .if1 .taken))
+returns c = sym (limit-not _ _ (c .before .before .loop .i) (omega arith) (c .if1 .taken))
 
 add-i : tie.Need-add-i Inv-loop μ-loop
 add-i c = omega arith

@@ -8,9 +8,6 @@ use Rattle.expr.proofs.Loops.{Filled, filled-none, filled-more, filled-
 use Rattle.expr.proofs.Clocks.{length-join, getD-join}
 use Rattle.expr.proofs.clock.join.Statement.{statement}
 use Rattle.expr.proofs.clock.join.Tie as tie
-use Rattle.expr.proofs.clock.join.Reads as reads
-use Rattle.expr.proofs.clock.join.Lts as lts
-use Rattle.expr.proofs.clock.least.Reads as least-reads
 
 abbrev Inv-loop : tie.InvT-loop
 Inv-loop a b joined₀ i₀ joined i = Filled 8 (join a b) joined i

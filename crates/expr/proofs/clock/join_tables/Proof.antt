@@ -1,6 +1,6 @@
 use native.Mathlib.Omega.{arith}
 use borrow.Author.Needs.{needs}
-use mathlib.Core.Path.{_≡_, refl, sym, _∙_}
+use mathlib.Core.Path.{_≡_, sym, _∙_}
 use mathlib.Core.List.{[]}
 use Prim.Native.Nat.{_-_}
 use lib.ListN.{length}
@@ -9,9 +9,6 @@ use Rattle.expr.proofs.Loops.{Filled, filled-none, filled-more, filled-
 use Rattle.expr.proofs.Clocks.{length-joinTables, getD-joinTables}
 use Rattle.expr.proofs.clock.join_tables.Statement.{statement}
 use Rattle.expr.proofs.clock.join_tables.Tie as tie
-use Rattle.expr.proofs.clock.join_tables.Reads as reads
-use Rattle.expr.proofs.clock.join_tables.Lts as lts
-use Rattle.expr.proofs.clock.join.Reads as join-reads
 
 abbrev Inv-loop : tie.InvT-loop
 Inv-loop a b joined₀ i₀ joined i = Filled 48 (joinTables a b) joined i

@@ -7,8 +7,6 @@ use lib.ListN.{length, getD}
 use Rattle.expr.proofs.Clocks.{keeps-by, keeps-not}
 use Rattle.expr.proofs.clock.keeps.Statement.{statement}
 use Rattle.expr.proofs.clock.keeps.Tie as tie
-use Rattle.expr.proofs.clock.keeps.Reads as reads
-use Rattle.expr.proofs.clock.keeps.Lts as lts
 
 abbrev Inv-loop : tie.InvT-loop
 Inv-loop bounds clocks i₀ i = (length bounds ≡ 8) × ((k : ℕ) → k < i → getD clocks k 0 ≤ getD bounds k 0)
@@ -32,7 +30,7 @@ array-read-if1-2 : tie.Need-array-read-if1-2 Inv-loop μ-loop
 array-read-if1-2 c = search needs
 
 returns : tie.Need-returns Inv-loop μ-loop
-returns c = sym (keeps-not _ _ _ (omega arith) (c .if1 .taken))
+returns c = sym (keeps-not _ _ (c .before .before .loop .i) (omega arith) (c .if1 .taken))
 
 add-i : tie.Need-add-i Inv-loop μ-loop
 add-i c = omega arith

@@ -1,7 +1,6 @@
 use native.Mathlib.Omega.{arith}
 use borrow.Author.Needs.{needs}
-use mathlib.Core.Path.{_≡_, refl, sym, ap, _∙_}
-use mathlib.Core.Bool.{true, false}
+use mathlib.Core.Path.{_≡_, refl, sym, _∙_}
 use Prim.Native.Nat.{ℕ, _+_, _-_, _<_, _≤_, min}
 use borrow.Author.Count.{below-none, below-more}
 use borrow.Author.Tests.{leb-true, leb-false, not-true, not-false}
@@ -11,16 +10,12 @@ use Rattle.expr.proofs.Bools.{clash}
 use Rattle.expr.proofs.Clocks.{limit-later, limit-later-not, later-more, later-min}
 use Rattle.expr.proofs.clock.later.Statement.{statement}
 use Rattle.expr.proofs.clock.later.Tie as tie
-use Rattle.expr.proofs.clock.later.Reads as reads
-use Rattle.expr.proofs.clock.later.Lts as lts
-use Rattle.expr.proofs.clock.at_most_eight.Reads as at-most-eight-reads
-use Rattle.expr.proofs.clock.fits.Reads as fits-reads
 
 abbrev Inv-loop : tie.InvT-loop
-Inv-loop count ticks clocks n moved₀ i₀ moved i = (length clocks ≡ 8) × (i ≤ n) × ((k : ℕ) → k < i → getD clocks k 0 + ticks ≤ clock-limit) × (moved ≡ later i ticks clocks)
+Inv-loop count ticks clocks moving moved₀ i₀ moved i = (length clocks ≡ 8) × (i ≤ moving) × ((k : ℕ) → k < i → getD clocks k 0 + ticks ≤ clock-limit) × (moved ≡ later i ticks clocks)
 
 abbrev μ-loop : tie.MeasureT-loop
-μ-loop count ticks clocks n moved₀ i₀ moved i = n - i
+μ-loop count ticks clocks moving moved₀ i₀ moved i = moving - i
 
 at-most-eight-requires : tie.Need-at-most-eight-requires Inv-loop μ-loop
 at-most-eight-requires c κs = search needs

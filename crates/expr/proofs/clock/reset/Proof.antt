@@ -8,9 +8,6 @@ use Rattle.expr.proofs.Loops.{Filled, filled-none, filled-more, filled-
 use Rattle.expr.proofs.Clocks.{length-reset, getD-reset}
 use Rattle.expr.proofs.clock.reset.Statement.{statement}
 use Rattle.expr.proofs.clock.reset.Tie as tie
-use Rattle.expr.proofs.clock.reset.Reads as reads
-use Rattle.expr.proofs.clock.reset.Lts as lts
-use Rattle.expr.proofs.clock.reset_clock.Reads as reset-clock-reads
 
 abbrev Inv-loop : tie.InvT-loop
 Inv-loop bits clocks after₀ i₀ after i = Filled 8 (reset bits clocks) after i

@@ -5,23 +5,17 @@ use Rattle.expr.proofs.Bools.{cond-yes, cond-no}
 use borrow.Author.Needs.{needs}
 use Rattle.expr.proofs.clock.reset_clock.Statement.{statement}
 use Rattle.expr.proofs.clock.reset_clock.Tie as tie
-use Rattle.expr.proofs.clock.reset_clock.Reads as reads
-use Rattle.expr.proofs.clock.reset_clock.Lts as lts
 
--- src/clock.rt:127:17
 cast-if1 : tie.Need-cast-if1
 cast-if1 c = search needs
 
--- src/clock.rt:127:9
 shr-if1 : tie.Need-shr-if1
 shr-if1 c = search needs
 
--- src/clock.rt:123:1
 returns : tie.Need-returns
 unfolding has
 returns c = sym (cond-yes _ _ (eq-eqb _ 1 (c .if1 .taken)))
 
--- src/clock.rt:123:1
 returns-2 : tie.Need-returns-2
 unfolding has
 returns-2 c = sym (cond-no _ _ (ne-eqb _ 1 (c .if1 .left)))

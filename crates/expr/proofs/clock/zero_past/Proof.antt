@@ -8,8 +8,6 @@ use borrow.Author.Needs.{needs}
 use Prim.Native.Nat.{_-_}
 use Rattle.expr.proofs.clock.zero_past.Statement.{statement}
 use Rattle.expr.proofs.clock.zero_past.Tie as tie
-use Rattle.expr.proofs.clock.zero_past.Reads as reads
-use Rattle.expr.proofs.clock.zero_past.Lts as lts
 
 abbrev Inv-loop : tie.InvT-loop
 Inv-loop count clocks i₀ i = Passed (λ x. eqb x 0) 8 clocks count i

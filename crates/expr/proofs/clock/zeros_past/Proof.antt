@@ -5,12 +5,10 @@ use Prim.Native.Nat.{_-_}
 use borrow.Author.Tests.{eq-eqb, ne-eqb}
 use lib.IntN.{pos}
 use Rattle.expr.specs.Moves.{isZero, zerosPast}
-use Rattle.expr.proofs.Clocks.{is-zero}
+use Rattle.expr.proofs.Moves.{zero-bits}
 use Rattle.expr.proofs.Loops.{Passed, passed-none, passed-more, passed-not, passed-all}
 use Rattle.expr.proofs.clock.zeros_past.Statement.{statement}
 use Rattle.expr.proofs.clock.zeros_past.Tie as tie
-use Rattle.expr.proofs.clock.zeros_past.Reads as reads
-use Rattle.expr.proofs.clock.zeros_past.Lts as lts
 
 abbrev Inv-loop : tie.InvT-loop
 Inv-loop count values i₀ i = Passed isZero 16 values count i
@@ -29,7 +27,7 @@ array-copy-out-if1 c = search needs
 
 returns : tie.Need-returns Inv-loop μ-loop
 unfolding zerosPast
-returns c = sym (passed-not _ 16 _ _ _ (c .before .before .before .loop .inv) (pos 0) (c .before .before .loop-test .taken) (sym (is-zero _ (record { sfits = c .before .if12 .given })) ∙ ne-eqb _ 0 (c .if1 .taken)))
+returns c = sym (passed-not _ 16 _ _ _ (c .before .before .before .loop .inv) (pos 0) (c .before .before .loop-test .taken) (sym (zero-bits _ (record { sfits = c .before .if12 .given })) ∙ ne-eqb _ 0 (c .if1 .taken)))
 
 add-i : tie.Need-add-i Inv-loop μ-loop
 add-i c = omega arith
@@ -38,7 +36,7 @@ loop-less : tie.Need-loop-less Inv-loop μ-loop
 loop-less c = omega arith
 
 loop-again : tie.Need-loop-again Inv-loop μ-loop
-loop-again c = passed-more _ 16 _ _ _ (c .before .before .before .loop .inv) (pos 0) (c .before .before .loop-test .taken) (sym (is-zero _ (record { sfits = c .before .if12 .given })) ∙ eq-eqb _ 0 (c .if1 .left))
+loop-again c = passed-more _ 16 _ _ _ (c .before .before .before .loop .inv) (pos 0) (c .before .before .loop-test .taken) (sym (zero-bits _ (record { sfits = c .before .if12 .given })) ∙ eq-eqb _ 0 (c .if1 .left))
 
 returns-2 : tie.Need-returns-2 Inv-loop μ-loop
 unfolding zerosPast
