@@ -1,36 +1,35 @@
 -- Laws of bounds. On a tree the active states keep their own bounds just when the places of its picture keep theirs; after
 -- a step the same is told by the places where its transitions depart to.
 use mathlib.Core.Path.{_≡_, refl, sym, ap, _∙_, subst}
-use mathlib.Core.Bool.{Bool, true, false, cond, _&&_}
+use mathlib.Core.Bool.{Bool, true, false, cond, not, _&&_}
 use mathlib.Core.Logic.{⊎-elim, _≢_}
-use mathlib.Core.List.{List, [], _∷_, _++_, map, List·Memᴰ as Mem, List·Memᴰ·head as here, List·Memᴰ·tail as there, List·Memᴰ·append-cases as append-cases, List·Memᴰ·cases-cons as cases-cons}
+use mathlib.Core.List.{List, [], _∷_, map, List·Memᴰ as Mem, List·Memᴰ·head as here, List·Memᴰ·tail as there, List·Memᴰ·append-cases as append-cases, List·Memᴰ·cases-cons as cases-cons}
 use Prim.Native.Nat.{ℕ, zero, suc, _+_, _≤_, _<_}
 use native.Mathlib.Omega.{arith}
 use native.Mathlib.Decide.{ℕ-discrete, decLt}
-use borrow.Author.Tests.{eqb-true, eqb-false, eq-eqb, ne-eqb, not-true, not-false}
+use borrow.Author.Tests.{eqb-true, eq-eqb, ne-eqb}
 use lib.Dec.{eqb}
 use lib.ListN.{length, getD}
 use Rattle.expr.specs.Lists.{all, keep, implies}
 use Rattle.expr.specs.Clocks.{free, join, keeps}
-use Rattle.expr.specs.Label.{Label}
 use Rattle.expr.specs.Moves.{clocksAfter}
-use Rattle.expr.proofs.Bools.{clash, decided, and-l, and-r, both, implies-at, implies-by, same, cond-yes, cond-no}
-use Rattle.expr.proofs.Lists.{all-at, all-by, all-same, all-map, all-keep, keep-at, keep-by, map-at, map-by, below-at, getD-mem}
-use Rattle.expr.proofs.Rows.{ClockValues, IsRow, free-row, join-row, keeps-join, keeps-join-l, keeps-join-r, keeps-both, keeps-free, keeps-clocks-after, values-clocks-after}
-use Rattle.chart.specs.Chart.{Chart, Transition, stateAt, transitionAt, states, parentOf, basic, sequential, parallel, home}
-use Rattle.chart.specs.Tree.{under, children, sequentials, entered}
+use Rattle.expr.proofs.Bools.{clash, decided, and-l, and-r, both, implies-at, implies-by, same}
+use Rattle.expr.proofs.Lists.{all-at, all-by, all-same, all-map, all-keep, keep-at, map-at, map-by, below-at, getD-mem}
+use Rattle.expr.proofs.Rows.{ClockValues, IsRow, free-row, join-row, keeps-join, keeps-free, keeps-clocks-after, values-clocks-after}
+use Rattle.chart.specs.Chart.{Chart, Transition, transitionAt, states, parentOf, basic, sequential, parallel, home}
+use Rattle.chart.specs.Tree.{children, sequentials, entered}
 use Rattle.chart.specs.Machine.{isActive, isTree, boundsKept, after}
 use Rattle.chart.specs.declared.configuration.Configuration.{Configuration}
-use Rattle.chart.proofs.Tree.{size, states-at, states-by, Child, children-at, children-by, own-child, Parents, tree-induction, root-under, child-above, basic-not-parallel, sequential-not-parallel, unknown-parent, unknown-basic}
-use Rattle.chart.proofs.Entered.{Entry, entered-top, entered-under, entered-parent, entered-alone}
-use Rattle.chart.proofs.Active.{OneChild, one-child-by, IsTree, tree-at, active-known}
+use Rattle.chart.proofs.Tree.{size, states-at, states-by, Child, children-at, own-child, Parents, tree-induction, child-above, basic-not-parallel, sequential-not-parallel, unknown-parent, unknown-basic}
+use Rattle.chart.proofs.Entered.{Entry, entered-alone, entered-top, entered-below-root, entered-parent}
+use Rattle.chart.proofs.Active.{OneChild, one-child-by, IsTree, tree-at, bounds-kept-at, bounds-kept-by}
 use Rattle.chart.proofs.Rules.{Passed, kinds-left}
 use Rattle.chart.proofs.Ranges.{Ranges, kinds-of}
-use Rattle.chart.proofs.After.{Fires, after-cases, after-entered}
+use Rattle.chart.proofs.After.{Fires, after-clocks, after-cases, after-entered}
 use Rattle.chart.proofs.Step.{Together, together-fires, together-tree, transition-mem}
 use Rattle.flattener.specs.Flatten.{Pair, Place, idle, child, pre, post, pairs, entersBy, transitions, hasExit, hasEntry, places, own, carriedFrom, joined, joinAll, preBounds, arrival, arrivalBounds, boundsOf, departure}
 use Rattle.flattener.specs.Picture.{pictured}
-use Rattle.flattener.proofs.Automata.{Region, sequentials-at, sequentials-by}
+use Rattle.flattener.proofs.Automata.{sequentials-at, sequentials-by}
 
 -- rows: the bounds of states and places have a bound for each of eight clocks
 
@@ -109,6 +108,14 @@ unfoldable pub carriedBy : Chart → ℕ → List ℕ
 unfolding carriedFrom
 carriedBy c s = carriedFrom (suc s) c s
 
+pub carried-root : (c : Chart) → carriedBy c 0 ≡ own c 0
+unfolding carriedBy
+carried-root c = refl
+
+pub carried-none : (c : Chart) (s : ℕ) → s ≢ 0 → parallel c (parentOf c s) ≡ false → carriedBy c s ≡ free
+unfolding carriedBy
+carried-none c s d z = rw (ne-eqb s 0 d, z)
+
 module _ (c : Chart) (tree : Parents c) where
   enough : (n m s : ℕ) → s < size c → s < n → s < m → carriedFrom n c s ≡ carriedFrom m c s
   unfolding carriedFrom
@@ -120,19 +127,11 @@ module _ (c : Chart) (tree : Parents c) where
         ap (λ (r : List ℕ). cond (eqb s 0) (own c 0) (cond (parallel c (parentOf c s)) (join (own c s) r) free)) (enough n m (parentOf c s) (omega arith) (omega arith) (omega arith))
   ]
 
-  pub carried-root : carriedBy c 0 ≡ own c 0
-  unfolding carriedBy
-  carried-root = refl
-
   pub carried-parallel : (s : ℕ) → s < size c → s ≢ 0 → parallel c (parentOf c s) ≡ true → carriedBy c s ≡ join (own c s) (carriedBy c (parentOf c s))
   unfolding carriedBy
   carried-parallel s h d z =
       let l = tree .smaller s h d in
       rw (ne-eqb s 0 d, z) (ap (join (own c s)) (enough s (suc (parentOf c s)) (parentOf c s) (omega arith) l (omega arith)))
-
-  pub carried-none : (s : ℕ) → s ≢ 0 → parallel c (parentOf c s) ≡ false → carriedBy c s ≡ free
-  unfolding carriedBy
-  carried-none s d z = rw (ne-eqb s 0 d, z)
 
   pub joined-is : (s : ℕ) → s < size c → s ≢ 0 → joined c s ≡ join (own c s) (carriedBy c (parentOf c s))
   unfolding joined carriedBy
@@ -147,7 +146,11 @@ active-child c p q o =
     let k = keep-at p (children c q) (getD-mem (keep p (children c q)) 0 0 (omega (arith, one-child-by c p q o))) in
     o .alone _ (children-at c q (k .0)) (k .1)
 
-module _ (c : Chart) (passed : Passed c) (ranges : Ranges c) (cs : List ℕ) (values : ClockValues cs) where
+-- a state that is not the root, nor a parallel state's child, hands nothing down
+keeps-none : (c : Chart) (cs : List ℕ) → ClockValues cs → (s : ℕ) → s ≢ 0 → parallel c (parentOf c s) ≡ false → keeps (carriedBy c s) cs ≡ true
+keeps-none c cs values s d z = ap (λ (r : List ℕ). keeps r cs) (carried-none c s d z) ∙ keeps-free cs values
+
+module _ (c : Chart) (passed : Passed c) (ranges : Ranges c) (cs : List ℕ) where
   same-rows : (s n : ℕ) → s < size c → length (own c s) ≡ length (carriedBy c n)
   unfolding carriedBy
   same-rows s n h = own-row c ranges s h ∙ sym (carried-row c ranges (suc n) n)
@@ -160,20 +163,16 @@ module _ (c : Chart) (passed : Passed c) (ranges : Ranges c) (cs : List ℕ) (va
   keeps-carried : (s : ℕ) → s < size c → s ≢ 0 → parallel c (parentOf c s) ≡ true → keeps (carriedBy c s) cs ≡ (keeps (own c s) cs && keeps (carriedBy c (parentOf c s)) cs)
   keeps-carried s h d z = ap (λ (r : List ℕ). keeps r cs) (carried-parallel c (passed .tree) s h d z) ∙ keeps-join (own c s) (carriedBy c (parentOf c s)) cs (same-rows s (parentOf c s) h)
 
-  -- of any other state than the root
-  keeps-none : (s : ℕ) → s ≢ 0 → parallel c (parentOf c s) ≡ false → keeps (carriedBy c s) cs ≡ true
-  keeps-none s d z = ap (λ (r : List ℕ). keeps r cs) (carried-none c (passed .tree) s d z) ∙ keeps-free cs values
-
   parent-known : (s : ℕ) → s < size c → s ≢ 0 → parentOf c s < size c
   parent-known s h d = omega (arith, passed .tree .smaller s h d)
 
-  module _ (p : ℕ → Bool) (active : IsTree c p) where
+  module _ (values : ClockValues cs) (p : ℕ → Bool) (active : IsTree c p) where
     -- where the active states keep their own bounds, they keep those that are carried
     module _ (keep-own : (s : ℕ) → s < size c → p s ≡ true → keeps (own c s) cs ≡ true) where
       active-carried : (s : ℕ) → s < size c → p s ≡ true → keeps (carriedBy c s) cs ≡ true
       active-carried = tree-induction c (passed .tree) (λ s. p s ≡ true → keeps (carriedBy c s) cs ≡ true)
-          (λ a. ap (λ (r : List ℕ). keeps r cs) (carried-root c (passed .tree)) ∙ keep-own 0 (omega (arith, ranges .states-some)) a)
-          (λ s h d f a. ⊎-elim (λ z. keeps-carried s h d z ∙ both (keep-own s h a) (f (active .up s h d a))) (λ z. keeps-none s d z) (decided (parallel c (parentOf c s))))
+          (λ a. ap (λ (r : List ℕ). keeps r cs) (carried-root c) ∙ keep-own 0 (omega (arith, ranges .states-some)) a)
+          (λ s h d f a. ⊎-elim (λ z. keeps-carried s h d z ∙ both (keep-own s h a) (f (active .up s h d a))) (λ z. keeps-none c cs values s d z) (decided (parallel c (parentOf c s))))
 
       pub active-joined : (s : ℕ) → s < size c → s ≢ 0 → p s ≡ true → keeps (joined c s) cs ≡ true
       active-joined s h d a = keeps-joined s h d ∙ both (keep-own s h a) (active-carried (parentOf c s) (parent-known s h d) (active .up s h d a))
@@ -193,7 +192,7 @@ module _ (c : Chart) (passed : Passed c) (ranges : Ranges c) (cs : List ℕ) (va
       carried-down (suc n) s l h a = ⊎-elim
           (λ b. elim (ℕ-discrete s 0) [
             | yes e ↦ clash (ap (basic c) (sym e) ∙ b) root-composite
-            | no d ↦ ⊎-elim (λ z. clash b (passed .no-basic (parentOf c s) s (own-child c h d) z)) (λ z. keeps-none s d z) (decided (parallel c (parentOf c s)))
+            | no d ↦ ⊎-elim (λ z. clash b (passed .no-basic (parentOf c s) s (own-child c h d) z)) (λ z. keeps-none c cs values s d z) (decided (parallel c (parentOf c s)))
           ])
           (λ b. ⊎-elim
           (λ z. let r = passed .tree .fertile s h b in
@@ -206,7 +205,7 @@ module _ (c : Chart) (passed : Passed c) (ranges : Ranges c) (cs : List ℕ) (va
 
       pub active-own : (s : ℕ) → s < size c → p s ≡ true → keeps (own c s) cs ≡ true
       active-own s h a = elim (ℕ-discrete s 0) [
-        | yes e ↦ subst (λ (x : ℕ). keeps (own c x) cs ≡ true) (sym e) (ap (λ (r : List ℕ). keeps r cs) (sym (carried-root c (passed .tree))) ∙ carried-down (size c) 0 (omega arith) (omega arith) (active .root))
+        | yes e ↦ subst (λ (x : ℕ). keeps (own c x) cs ≡ true) (sym e) (ap (λ (r : List ℕ). keeps r cs) (sym (carried-root c)) ∙ carried-down (size c) 0 (omega arith) (omega arith) (active .root))
         | no d ↦ ⊎-elim
             (λ z. and-l (keeps (own c s) cs) _ (sym (keeps-carried s h d z) ∙ carried-down (size c) s (omega arith) h a))
             (λ z. let y = kinds-left c (kinds-of ranges) (parentOf c s) (parent-known s h d) (passed .tree .composite s h d) z in
@@ -241,3 +240,121 @@ bounds-pictured c passed ranges σ tree values =
     at-place : (q : ℕ) (b : Bool) → implies b (keeps (joined c (activeChild c (isActive σ) q)) (σ .clocks)) ≡ keeps (boundsOf c (cond b (child (activeChild c (isActive σ) q)) (idle q))) (σ .clocks)
     at-place q true = refl
     at-place q false = sym (keeps-free (σ .clocks) values)
+
+-- an exit changes no bounds: those where a transition departs to are those where it arrives
+pub departure-arrives : (c : Chart) (t : ℕ) → boundsOf c (departure c t) ≡ boundsOf c (arrival c t)
+unfolding departure boundsOf
+departure-arrives c t = go (hasExit c t)
+  where
+    p : Pair
+    p = record { state = transitionAt c t .destination; mark = transitionAt c t .entry }
+
+    alike : (b : Bool) → arrivalBounds c (cond b (pre p) (child (transitionAt c t .destination))) ≡ boundsOf c (cond b (pre p) (child (transitionAt c t .destination)))
+    alike true = unfold arrivalBounds in refl
+    alike false = unfold arrivalBounds in refl
+
+    go : (b : Bool) → boundsOf c (cond b (post t) (arrival c t)) ≡ boundsOf c (arrival c t)
+    go true = unfold arrival in alike (hasEntry c t)
+    go false = refl
+
+module _ (c : Chart) (ranges : Ranges c) (cs : List ℕ) (values : ClockValues cs) where
+  -- to keep the bounds before an entry is to keep the joined bounds of every state that it enters
+  pub keeps-pre : (p : Pair) → keeps (preBounds c p) cs ≡ all (λ s. implies (entered c (p .state) (p .mark) s) (keeps (joined c s) cs)) (states c)
+  unfolding preBounds
+  keeps-pre p = keeps-joinAll _ cs values (entered-rows c ranges p) ∙ all-map (λ r. keeps r cs) (joined c) _ ∙ all-keep _ (entered c (p .state) (p .mark)) (states c)
+
+  -- a destination without an entry is entered alone
+  keeps-alone : (d e : ℕ) → d < size c → e ≡ 255 → keeps (joined c d) cs ≡ all (λ s. implies (entered c d e s) (keeps (joined c s) cs)) (states c)
+  keeps-alone d e h z = same _ _
+      (λ k. all-by _ (states c) (λ s m. implies-by (entered c d e s) _ (λ a. ap (λ (x : ℕ). keeps (joined c x) cs) (eqb-true s d (sym (entered-alone c d e s z) ∙ a)) ∙ k)))
+      (λ k. implies-at (entered c d e d) _ (all-at _ (states c) k (states-by c h)) (entered-alone c d e d z ∙ eq-eqb d d refl))
+
+  -- to keep the bounds where a transition departs to is to keep the joined bounds of every state that it enters
+  pub keeps-departure : (t : ℕ) → transitionAt c t .destination < size c
+      → keeps (boundsOf c (departure c t)) cs ≡ all (λ s. implies (entered c (transitionAt c t .destination) (transitionAt c t .entry) s) (keeps (joined c s) cs)) (states c)
+  unfolding arrival boundsOf hasEntry
+  keeps-departure t h = ap (λ (r : List ℕ). keeps r cs) (departure-arrives c t) ∙ go (eqb e 255) refl
+    where
+      d : ℕ
+      d = transitionAt c t .destination
+
+      e : ℕ
+      e = transitionAt c t .entry
+
+      go : (b : Bool) → eqb e 255 ≡ b → keeps (boundsOf c (cond (not b) (pre (record { state = d; mark = e })) (child d))) cs ≡ all (λ s. implies (entered c d e s) (keeps (joined c s) cs)) (states c)
+      go true z = keeps-alone d e h (eqb-true e 255 z)
+      go false z = keeps-pre (record { state = d; mark = e })
+
+module _ (c : Chart) (passed : Passed c) (ranges : Ranges c) (cs : List ℕ) (values : ClockValues cs) (d e : ℕ) {q : ℕ} (to : Child c q d) (home-is : sequential c q ≡ true) (entry : Entry c d e) where
+  not-root : (s : ℕ) → entered c d e s ≡ true → s ≢ 0
+  not-root s a = entered-below-root c (passed .tree) (passed .entry-marks) d (to .known) s entry (to .below-root) a
+
+  -- the states that are entered below a sequential state keep their joined bounds, just when they keep their own and what that state hands down is kept
+  pub keeps-entered : all (λ s. implies (entered c d e s) (keeps (joined c s) cs)) (states c) ≡ (all (λ s. implies (entered c d e s) (keeps (own c s) cs)) (states c) && keeps (carriedBy c q) cs)
+  keeps-entered = same _ _
+      (λ k. both
+      (all-by _ (states c) (λ s m. implies-by (entered c d e s) _ (λ a. and-l (keeps (own c s) cs) _ (taken k s (states-at c m) a))))
+      (ap (λ (x : ℕ). keeps (carriedBy c x) cs) (sym (to .parent-is)) ∙ and-r (keeps (own c d) cs) _ (taken k d (to .known) (entered-top c (passed .tree) (passed .entry-marks) d (to .known) entry))))
+      (λ k. all-by _ (states c) (λ s m. implies-by (entered c d e s) _ (λ a. joined-kept (and-l (all _ (states c)) _ k) (and-r (all _ (states c)) _ k) s (states-at c m) a)))
+    where
+      taken : all (λ s. implies (entered c d e s) (keeps (joined c s) cs)) (states c) ≡ true → (s : ℕ) → s < size c → entered c d e s ≡ true → (keeps (own c s) cs && keeps (carriedBy c (parentOf c s)) cs) ≡ true
+      taken k s h a = sym (keeps-joined c passed ranges cs s h (not-root s a)) ∙ implies-at (entered c d e s) _ (all-at _ (states c) k (states-by c h)) a
+
+      own-kept : all (λ s. implies (entered c d e s) (keeps (own c s) cs)) (states c) ≡ true → (s : ℕ) → s < size c → entered c d e s ≡ true → keeps (own c s) cs ≡ true
+      own-kept k s h a = implies-at (entered c d e s) _ (all-at _ (states c) k (states-by c h)) a
+
+      carried-kept : all (λ s. implies (entered c d e s) (keeps (own c s) cs)) (states c) ≡ true → (s : ℕ) → s < size c → entered c d e s ≡ true → keeps (carriedBy c s) cs ≡ true
+      carried-kept k = tree-induction c (passed .tree) (λ s. entered c d e s ≡ true → keeps (carriedBy c s) cs ≡ true)
+          (λ a. absurd (not-root 0 a refl))
+          (λ s h z f a. ⊎-elim
+          (λ y. keeps-carried c passed ranges cs s h z y ∙ both (own-kept k s h a)
+          (f (entered-parent c (passed .tree) (passed .entry-marks) d (to .known) s entry h (λ x. clash y (ap (parallel c) (ap (parentOf c) x ∙ to .parent-is) ∙ sequential-not-parallel c q home-is)) a .1)))
+          (λ y. keeps-none c cs values s z y)
+          (decided (parallel c (parentOf c s))))
+
+      joined-kept : all (λ s. implies (entered c d e s) (keeps (own c s) cs)) (states c) ≡ true → keeps (carriedBy c q) cs ≡ true → (s : ℕ) → s < size c → entered c d e s ≡ true → keeps (joined c s) cs ≡ true
+      joined-kept k l s h a = keeps-joined c passed ranges cs s h (not-root s a) ∙ both (own-kept k s h a) (elim (ℕ-discrete s d) [
+        | yes x ↦ ap (λ (x : ℕ). keeps (carriedBy c x) cs) (ap (parentOf c) x ∙ to .parent-is) ∙ l
+        | no x ↦ let r = entered-parent c (passed .tree) (passed .entry-marks) d (to .known) s entry h x a in carried-kept k (parentOf c s) (omega (arith, passed .tree .smaller s h (r .0))) (r .1)
+      ])
+
+module _ (c : Chart) (passed : Passed c) (ranges : Ranges c) where
+  -- of a transition that fires: the states that it enters keep their own bounds, and its home's children keep what they carry
+  pub bounds-of-departure : (cs : List ℕ) → ClockValues cs → (p : ℕ → Bool) (m : ℕ) → Fires c p (transitionAt c m)
+      → keeps (boundsOf c (departure c m)) cs ≡ (all (λ s. implies (entered c (transitionAt c m .destination) (transitionAt c m .entry) s) (keeps (own c s) cs)) (states c) && keeps (carriedBy c (home c m)) cs)
+  unfolding home
+  bounds-of-departure cs values p m f = keeps-departure c ranges cs values m (f .to .known) ∙ keeps-entered c passed ranges cs values (transitionAt c m .destination) (transitionAt c m .entry) (f .to) (f .home-is) (f .entry-is)
+
+  -- after transitions that are taken together the bounds are kept, just when those of the places are where they depart to
+  pub bounds-after : (σ : Configuration) (ms : List ℕ) → isTree c σ ≡ true → ClockValues (σ .clocks) → boundsKept c σ ≡ true → Together c σ ms
+      → boundsKept c (after c (map (transitionAt c) ms) σ) ≡ all (λ m. keeps (boundsOf c (departure c m)) (clocksAfter (map (λ m. transitionAt c m .label) ms) (σ .clocks))) ms
+  unfolding own
+  bounds-after σ ms tree values kept together = same _ _ (λ k. all-by _ ms (λ m n. departs k m n)) (λ k. bounds-kept-by c τ (λ s h a. stands k s h a)) ∙ ap (λ (cs : List ℕ). all (λ m. keeps (boundsOf c (departure c m)) cs) ms) (after-clocks c σ ms)
+    where
+      τ : Configuration
+      τ = after c (map (transitionAt c) ms) σ
+
+      values-after : ClockValues (τ .clocks)
+      values-after = subst ClockValues (sym (after-clocks c σ ms)) (values-clocks-after _ (σ .clocks) values)
+
+      entered-bounds : (m : ℕ) → Mem m ms → keeps (boundsOf c (departure c m)) (τ .clocks) ≡ all (λ s. implies (entered c (transitionAt c m .destination) (transitionAt c m .entry) s) (keeps (joined c s) (τ .clocks))) (states c)
+      entered-bounds m n = keeps-departure c ranges (τ .clocks) values-after m (together-fires c passed ranges σ ms together m n .to .known)
+
+      departs : boundsKept c τ ≡ true → (m : ℕ) → Mem m ms → keeps (boundsOf c (departure c m)) (τ .clocks) ≡ true
+      departs k m n =
+          let f = together-fires c passed ranges σ ms together m n in
+          entered-bounds m n ∙ all-by _ (states c) (λ s i. implies-by (entered c (transitionAt c m .destination) (transitionAt c m .entry) s) _ (λ a.
+          active-joined c passed ranges (τ .clocks) values-after (isActive τ) (tree-at c τ (together-tree c passed ranges σ ms tree together)) (bounds-kept-at c τ k)
+          s (states-at c i) (entered-below-root c (passed .tree) (passed .entry-marks) _ (f .to .known) s (f .entry-is) (f .to .below-root) a) (after-entered c σ _ (ranges .states-few) (map-by (transitionAt c) n) s (states-at c i) a)))
+
+      comes : all (λ m. keeps (boundsOf c (departure c m)) (τ .clocks)) ms ≡ true → (s : ℕ) → s < size c → (m : ℕ) → Mem m ms → entered c (transitionAt c m .destination) (transitionAt c m .entry) s ≡ true → keeps (own c s) (τ .clocks) ≡ true
+      comes k s h m n a =
+          let f = together-fires c passed ranges σ ms together m n in
+          and-l (keeps (own c s) (τ .clocks)) _ (sym (keeps-joined c passed ranges (τ .clocks) s h (entered-below-root c (passed .tree) (passed .entry-marks) _ (f .to .known) s (f .entry-is) (f .to .below-root) a))
+          ∙ implies-at (entered c (transitionAt c m .destination) (transitionAt c m .entry) s) _ (all-at _ (states c) (sym (entered-bounds m n) ∙ all-at _ ms k n) (states-by c h)) a)
+
+      stands : all (λ m. keeps (boundsOf c (departure c m)) (τ .clocks)) ms ≡ true → (s : ℕ) → s < size c → isActive τ s ≡ true → keeps (own c s) (τ .clocks) ≡ true
+      stands k s h a = ⊎-elim
+          (λ b. subst (λ (cs : List ℕ). keeps (own c s) cs ≡ true) (sym (after-clocks c σ ms)) (keeps-clocks-after _ (own c s) (σ .clocks) (bounds-kept-at c σ kept s h b)))
+          (λ b. let r = map-at (transitionAt c) ms (b .1) in comes k s h (r .0) (r .1) (ap (λ (t : Transition). entered c (t .destination) (t .entry) s) (sym (r .2)) ∙ b .2))
+          (after-cases c σ (map (transitionAt c) ms) (ranges .states-few) s a)
