@@ -1,5 +1,11 @@
--- Laws of bounds. On a tree the active states keep their own bounds just when the places of its picture keep theirs; after
--- a step the same is told by the places where its transitions depart to.
+-- Laws of bounds, over the eight clocks of a configuration. The main ones:
+-- bounds-of-children: the active states of a tree keep their own bounds, just when the active child of every active
+--   sequential state keeps its joined ones
+-- bounds-pictured: so a configuration keeps its bounds, just when the places of its picture keep theirs
+-- keeps-pre, keeps-departure: the place before an entry, and the one where a transition departs to, keep their bounds, just
+--   when every state that is entered keeps its joined ones
+-- bounds-of-departure: that is, its own, and those that are carried from above the transition's home
+-- bounds-after: after a step the bounds are kept, just when the places where its transitions depart to keep theirs
 use mathlib.Core.Path.{_≡_, refl, sym, ap, _∙_, subst}
 use mathlib.Core.Bool.{Bool, true, false, cond, not, _&&_}
 use mathlib.Core.Logic.{⊎-elim, _≢_}
@@ -21,7 +27,7 @@ use Rattle.chart.specs.Tree.{children, sequentials, entered}
 use Rattle.chart.specs.Machine.{isActive, isTree, boundsKept, after}
 use Rattle.chart.specs.declared.configuration.Configuration.{Configuration}
 use Rattle.chart.proofs.Tree.{size, states-at, states-by, Child, children-at, own-child, Parents, tree-induction, child-above, basic-not-parallel, sequential-not-parallel, unknown-parent, unknown-basic}
-use Rattle.chart.proofs.Entered.{Entry, entered-alone, entered-top, entered-below-root, entered-parent}
+use Rattle.chart.proofs.Entered.{Entry, allEntered, all-entered-at, all-entered-by, entered-alone, entered-top, entered-below-root, entered-parent}
 use Rattle.chart.proofs.Active.{OneChild, one-child-by, IsTree, tree-at, bounds-kept-at, bounds-kept-by}
 use Rattle.chart.proofs.Rules.{Passed, kinds-left}
 use Rattle.chart.proofs.Ranges.{Ranges, kinds-of}
@@ -96,12 +102,17 @@ module _ (c : Chart) (ranges : Ranges c) where
   pub places-row : (q : ℕ) (p : Place) → Mem p (places c q) → IsRow (boundsOf c p)
   unfolding places boundsOf transitions
   places-row q p m =
-      ⊎-elim (λ e. ap (λ (x : Place). length (boundsOf c x)) e ∙ free-row)
-      (λ m. ⊎-elim (λ k. let r = map-at child _ k in ap (λ (x : Place). length (boundsOf c x)) (r .2) ∙ joined-row (r .0) (children-at c q (r .1) .known))
-      (λ m. ⊎-elim (λ k. let r = map-at pre (pairs (entersBy c) (c .entries) (children c q)) k in ap (λ (x : Place). length (boundsOf c x)) (r .2) ∙ pre-row (r .0))
-      (λ k. let r = map-at post _ k in ap (λ (x : Place). length (boundsOf c x)) (r .2)
-      ∙ arrival-row (r .0) (ranges .of-transition _ (transition-mem c (r .0) (below-at _ (keep-at _ _ (r .1) .0))) .destination-known))
-      (append-cases (map pre (pairs (entersBy c) (c .entries) (children c q))) m)) (append-cases (map child (children c q)) m)) (cases-cons m)
+      ⊎-elim (λ e. at-place e free-row)
+      (λ m. ⊎-elim (λ k. let r = map-at child _ k in at-place (r .2) (joined-row (r .0) (children-at c q (r .1) .known)))
+      (λ m. ⊎-elim (λ k. let r = map-at pre entries k in at-place (r .2) (pre-row (r .0)))
+      (λ k. let r = map-at post _ k in at-place (r .2) (arrival-row (r .0) (ranges .of-transition _ (transition-mem c (r .0) (below-at _ (keep-at _ _ (r .1) .0))) .destination-known)))
+      (append-cases (map pre entries) m)) (append-cases (map child (children c q)) m)) (cases-cons m)
+    where
+      at-place : {p r : Place} → p ≡ r → IsRow (boundsOf c r) → IsRow (boundsOf c p)
+      at-place e k = ap (λ (x : Place). length (boundsOf c x)) e ∙ k
+
+      entries : List Pair
+      entries = pairs (entersBy c) (c .entries) (children c q)
 
 -- what the children of a state carry of the bounds above them
 unfoldable pub carriedBy : Chart → ℕ → List ℕ
@@ -259,19 +270,19 @@ departure-arrives c t = go (hasExit c t)
 
 module _ (c : Chart) (ranges : Ranges c) (cs : List ℕ) (values : ClockValues cs) where
   -- to keep the bounds before an entry is to keep the joined bounds of every state that it enters
-  pub keeps-pre : (p : Pair) → keeps (preBounds c p) cs ≡ all (λ s. implies (entered c (p .state) (p .mark) s) (keeps (joined c s) cs)) (states c)
+  pub keeps-pre : (p : Pair) → keeps (preBounds c p) cs ≡ allEntered c (p .state) (p .mark) (λ s. keeps (joined c s) cs)
   unfolding preBounds
   keeps-pre p = keeps-joinAll _ cs values (entered-rows c ranges p) ∙ all-map (λ r. keeps r cs) (joined c) _ ∙ all-keep _ (entered c (p .state) (p .mark)) (states c)
 
   -- a destination without an entry is entered alone
-  keeps-alone : (d e : ℕ) → d < size c → e ≡ 255 → keeps (joined c d) cs ≡ all (λ s. implies (entered c d e s) (keeps (joined c s) cs)) (states c)
+  keeps-alone : (d e : ℕ) → d < size c → e ≡ 255 → keeps (joined c d) cs ≡ allEntered c d e (λ s. keeps (joined c s) cs)
   keeps-alone d e h z = same _ _
-      (λ k. all-by _ (states c) (λ s m. implies-by (entered c d e s) _ (λ a. ap (λ (x : ℕ). keeps (joined c x) cs) (eqb-true s d (sym (entered-alone c d e s z) ∙ a)) ∙ k)))
-      (λ k. implies-at (entered c d e d) _ (all-at _ (states c) k (states-by c h)) (entered-alone c d e d z ∙ eq-eqb d d refl))
+      (λ k. all-entered-by c d e (λ s. keeps (joined c s) cs) (λ s l a. ap (λ (x : ℕ). keeps (joined c x) cs) (eqb-true s d (sym (entered-alone c d e s z) ∙ a)) ∙ k))
+      (λ k. all-entered-at c d e (λ s. keeps (joined c s) cs) k d h (entered-alone c d e d z ∙ eq-eqb d d refl))
 
   -- to keep the bounds where a transition departs to is to keep the joined bounds of every state that it enters
   pub keeps-departure : (t : ℕ) → transitionAt c t .destination < size c
-      → keeps (boundsOf c (departure c t)) cs ≡ all (λ s. implies (entered c (transitionAt c t .destination) (transitionAt c t .entry) s) (keeps (joined c s) cs)) (states c)
+      → keeps (boundsOf c (departure c t)) cs ≡ allEntered c (transitionAt c t .destination) (transitionAt c t .entry) (λ s. keeps (joined c s) cs)
   unfolding arrival boundsOf hasEntry
   keeps-departure t h = ap (λ (r : List ℕ). keeps r cs) (departure-arrives c t) ∙ go (eqb e 255) refl
     where
@@ -281,80 +292,92 @@ module _ (c : Chart) (ranges : Ranges c) (cs : List ℕ) (values : ClockValues c
       e : ℕ
       e = transitionAt c t .entry
 
-      go : (b : Bool) → eqb e 255 ≡ b → keeps (boundsOf c (cond (not b) (pre (record { state = d; mark = e })) (child d))) cs ≡ all (λ s. implies (entered c d e s) (keeps (joined c s) cs)) (states c)
+      go : (b : Bool) → eqb e 255 ≡ b → keeps (boundsOf c (cond (not b) (pre (record { state = d; mark = e })) (child d))) cs ≡ allEntered c d e (λ s. keeps (joined c s) cs)
       go true z = keeps-alone d e h (eqb-true e 255 z)
       go false z = keeps-pre (record { state = d; mark = e })
 
+-- a state d and those that are entered with it, below the sequential state q
 module _ (c : Chart) (passed : Passed c) (ranges : Ranges c) (cs : List ℕ) (values : ClockValues cs) (d e : ℕ) {q : ℕ} (to : Child c q d) (home-is : sequential c q ≡ true) (entry : Entry c d e) where
   not-root : (s : ℕ) → entered c d e s ≡ true → s ≢ 0
   not-root s a = entered-below-root c (passed .tree) (passed .entry-marks) d (to .known) s entry (to .below-root) a
 
-  -- the states that are entered below a sequential state keep their joined bounds, just when they keep their own and what that state hands down is kept
-  pub keeps-entered : all (λ s. implies (entered c d e s) (keeps (joined c s) cs)) (states c) ≡ (all (λ s. implies (entered c d e s) (keeps (own c s) cs)) (states c) && keeps (carriedBy c q) cs)
+  with-parent : (s : ℕ) → s < size c → s ≢ d → entered c d e s ≡ true → entered c d e (parentOf c s) ≡ true
+  with-parent s h x a = entered-parent c (passed .tree) (passed .entry-marks) d (to .known) s entry h x a .1
+
+  module _ (keep-own : (s : ℕ) → s < size c → entered c d e s ≡ true → keeps (own c s) cs ≡ true) (keep-above : keeps (carriedBy c q) cs ≡ true) where
+    entered-carried : (s : ℕ) → s < size c → entered c d e s ≡ true → keeps (carriedBy c s) cs ≡ true
+    entered-carried = tree-induction c (passed .tree) (λ s. entered c d e s ≡ true → keeps (carriedBy c s) cs ≡ true)
+        (λ a. absurd (not-root 0 a refl))
+        (λ s h z f a. ⊎-elim
+        (λ y. keeps-carried c passed ranges cs s h z y ∙ both (keep-own s h a) (f (with-parent s h (λ x. clash y (ap (parallel c) (ap (parentOf c) x ∙ to .parent-is) ∙ sequential-not-parallel c q home-is)) a)))
+        (λ y. keeps-none c cs values s z y)
+        (decided (parallel c (parentOf c s))))
+
+    entered-joined : (s : ℕ) → s < size c → entered c d e s ≡ true → keeps (joined c s) cs ≡ true
+    entered-joined s h a = keeps-joined c passed ranges cs s h (not-root s a) ∙ both (keep-own s h a) (elim (ℕ-discrete s d) [
+      | yes x ↦ ap (λ (x : ℕ). keeps (carriedBy c x) cs) (ap (parentOf c) x ∙ to .parent-is) ∙ keep-above
+      | no x ↦ entered-carried (parentOf c s) (parent-known c passed ranges cs s h (not-root s a)) (with-parent s h x a)
+    ])
+
+  -- they keep their joined bounds, just when they keep their own and what is carried below q is kept
+  pub keeps-entered : allEntered c d e (λ s. keeps (joined c s) cs) ≡ (allEntered c d e (λ s. keeps (own c s) cs) && keeps (carriedBy c q) cs)
   keeps-entered = same _ _
       (λ k. both
-      (all-by _ (states c) (λ s m. implies-by (entered c d e s) _ (λ a. and-l (keeps (own c s) cs) _ (taken k s (states-at c m) a))))
-      (ap (λ (x : ℕ). keeps (carriedBy c x) cs) (sym (to .parent-is)) ∙ and-r (keeps (own c d) cs) _ (taken k d (to .known) (entered-top c (passed .tree) (passed .entry-marks) d (to .known) entry))))
-      (λ k. all-by _ (states c) (λ s m. implies-by (entered c d e s) _ (λ a. joined-kept (and-l (all _ (states c)) _ k) (and-r (all _ (states c)) _ k) s (states-at c m) a)))
+      (all-entered-by c d e (λ s. keeps (own c s) cs) (λ s h a. and-l (keeps (own c s) cs) _ (each k s h a)))
+      (ap (λ (x : ℕ). keeps (carriedBy c x) cs) (sym (to .parent-is)) ∙ and-r (keeps (own c d) cs) _ (each k d (to .known) (entered-top c (passed .tree) (passed .entry-marks) d (to .known) entry))))
+      (λ k. all-entered-by c d e (λ s. keeps (joined c s) cs) (entered-joined (all-entered-at c d e (λ s. keeps (own c s) cs) (and-l (all _ (states c)) _ k)) (and-r (all _ (states c)) _ k)))
     where
-      taken : all (λ s. implies (entered c d e s) (keeps (joined c s) cs)) (states c) ≡ true → (s : ℕ) → s < size c → entered c d e s ≡ true → (keeps (own c s) cs && keeps (carriedBy c (parentOf c s)) cs) ≡ true
-      taken k s h a = sym (keeps-joined c passed ranges cs s h (not-root s a)) ∙ implies-at (entered c d e s) _ (all-at _ (states c) k (states-by c h)) a
-
-      own-kept : all (λ s. implies (entered c d e s) (keeps (own c s) cs)) (states c) ≡ true → (s : ℕ) → s < size c → entered c d e s ≡ true → keeps (own c s) cs ≡ true
-      own-kept k s h a = implies-at (entered c d e s) _ (all-at _ (states c) k (states-by c h)) a
-
-      carried-kept : all (λ s. implies (entered c d e s) (keeps (own c s) cs)) (states c) ≡ true → (s : ℕ) → s < size c → entered c d e s ≡ true → keeps (carriedBy c s) cs ≡ true
-      carried-kept k = tree-induction c (passed .tree) (λ s. entered c d e s ≡ true → keeps (carriedBy c s) cs ≡ true)
-          (λ a. absurd (not-root 0 a refl))
-          (λ s h z f a. ⊎-elim
-          (λ y. keeps-carried c passed ranges cs s h z y ∙ both (own-kept k s h a)
-          (f (entered-parent c (passed .tree) (passed .entry-marks) d (to .known) s entry h (λ x. clash y (ap (parallel c) (ap (parentOf c) x ∙ to .parent-is) ∙ sequential-not-parallel c q home-is)) a .1)))
-          (λ y. keeps-none c cs values s z y)
-          (decided (parallel c (parentOf c s))))
-
-      joined-kept : all (λ s. implies (entered c d e s) (keeps (own c s) cs)) (states c) ≡ true → keeps (carriedBy c q) cs ≡ true → (s : ℕ) → s < size c → entered c d e s ≡ true → keeps (joined c s) cs ≡ true
-      joined-kept k l s h a = keeps-joined c passed ranges cs s h (not-root s a) ∙ both (own-kept k s h a) (elim (ℕ-discrete s d) [
-        | yes x ↦ ap (λ (x : ℕ). keeps (carriedBy c x) cs) (ap (parentOf c) x ∙ to .parent-is) ∙ l
-        | no x ↦ let r = entered-parent c (passed .tree) (passed .entry-marks) d (to .known) s entry h x a in carried-kept k (parentOf c s) (omega (arith, passed .tree .smaller s h (r .0))) (r .1)
-      ])
+      each : allEntered c d e (λ s. keeps (joined c s) cs) ≡ true → (s : ℕ) → s < size c → entered c d e s ≡ true → (keeps (own c s) cs && keeps (carriedBy c (parentOf c s)) cs) ≡ true
+      each k s h a = sym (keeps-joined c passed ranges cs s h (not-root s a)) ∙ all-entered-at c d e (λ s. keeps (joined c s) cs) k s h a
 
 module _ (c : Chart) (passed : Passed c) (ranges : Ranges c) where
-  -- of a transition that fires: the states that it enters keep their own bounds, and its home's children keep what they carry
+  -- of a transition that fires: the states that it enters keep their own bounds, and what is carried below its home is kept
   pub bounds-of-departure : (cs : List ℕ) → ClockValues cs → (p : ℕ → Bool) (m : ℕ) → Fires c p (transitionAt c m)
-      → keeps (boundsOf c (departure c m)) cs ≡ (all (λ s. implies (entered c (transitionAt c m .destination) (transitionAt c m .entry) s) (keeps (own c s) cs)) (states c) && keeps (carriedBy c (home c m)) cs)
+      → keeps (boundsOf c (departure c m)) cs ≡ (allEntered c (transitionAt c m .destination) (transitionAt c m .entry) (λ s. keeps (own c s) cs) && keeps (carriedBy c (home c m)) cs)
   unfolding home
   bounds-of-departure cs values p m f = keeps-departure c ranges cs values m (f .to .known) ∙ keeps-entered c passed ranges cs values (transitionAt c m .destination) (transitionAt c m .entry) (f .to) (f .home-is) (f .entry-is)
 
-  -- after transitions that are taken together the bounds are kept, just when those of the places are where they depart to
-  pub bounds-after : (σ : Configuration) (ms : List ℕ) → isTree c σ ≡ true → ClockValues (σ .clocks) → boundsKept c σ ≡ true → Together c σ ms
-      → boundsKept c (after c (map (transitionAt c) ms) σ) ≡ all (λ m. keeps (boundsOf c (departure c m)) (clocksAfter (map (λ m. transitionAt c m .label) ms) (σ .clocks))) ms
-  unfolding own
-  bounds-after σ ms tree values kept together = same _ _ (λ k. all-by _ ms (λ m n. departs k m n)) (λ k. bounds-kept-by c τ (λ s h a. stands k s h a)) ∙ ap (λ (cs : List ℕ). all (λ m. keeps (boundsOf c (departure c m)) cs) ms) (after-clocks c σ ms)
-    where
-      τ : Configuration
-      τ = after c (map (transitionAt c) ms) σ
+  -- transitions that are taken together
+  module _ (σ : Configuration) (ms : List ℕ) (tree : isTree c σ ≡ true) (values : ClockValues (σ .clocks)) (together : Together c σ ms) where
+    abbrev next : Configuration
+    next = after c (map (transitionAt c) ms) σ
 
-      values-after : ClockValues (τ .clocks)
-      values-after = subst ClockValues (sym (after-clocks c σ ms)) (values-clocks-after _ (σ .clocks) values)
+    enters : ℕ → ℕ → Bool
+    enters m s = entered c (transitionAt c m .destination) (transitionAt c m .entry) s
 
-      entered-bounds : (m : ℕ) → Mem m ms → keeps (boundsOf c (departure c m)) (τ .clocks) ≡ all (λ s. implies (entered c (transitionAt c m .destination) (transitionAt c m .entry) s) (keeps (joined c s) (τ .clocks))) (states c)
-      entered-bounds m n = keeps-departure c ranges (τ .clocks) values-after m (together-fires c passed ranges σ ms together m n .to .known)
+    next-values : ClockValues (next .clocks)
+    next-values = subst ClockValues (sym (after-clocks c σ ms)) (values-clocks-after _ (σ .clocks) values)
 
-      departs : boundsKept c τ ≡ true → (m : ℕ) → Mem m ms → keeps (boundsOf c (departure c m)) (τ .clocks) ≡ true
-      departs k m n =
-          let f = together-fires c passed ranges σ ms together m n in
-          entered-bounds m n ∙ all-by _ (states c) (λ s i. implies-by (entered c (transitionAt c m .destination) (transitionAt c m .entry) s) _ (λ a.
-          active-joined c passed ranges (τ .clocks) values-after (isActive τ) (tree-at c τ (together-tree c passed ranges σ ms tree together)) (bounds-kept-at c τ k)
-          s (states-at c i) (entered-below-root c (passed .tree) (passed .entry-marks) _ (f .to .known) s (f .entry-is) (f .to .below-root) a) (after-entered c σ _ (ranges .states-few) (map-by (transitionAt c) n) s (states-at c i) a)))
+    next-departure : (m : ℕ) → Mem m ms → keeps (boundsOf c (departure c m)) (next .clocks) ≡ allEntered c (transitionAt c m .destination) (transitionAt c m .entry) (λ s. keeps (joined c s) (next .clocks))
+    next-departure m n = keeps-departure c ranges (next .clocks) next-values m (together-fires c passed ranges σ ms together m n .to .known)
 
-      comes : all (λ m. keeps (boundsOf c (departure c m)) (τ .clocks)) ms ≡ true → (s : ℕ) → s < size c → (m : ℕ) → Mem m ms → entered c (transitionAt c m .destination) (transitionAt c m .entry) s ≡ true → keeps (own c s) (τ .clocks) ≡ true
-      comes k s h m n a =
-          let f = together-fires c passed ranges σ ms together m n in
-          and-l (keeps (own c s) (τ .clocks)) _ (sym (keeps-joined c passed ranges (τ .clocks) s h (entered-below-root c (passed .tree) (passed .entry-marks) _ (f .to .known) s (f .entry-is) (f .to .below-root) a))
-          ∙ implies-at (entered c (transitionAt c m .destination) (transitionAt c m .entry) s) _ (all-at _ (states c) (sym (entered-bounds m n) ∙ all-at _ ms k n) (states-by c h)) a)
+    next-below-root : (m : ℕ) → Mem m ms → (s : ℕ) → enters m s ≡ true → s ≢ 0
+    unfolding enters
+    next-below-root m n s a = let f = together-fires c passed ranges σ ms together m n in entered-below-root c (passed .tree) (passed .entry-marks) _ (f .to .known) s (f .entry-is) (f .to .below-root) a
 
-      stands : all (λ m. keeps (boundsOf c (departure c m)) (τ .clocks)) ms ≡ true → (s : ℕ) → s < size c → isActive τ s ≡ true → keeps (own c s) (τ .clocks) ≡ true
-      stands k s h a = ⊎-elim
-          (λ b. subst (λ (cs : List ℕ). keeps (own c s) cs ≡ true) (sym (after-clocks c σ ms)) (keeps-clocks-after _ (own c s) (σ .clocks) (bounds-kept-at c σ kept s h b)))
-          (λ b. let r = map-at (transitionAt c) ms (b .1) in comes k s h (r .0) (r .1) (ap (λ (t : Transition). entered c (t .destination) (t .entry) s) (sym (r .2)) ∙ b .2))
-          (after-cases c σ (map (transitionAt c) ms) (ranges .states-few) s a)
+    -- what is entered is active then, and so keeps its joined bounds
+    departure-kept : boundsKept c next ≡ true → (m : ℕ) → Mem m ms → keeps (boundsOf c (departure c m)) (next .clocks) ≡ true
+    unfolding own enters
+    departure-kept k m n = next-departure m n ∙ all-entered-by c _ _ (λ s. keeps (joined c s) (next .clocks)) (λ s h a.
+        active-joined c passed ranges (next .clocks) next-values (isActive next) (tree-at c next (together-tree c passed ranges σ ms tree together)) (bounds-kept-at c next k)
+        s h (next-below-root m n s a) (after-entered c σ _ (ranges .states-few) (map-by (transitionAt c) n) s h a))
+
+    -- what is active then was active, and no reset breaks its bounds, or is entered
+    active-kept : boundsKept c σ ≡ true → all (λ m. keeps (boundsOf c (departure c m)) (next .clocks)) ms ≡ true → (s : ℕ) → s < size c → isActive next s ≡ true → keeps (own c s) (next .clocks) ≡ true
+    unfolding own enters
+    active-kept kept k s h a = ⊎-elim
+        (λ b. subst (λ (cs : List ℕ). keeps (own c s) cs ≡ true) (sym (after-clocks c σ ms)) (keeps-clocks-after _ (own c s) (σ .clocks) (bounds-kept-at c σ kept s h b)))
+        (λ b. let r = map-at (transitionAt c) ms (b .1) in arrived (r .0) (r .1) (ap (λ (t : Transition). entered c (t .destination) (t .entry) s) (sym (r .2)) ∙ b .2))
+        (after-cases c σ (map (transitionAt c) ms) (ranges .states-few) s a)
+      where
+        arrived : (m : ℕ) → Mem m ms → enters m s ≡ true → keeps (own c s) (next .clocks) ≡ true
+        arrived m n b = and-l (keeps (own c s) (next .clocks)) _ (sym (keeps-joined c passed ranges (next .clocks) s h (next-below-root m n s b))
+            ∙ all-entered-at c _ _ (λ s. keeps (joined c s) (next .clocks)) (sym (next-departure m n) ∙ all-at _ ms k n) s h b)
+
+    -- if the bounds were kept, they are kept then, just when those of the places are where the transitions depart to
+    pub bounds-after : boundsKept c σ ≡ true
+        → boundsKept c (after c (map (transitionAt c) ms) σ) ≡ all (λ m. keeps (boundsOf c (departure c m)) (clocksAfter (map (λ m. transitionAt c m .label) ms) (σ .clocks))) ms
+    unfolding own
+    bounds-after kept =
+        same _ _ (λ k. all-by _ ms (λ m n. departure-kept k m n)) (λ k. bounds-kept-by c next (active-kept kept k))
+        ∙ ap (λ (cs : List ℕ). all (λ m. keeps (boundsOf c (departure c m)) cs) ms) (after-clocks c σ ms)
