@@ -87,10 +87,6 @@ keeps-join a b cs e =
     least : keeps (join a b) cs ≡ true → (i : ℕ) → i < length a → getD cs i 0 ≤ min (getD a i 0) (getD b i 0)
     least h i l = rw getD-join at (keeps-at (join a b) cs h i (omega (arith, length-join a b)))
 
--- no bound is kept by each clock that can be written in four bytes
-pub keeps-free : (cs : List ℕ) → ((i : ℕ) → i < 8 → getD cs i 0 ≤ no-bound) → keeps free cs ≡ true
-keeps-free cs f = keeps-by free cs (λ i l. rw (getD-replicate 8 i no-bound 0 l) (f i l))
-
 -- reset
 length-from : (m j : ℕ) (cs : List ℕ) → length (resetFrom m j cs) ≡ length cs
 unfolding resetFrom
