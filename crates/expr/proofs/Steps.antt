@@ -88,6 +88,7 @@ module _ (rendezvous : ℕ) {m : Member} {rest ms : List Member} (e : ms ≡ m �
       case-broadcast o r = let d' = rw e at d in let o' = rw e at o in rw (e, d', s, o', r)
 
 module _ (label : ℕ → Label) (owner : ℕ → ℕ) where
+  -- the members alone tell that one sends
   one-sender : (ch : ℕ) (ms : List ℕ) → oneSender ch (map (member label owner) ms) ≡ oneSends label ch ms
   unfolding oneSender oneSends senders signalsOn takesPart sends receives
   one-sender ch ms = rw (keep-map, length-map, all-map)
@@ -98,26 +99,22 @@ module _ (label : ℕ → Label) (owner : ℕ → ℕ) where
     unfolding allowed caseOf
     allowed-case rendezvous [] = refl
     allowed-case rendezvous (m ∷ ms) =
-        let l = length-map ms (member label owner) in
-        go (distinct (map owner (m ∷ ms))) (eqb (label m .signal) 0) (oneSends label (label m .channel) (m ∷ ms)) (ltb (label m .channel) rendezvous) (eqb (length ms) 0) (eqb (length ms) 1) (label m .channel) (λ ch. maximal label owner active count ch (m ∷ ms))
-        (ap distinct (map-map ownerOf (member label owner) (m ∷ ms))) (one-sender (label m .channel) (m ∷ ms)) (ap (λ (n : ℕ). eqb n 0) l) (ap (λ (n : ℕ). eqb n 1) l)
+        let ch = label m .channel in
+        rw (ap distinct (map-map ownerOf (member label owner) (m ∷ ms)), length-map ms (member label owner), one-sender ch (m ∷ ms))
+        (go (distinct (map owner (m ∷ ms))) (eqb (label m .signal) 0) (oneSends label ch (m ∷ ms)) (ltb ch rendezvous) (eqb (length ms) 0) (eqb (length ms) 1))
       where
-        said : (d z o r a b : Bool) (ch : ℕ) → Case
-        said d z o r a b ch = cond d (cond z (allowedIf a) (cond o (cond r (allowedIf b) (Case.Broadcast ch)) Case.Refused)) Case.Refused
+        go : (d z o r a b : Bool) →
+            (d && cond z a (o && cond r b (maximal label owner active count (label m .channel) (m ∷ ms))))
+            ≡ caseAllows (cond d (cond z (allowedIf a) (cond o (cond r (allowedIf b) (Case.Broadcast (label m .channel))) Case.Refused)) Case.Refused) (λ ch. maximal label owner active count ch (m ∷ ms))
+        go false z o r a b = refl
+        go true true o r true b = refl
+        go true true o r false b = refl
+        go true false false r a b = refl
+        go true false true true a true = refl
+        go true false true true a false = refl
+        go true false true false a b = refl
 
-        as-said : (d z o r a b : Bool) (ch : ℕ) (f : ℕ → Bool) → (d && cond z a (o && cond r b (f ch))) ≡ caseAllows (said d z o r a b ch) f
-        as-said false z o r a b ch f = refl
-        as-said true true o r true b ch f = refl
-        as-said true true o r false b ch f = refl
-        as-said true false false r a b ch f = refl
-        as-said true false true true a true ch f = refl
-        as-said true false true true a false ch f = refl
-        as-said true false true false a b ch f = refl
-
-        go : (d z o r a b : Bool) (ch : ℕ) (f : ℕ → Bool) {d' o' a' b' : Bool} → d' ≡ d → o' ≡ o → a' ≡ a → b' ≡ b → (d && cond z a (o && cond r b (f ch))) ≡ caseAllows (said d' z o' r a' b' ch) f
-        go d z o r a b ch f p q s t = rw (p, q, s, t) (as-said d z o r a b ch f)
-
-    -- no further active receiver fits, by the owners of the receivers: 255 is none's
+    -- no further active receiver fits, by the owners of the receivers, where 255 is no owner
     pub maximal-none : (ch : ℕ) (ms : List ℕ) → ((m : ℕ) → m < count → owner m ≢ 255) →
         maximal label owner active count ch ms ≡ noneFits (map (λ m. cond (receives (label m) ch && active m) (owner m) 255) (below count)) (map owner ms)
     unfolding maximal noneFits

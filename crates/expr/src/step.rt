@@ -149,11 +149,7 @@ fn owners_distinct(members: [Member; 16], count: usize) -> bool
 fn allowed_if(b: bool) -> Case
     ensures { λ r. ⌜ r ≡ allowedIf b ⌝ }
 {
-    if b {
-        Case::Allowed
-    } else {
-        Case::Refused
-    }
+    if b { Case::Allowed } else { Case::Refused }
 }
 
 // The case of at most sixteen members. The first channels are rendezvous channels.

@@ -67,7 +67,7 @@ receivers-again c = let a = c .before .before in
     let e = drop-next (s .receivers .now) _ 0 (a .receivers-test .taken) in
     ⊎-elim
     (λ w. let k : w .1 .c < length (s .owners .now) = omega (arith, w .1 .inv .2, w .2 .left) in
-      (w .5 ∙ w .1 .inv .0 ∙ g .0, g .1 ∙ none-fits-next _ e (w .1 .inv .1 ∙ any-stop _ (drop-next _ _ 0 k) (eq-eqb _ _ (w .4 .taken)))))
+    (w .5 ∙ w .1 .inv .0 ∙ g .0, g .1 ∙ none-fits-next _ e (w .1 .inv .1 ∙ any-stop _ (drop-next _ _ 0 k) (eq-eqb _ _ (w .4 .taken)))))
     (λ w. (w .1 ∙ g .0, g .1 ∙ none-fits-other _ e (w .0 .left)))
     (c .if1 .came)
 
