@@ -34,7 +34,7 @@ fn expression_at(s: &[u8], at: usize, variables: u8) -> Reached
 }
 
 // The value of the expression at a place.
-fn value_at(s: &[u8], at: usize, variables: u8, values: &[i32; 16]) -> ValueRead
+pub fn value_at(s: &[u8], at: usize, variables: u8, values: &[i32; 16]) -> ValueRead
     ensures { λ r. ⌜ valueOf (now (s .entry)) r ≡ mapped (value (now (values .entry))) (expression variables 8 (onward (now (s .entry)) at)) ⌝ }
 {
     if s.len() < at {
