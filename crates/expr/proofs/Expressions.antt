@@ -13,10 +13,11 @@ use lib.IntN.{ℤ}
 use lib.ListN.{length, getD}
 use Rattle.expr.specs.Reading.{length-fault, range-fault, Read, got, fault, Reader, yield, next, _>>=_, byte, byte4, such, mapped}
 use Rattle.expr.specs.Integer.{signed, floorDiv, floorMod}
-use Rattle.expr.specs.Expression.{Expr, constant, variable, sum, difference, product, quotient, remainder, constant-code, codes, divisor, two, by, after, expression, value, combined, divided}
+use Rattle.expr.specs.Expression.{Expr, constant, variable, sum, difference, product, quotient, remainder, Code, constant-code, variable-code, sum-code, difference-code, product-code, quotient-code, remainder-code, codes, divisor, two, by, after, expression, value, combined, divided}
 use Rattle.expr.specs.Places.{onward}
 use Rattle.expr.proofs.Bools.{and-l, and-r}
 use Rattle.expr.proofs.Reading.{such-at, mapped-fault, mapped-bind, mapped-yield}
+use Rattle.expr.proofs.InFront.{InFront, yield-front, fault-front, bind-front, such-front, byte-front, byte4-front}
 use Rattle.expr.proofs.Places.{onward-all, byte-some, byte-none, bind-got, bind-fault, such-got, such-not, such-fault}
 
 -- codes 2, 3 and 4, and codes 5 and 6
@@ -165,3 +166,32 @@ module _ {A : Type 0} (f : Expr → A) (v k : ℕ) (s : List ℕ) (some : length
 
   pub read-by : (h : A → ℕ → A) → ((a : Expr) (d : ℕ) → f (division (getD s 0 0) a d) ≡ h (f a) d) → 5 ≤ getD s 0 0 → getD s 0 0 < 7 → mapped f (expression v k s) ≡ ((λ t. mapped f (expression v (k - 1) t)) >>= λ x t. mapped (h x) (divisor t)) (onward s 1)
   read-by h e n l = ap (mapped f) (expression-after v s k some left l ∙ ap (λ (r : Reader Expr). r (onward s 1)) (after-by v _ _ n l)) ∙ by-mapped f _ _ _ h e
+
+-- an expression is read in front, whatever follows it
+divisor-front : InFront divisor
+unfolding divisor
+divisor-front = such-front byte4 _ byte4-front
+
+module _ (r : Reader Expr) (p : InFront r) where
+  two-front : (f : Expr → Expr → Expr) → InFront (two f r)
+  unfolding two
+  two-front f = bind-front _ _ p λ a. bind-front _ _ p λ b. yield-front _
+
+  by-front : (f : Expr → ℕ → Expr) → InFront (by f r)
+  unfolding by
+  by-front f = bind-front _ _ p λ a. bind-front _ _ divisor-front λ d. yield-front _
+
+  after-front : (v : ℕ) (c : Code) → InFront (after v r c)
+  unfolding after
+  after-front v constant-code = bind-front _ _ byte4-front λ x. yield-front _
+  after-front v variable-code = bind-front _ _ (such-front byte _ byte-front) λ i. yield-front _
+  after-front v sum-code = two-front _
+  after-front v difference-code = two-front _
+  after-front v product-code = two-front _
+  after-front v quotient-code = by-front _
+  after-front v remainder-code = by-front _
+
+pub expression-front : (v k : ℕ) → InFront (expression v k)
+unfolding expression
+expression-front v zero = bind-front _ _ byte-front λ c. fault-front _
+expression-front v (suc k) = bind-front _ _ (such-front byte _ byte-front) λ c. after-front (expression v k) (expression-front v k) v (getD codes c constant-code)

@@ -40,6 +40,10 @@ pub onward-all : (s : List ℕ) → onward s 0 ≡ s
 unfolding onward
 onward-all s = refl
 
+pub length-onward : (s : List ℕ) (n : ℕ) → length (onward s n) ≡ length s - n
+unfolding onward
+length-onward s n = length-drop n s
+
 pub onward-onward : (s : List ℕ) (a n : ℕ) → onward (onward s a) n ≡ onward s (a + n)
 unfolding onward
 onward-onward s a n = drop-drop n a s

@@ -220,12 +220,14 @@ evaluate-returns-7 t c = (c .evaluate-variable .ensures .0 ∙ sym (read-variabl
 
 evaluate-returns-8 : (t : ℕ) → evaluate-lts.Need-returns-8 (evaluate-cs t) (evaluate-at t) evaluate.Post
 unfolding yield
-evaluate-returns-8 t c = 
-    (rw (read-back (c .combine .result) (c .combine .ok), c .combine .ensures, read-back (c .before .before .before .before .before .before .before .first .given .0 .0) (c .before .before .before .before .before .before .known-told .given .0 .1), read-back (c .before .before .second .given .0 .0) (c .before .known-told2 .given .0 .1))
-    (sym (operands t (c .before .before .before .before .before .before .before .before .before) ∙ bind-got _ _ _ (first-got t (c .before .before .before .before .before .before .before .before .before) _ (c .before .before .before .before .before .before .before .first .given .1)) ∙ bind-got _ _ _ (second-got t (c .before .before .before .before) _ (c .before .before .second .given .1)))), second-in t (c .before .before .before .before) _ (c .before .before .second .given .1))
+evaluate-returns-8 t c = (
+  rw (read-back (c .combine .result) (c .combine .ok), c .combine .ensures, read-back (c .before .before .before .before .before .before .before .first .given .0 .0) (c .before .before .before .before .before .before .known-told .given .0 .1), read-back (c .before .before .second .given .0 .0) (c .before .known-told2 .given .0 .1))
+      (sym (operands t (c .before .before .before .before .before .before .before .before .before) ∙ bind-got _ _ _ (first-got t (c .before .before .before .before .before .before .before .before .before) _ (c .before .before .before .before .before .before .before .first .given .1)) ∙ bind-got _ _ _ (second-got t (c .before .before .before .before) _ (c .before .before .second .given .1)))),
+  second-in t (c .before .before .before .before) _ (c .before .before .second .given .1),
+)
 
 evaluate-returns-9 : (t : ℕ) → evaluate-lts.Need-returns-9 (evaluate-cs t) (evaluate-at t) evaluate.Post
-evaluate-returns-9 t c = 
+evaluate-returns-9 t c =
     ((rw (read-back (c .before .before .first2 .given .0 .0) (c .before .known-told3 .given .0 .1)) at (c .divide .ensures .0)) ∙ sym (dividend t (c .before .before .before .before) ∙ bind-got _ _ _ (dividend-got t (c .before .before .before .before) _ (c .before .before .first2 .given .1))), c .divide .ensures .1)
 
 evaluate-returns-10 : (t : ℕ) → evaluate-lts.Need-returns-10 (evaluate-cs t) (evaluate-at t) evaluate.Post
