@@ -1,10 +1,9 @@
 -- How the reader of expressions answers, by the code and by what it answers on the arguments. What is read is taken as
 -- some f has it, so that the same laws serve where only the end is looked at and where the value is.
 use mathlib.Core.Path.{_≡_, refl, sym, ap, _∙_}
-use mathlib.Core.Bool.{Bool, true, false, _&&_}
 use mathlib.Core.List.{List}
 use mathlib.Core.Logic.{_≢_}
-use Prim.Native.Nat.{ℕ, zero, suc, _+_, _-_, _≤_, _<_, _^_}
+use Prim.Native.Nat.{ℕ, zero, suc, _-_, _≤_, _<_, _^_}
 use native.Mathlib.Omega.{arith}
 use native.Mathlib.Numerals.{sub-one}
 use borrow.Author.Tests.{lt-ltb, le-ltb, leb-true, ltb-true, eq-eqb, ne-eqb}
@@ -16,7 +15,7 @@ use Rattle.expr.specs.Integer.{signed, floorDiv, floorMod}
 use Rattle.expr.specs.Expression.{Expr, constant, variable, sum, difference, product, quotient, remainder, Code, constant-code, variable-code, sum-code, difference-code, product-code, quotient-code, remainder-code, codes, divisor, two, by, after, expression, value, combined, divided}
 use Rattle.expr.specs.Places.{onward}
 use Rattle.expr.proofs.Bools.{and-l, and-r}
-use Rattle.expr.proofs.Reading.{such-at, mapped-fault, mapped-bind, mapped-yield}
+use Rattle.expr.proofs.Reading.{such-at, mapped-fault, mapped-yield}
 use Rattle.expr.proofs.InFront.{InFront, yield-front, fault-front, bind-front, such-front, byte-front, byte4-front}
 use Rattle.expr.proofs.Places.{onward-all, byte-some, byte-none, bind-got, bind-fault, such-got, such-not, such-fault}
 

@@ -2,13 +2,13 @@
 use mathlib.Core.Path.{_≡_, refl, sym, ap, _∙_}
 use mathlib.Core.Bool.{Bool, true, false, cond}
 use mathlib.Core.List.{List, _++_}
-use Prim.Native.Nat.{ℕ, zero, suc, _+_, _*_, _-_, _≤_, _<_}
+use Prim.Native.Nat.{ℕ, _+_, _-_, _≤_}
 use native.Mathlib.Omega.{arith}
 use borrow.Author.Tests.{le-leb, leb-true}
 use lib.Dec.{leb}
-use lib.ListN.{length, getD, drop, length-append, List·getD-append}
+use lib.ListN.{length, drop, length-append, List·getD-append}
 use lib.Seq.{drop-append-le}
-use Rattle.expr.specs.Reading.{Fault, Read, got, fault, length-fault, Reader, yield, _>>=_, field, byte, byte4, such, mapped}
+use Rattle.expr.specs.Reading.{Fault, got, fault, length-fault, Reader, yield, _>>=_, field, byte, byte4, such, mapped}
 use Rattle.expr.specs.Places.{onward}
 use Rattle.expr.proofs.Reading.{no-answer, bind-at, such-at, mapped-got, mapped-at}
 use Rattle.expr.proofs.Places.{onward-all, onward-onward, length-onward, bind-got, such-got}

@@ -8,7 +8,7 @@ use borrow.Author.Tests.{le-leb, lt-leb, eq-eqb, ne-eqb, ltb-true, ltb-false}
 use lib.Dec.{ltb}
 use lib.ListN.{length, getD, take, drop, length-take, length-drop}
 use lib.Seq.{getD-drop, drop-drop, take-all}
-use Rattle.expr.specs.Places.{onward, faultOf, byteOf, byteEnd, wordOf, wordEnd, FrameFits, reached, reachedEnd, byteReached, wordReached, wholly}
+use Rattle.expr.specs.Places.{onward, byteOf, byteEnd, wordOf, wordEnd, FrameFits, reached, reachedEnd, byteReached, wordReached, wholly}
 use Rattle.expr.specs.declared.field.Fault.the-variants as Fl
 use Rattle.expr.specs.declared.field.ByteRead.{ByteRead}
 use Rattle.expr.specs.declared.field.ByteRead.the-variants as Bt
@@ -59,6 +59,9 @@ module _ {A : Type 0} (r : Reader A) (s : List ℕ) (a : ℕ) where
 
   pub part-fault : {f : Fault} → r (take (length s - a) (drop a s)) ≡ fault f → r (onward s a) ≡ fault f
   part-fault h = simp (part-onward s a) at h
+
+pub part-end : (s : List ℕ) (a : ℕ) {e n : ℕ} → a ≤ length s → e ≡ n → e ≤ length (take (length s - a) (drop a s)) → a + n ≤ length s
+part-end s a h q l = omega (arith, length-take (length s - a) (drop a s), length-drop a s)
 
 -- the value of a byte, of two and of four, at a place
 pub byte-some : (s : List ℕ) (at : ℕ) → at < length s → byte (onward s at) ≡ got (getD s at 0) (onward s (at + 1))
