@@ -7,7 +7,7 @@ use Prim.Native.Nat.{ℕ, zero, suc, _-_, _≤_, _<_, _^_}
 use native.Mathlib.Omega.{arith}
 use native.Mathlib.Numerals.{sub-one}
 use borrow.Author.Tests.{lt-ltb, le-ltb, leb-true, ltb-true, eq-eqb, ne-eqb}
-use lib.Dec.{ltb}
+use lib.Dec.{leb, ltb}
 use lib.IntN.{ℤ}
 use lib.ListN.{length, getD}
 use Rattle.expr.specs.Reading.{length-fault, range-fault, Read, got, fault, Reader, yield, next, _>>=_, byte, byte4, such, mapped}
@@ -89,7 +89,7 @@ divided-remainder {c} x d h = rw (ne-eqb c 5 h)
 -- a divisor that is read is in its range
 pub divisor-in : (s : List ℕ) {d : ℕ} {t : List ℕ} → divisor s ≡ got d t → (1 ≤ d) × (d < 2 ^ 31)
 unfolding divisor
-divisor-in s {d} h = let w = such-at byte4 _ s h in (leb-true 1 d (and-l _ _ (w .0)), ltb-true d (2 ^ 31) (and-r (lib.Dec.leb 1 d) _ (w .0)))
+divisor-in s {d} h = let w = such-at byte4 _ s h in (leb-true 1 d (and-l _ _ (w .0)), ltb-true d (2 ^ 31) (and-r (leb 1 d) _ (w .0)))
 
 -- an operator's two arguments, one read after the other, and an argument with its divisor
 module _ {A : Type 0} (f : Expr → A) (r : Reader Expr) (s : List ℕ) where
@@ -118,26 +118,33 @@ module _ {A : Type 0} (f : Expr → A) (r : Reader Expr) (s : List ℕ) where
       go (fault x) = refl
 
 -- an expression by its first byte
+module _ (s : List ℕ) where
+  no-byte : length s ≡ 0 → byte s ≡ fault length-fault
+  no-byte h = ap byte (sym (onward-all s)) ∙ byte-none s 0 (omega arith)
+
+  first-byte : length s ≢ 0 → byte s ≡ got (getD s 0 0) (onward s 1)
+  first-byte h = ap byte (sym (onward-all s)) ∙ byte-some s 0 (omega arith)
+
 module _ (v : ℕ) (s : List ℕ) where
   expression-empty : (k : ℕ) → length s ≡ 0 → expression v k s ≡ fault length-fault
   unfolding expression
-  expression-empty zero h = bind-fault _ _ s (ap byte (sym (onward-all s)) ∙ byte-none s 0 (omega arith))
-  expression-empty (suc k) h = bind-fault _ _ s (such-fault _ _ s (ap byte (sym (onward-all s)) ∙ byte-none s 0 (omega arith)))
+  expression-empty zero h = bind-fault _ _ s (no-byte s h)
+  expression-empty (suc k) h = bind-fault _ _ s (such-fault _ _ s (no-byte s h))
 
   expression-deep : (k : ℕ) → length s ≢ 0 → k ≡ 0 → expression v k s ≡ fault range-fault
   unfolding expression
-  expression-deep zero h e = bind-got _ _ s (ap byte (sym (onward-all s)) ∙ byte-some s 0 (omega arith))
+  expression-deep zero h e = bind-got _ _ s (first-byte s h)
   expression-deep (suc k) h e = absurd (omega arith)
 
   expression-unknown : (k : ℕ) → length s ≢ 0 → 7 ≤ getD s 0 0 → expression v k s ≡ fault range-fault
   unfolding expression
   expression-unknown zero h l = expression-deep zero h refl
-  expression-unknown (suc k) h l = bind-fault _ _ s (such-not _ _ s (ap byte (sym (onward-all s)) ∙ byte-some s 0 (omega arith)) (le-ltb _ _ l))
+  expression-unknown (suc k) h l = bind-fault _ _ s (such-not _ _ s (first-byte s h) (le-ltb _ _ l))
 
   expression-after : (k : ℕ) → length s ≢ 0 → k ≢ 0 → getD s 0 0 < 7 → expression v k s ≡ after v (expression v (k - 1)) (getD codes (getD s 0 0) constant-code) (onward s 1)
   unfolding expression
   expression-after zero h n l = absurd (n refl)
-  expression-after (suc k) h n l = bind-got _ _ s (such-got _ _ s (ap byte (sym (onward-all s)) ∙ byte-some s 0 (omega arith)) (lt-ltb _ _ l)) ∙ rw sub-one
+  expression-after (suc k) h n l = bind-got _ _ s (such-got _ _ s (first-byte s h) (lt-ltb _ _ l)) ∙ rw sub-one
 
 module _ {A : Type 0} (f : Expr → A) (v k : ℕ) (s : List ℕ) where
   pub read-empty : length s ≡ 0 → mapped f (expression v k s) ≡ fault length-fault

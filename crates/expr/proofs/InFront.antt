@@ -1,4 +1,4 @@
--- Readers that take some bytes in front: what they leave is the rest, and they do not look at it.
+-- Readers that take some bytes in front: they leave the rest, and what they read does not depend on it.
 use mathlib.Core.Path.{_≡_, refl, sym, ap, _∙_}
 use mathlib.Core.Bool.{Bool, true, false, cond}
 use mathlib.Core.List.{List, _++_}
