@@ -1,6 +1,6 @@
 -- Laws of signed numbers: how the machine reads them, which results fit 64 bits, the floored quotient and remainder by
 -- sign and magnitude, and the relation that a number stands for.
-use mathlib.Core.Path.{_≡_, refl, sym, ap, ap₂, _∙_}
+use mathlib.Core.Path.{_≡_, refl, ap, ap₂, _∙_}
 use mathlib.Core.Bool.{Bool, true, false, cond}
 use Prim.Native.Nat.{ℕ, zero, suc, _+_, _-_, _*_, _/_, _%_, _^_, _≤_, _<_}
 use native.Mathlib.Omega.{arith}
@@ -13,7 +13,7 @@ use borrow.Author.Tests.{ltb-true, lt-ltb, le-ltb}
 use mir.Syntax.{Width, w32, w64}
 use mir.Val.{SFits, ofZ, toZ}
 use mir.ValLaws.{toZ-ofZ}
-use Rattle.expr.specs.Integer.{signed, residue, wrap, floorDiv, floorMod}
+use Rattle.expr.specs.Integer.{signed, residue, floorDiv, floorMod}
 use Rattle.expr.specs.Guard.{lt, relations}
 use Rattle.expr.proofs.Bools.{clash}
 
@@ -21,8 +21,11 @@ use Rattle.expr.proofs.Bools.{clash}
 pub read-back : (z : ℤ) → mag z < 2 ^ 31 → toZ w32 (ofZ w32 z) ≡ z
 read-back z h = toZ-ofZ w32 z (record { sfits = h })
 
-pub fits-wide : {z : ℤ} → SFits w32 z → SFits w64 z
+fits-wide : {z : ℤ} → SFits w32 z → SFits w64 z
 fits-wide f = record { sfits = lt-trans (f .sfits) (lit< tt) }
+
+pub cast-fits : (z : ℤ) → SFits w32 z → SFits w64 (toZ w32 (ofZ w32 z))
+cast-fits z f = rw (toZ-ofZ w32 z f) (fits-wide f)
 
 pub read-wide : (z : ℤ) → SFits w32 z → toZ w64 (ofZ w64 (toZ w32 (ofZ w32 z))) ≡ z
 read-wide z f = ap (λ (v : ℤ). toZ w64 (ofZ w64 v)) (toZ-ofZ w32 z f) ∙ toZ-ofZ w64 z (fits-wide f)

@@ -100,17 +100,17 @@ fn equal(x: i32, y: i32) -> bool
     if x <= y { y <= x } else { false }
 }
 
-// Whether two numbers stand in a relation: <, <=, >, >=, ==, != are 0 to 5.
+// Whether two numbers stand in the relation of this number; a number that stands for none is taken as 0.
 pub fn compare(relation: u8, x: i32, y: i32) -> bool
     ensures { λ r. ⌜ r ≡ compareℤ (getD relations relation lt) x y ⌝ }
 {
     match relation {
-        1 => x <= y,
-        2 => y < x,
-        3 => y <= x,
-        4 => equal(x, y),
-        5 => !equal(x, y),
-        _ => x < y,
+        1 => x <= y, // le
+        2 => y < x, // gt
+        3 => y <= x, // ge
+        4 => equal(x, y), // eq
+        5 => !equal(x, y), // ne
+        _ => x < y, // lt
     }
 }
 

@@ -1,3 +1,4 @@
+-- One arm for each relation.
 use mathlib.Core.Path.{_∙_, ap}
 use mathlib.Core.Bool.{not, _&&_}
 use lib.Signed.{ltZ, leZ}

@@ -1,3 +1,4 @@
+-- One arm for each relation.
 use Rattle.expr.specs.Guard.{relations, compareℕ}
 use Rattle.expr.proofs.Integers.{first-relation}
 use Rattle.expr.proofs.signed.compare_clocks.Statement.{statement}

@@ -1,17 +1,18 @@
+-- A difference of two 32-bit numbers fits 64 bits, and `wrap` gives its low 32.
 use borrow.Author.Needs.{needs}
 use mathlib.Core.Path.{_∙_, ap}
-use mir.Syntax.{w32, w64}
+use mir.Syntax.{w64}
 use mir.ValLaws.{toZ-ofZ}
 use Rattle.expr.specs.Integer.{wrap}
-use Rattle.expr.proofs.Integers.{read-back, fits-wide, read-wide, sub-fits}
+use Rattle.expr.proofs.Integers.{read-back, cast-fits, read-wide, sub-fits}
 use Rattle.expr.proofs.signed.difference.Statement.{statement}
 use Rattle.expr.proofs.signed.difference.Tie as tie
 
 cast-wrap : tie.Need-cast-wrap
-cast-wrap c = rw (toZ-ofZ w32 (c .args .x) (c .fits .x)) (fits-wide (c .fits .x))
+cast-wrap c = cast-fits _ (c .fits .x)
 
 cast-wrap-2 : tie.Need-cast-wrap-2
-cast-wrap-2 c = rw (toZ-ofZ w32 (c .args .y) (c .fits .y)) (fits-wide (c .fits .y))
+cast-wrap-2 c = cast-fits _ (c .fits .y)
 
 sub-wrap : tie.Need-sub-wrap
 sub-wrap c = rw (read-wide (c .args .x) (c .fits .x), read-wide (c .args .y) (c .fits .y)) (sub-fits _ _ (c .fits .x) (c .fits .y))

@@ -1,3 +1,4 @@
+-- Each is at most the other.
 use mathlib.Core.Path.{sym, _∙_}
 use lib.Signed.{leZ}
 use Rattle.expr.proofs.Integers.{read-both}

@@ -1,3 +1,4 @@
+-- The number, or its complement below zero.
 use mathlib.Core.Path.{ap}
 use native.Mathlib.Omega.{arith}
 use lib.IntN.{natAbs}

@@ -1,17 +1,16 @@
+-- The quotient of the magnitudes, with the sign.
 use mathlib.Core.Path.{_≡_, _∙_, ap}
 use native.Mathlib.Omega.{arith}
 use native.Mathlib.Nat.{div-le-self}
 use Prim.Native.Nat.{_<_, _/_, _^_}
 use lib.Signed.{mag}
-use mir.Syntax.{w32}
-use mir.ValLaws.{toZ-ofZ}
 use borrow.Author.Needs.{needs}
-use Rattle.expr.proofs.Integers.{read-back, read-wide, fits-wide, quotient-by-sign}
+use Rattle.expr.proofs.Integers.{read-back, read-wide, cast-fits, quotient-by-sign}
 use Rattle.expr.proofs.signed.quotient.Statement.{statement}
 use Rattle.expr.proofs.signed.quotient.Tie as tie
 
 cast-z : tie.Need-cast-z
-cast-z c = rw (toZ-ofZ w32 (c .args .x) (c .fits .x)) (fits-wide (c .fits .x))
+cast-z c = cast-fits _ (c .fits .x)
 
 magnitude-requires : tie.Need-magnitude-requires
 magnitude-requires c κs = search needs

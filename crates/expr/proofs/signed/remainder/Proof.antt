@@ -1,17 +1,17 @@
+-- The remainder of the magnitudes, counted from the other end below zero.
 use mathlib.Core.Path.{_≡_, _∙_, sym}
 use native.Mathlib.Omega.{arith}
 use native.Mathlib.Nat.{mod-lt}
 use Prim.Native.Nat.{_<_, _%_}
 use mir.Syntax.{w32, w64}
 use mir.Val.{toZ, ofZ}
-use mir.ValLaws.{toZ-ofZ}
 use borrow.Author.Needs.{needs}
-use Rattle.expr.proofs.Integers.{read-back, read-wide, fits-wide, remainder-negative, remainder-not-negative}
+use Rattle.expr.proofs.Integers.{read-back, read-wide, cast-fits, remainder-negative, remainder-not-negative}
 use Rattle.expr.proofs.signed.remainder.Statement.{statement}
 use Rattle.expr.proofs.signed.remainder.Tie as tie
 
 cast-z : tie.Need-cast-z
-cast-z c = rw (toZ-ofZ w32 (c .args .x) (c .fits .x)) (fits-wide (c .fits .x))
+cast-z c = cast-fits _ (c .fits .x)
 
 magnitude-requires : tie.Need-magnitude-requires
 magnitude-requires c κs = search needs

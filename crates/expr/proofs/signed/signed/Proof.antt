@@ -1,3 +1,4 @@
+-- Below the half the number itself, above it the complement.
 use mathlib.Core.Path.{_∙_, sym}
 use borrow.Author.Needs.{needs}
 use Rattle.expr.proofs.Integers.{read-back, signed-low, signed-high}

@@ -1,3 +1,4 @@
+-- The number, or its complement.
 use lib.IntN.{negsuc}
 use mir.Syntax.{w32}
 use mir.ValLaws.{toZ-ofZ, toZ-pos}

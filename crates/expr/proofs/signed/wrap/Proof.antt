@@ -1,3 +1,4 @@
+-- The residue by the sign, read as signed.
 use mathlib.Core.Path.{_≡_, _∙_, sym, ap}
 use mir.Syntax.{w64}
 use mir.Val.{toZ, ofZ}
