@@ -40,9 +40,9 @@ pub onward-all : (s : List ℕ) → onward s 0 ≡ s
 unfolding onward
 onward-all s = refl
 
-pub length-onward : (s : List ℕ) (n : ℕ) → length (onward s n) ≡ length s - n
+pub length-onward : (s : List ℕ) (at : ℕ) → length (onward s at) ≡ length s - at
 unfolding onward
-length-onward s n = length-drop n s
+length-onward s at = length-drop at s
 
 pub onward-onward : (s : List ℕ) (a n : ℕ) → onward (onward s a) n ≡ onward s (a + n)
 unfolding onward

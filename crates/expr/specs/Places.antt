@@ -99,6 +99,10 @@ abbrev pub wordReached : WordRead → Reached
 wordReached (Wd.Value x n) = Rd.At n
 wordReached (Wd.Fault f) = Rd.Fault f
 
+abbrev pub testReached : TestRead → Reached
+testReached (Te.Value b n) = Rd.At n
+testReached (Te.Fault f) = Rd.Fault f
+
 -- the place after a record of `size` bytes that ends at `to`, where its reader reached so much of them
 abbrev pub wholly : Reached → ℕ → ℕ → Reached
 wholly (Rd.At used) size to = cond (ltb used size) (Rd.Fault Fl.Length) (Rd.At to)

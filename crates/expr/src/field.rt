@@ -1,9 +1,10 @@
 // Fields of a record, read from left to right: one, two and four bytes, and the frame of a record.
 ghost use mathlib.Core.Path.{_≡_};
-ghost use Prim.Native.Nat.{_+_, _*_, _-_, _≤_};
-ghost use lib.ListN.{length};
-ghost use lib.Dec.{ltb};
-ghost use Rattle.expr.specs.Reading.{byte, byte2, byte4, such, framed, mapped};
+ghost use Prim.Native.Nat.{_+_, _*_, _-_, _≤_, _^_};
+ghost use lib.ListN.{length, getD};
+ghost use mathlib.Core.Bool.{_||_};
+ghost use lib.Dec.{ltb, eqb};
+ghost use Rattle.expr.specs.Reading.{got, byte, byte2, byte4, such, framed, mapped};
 ghost use Rattle.expr.specs.Integer.{signed};
 ghost use Rattle.expr.specs.Places.{onward, byteOf, byteEnd, shortOf, shortEnd, wordOf, wordEnd, valueOf, valueEnd, frameOf, FrameFits, wholly, byteFault, shortFault, wordFault, valueFault, testFault, frameFault, reachedFault};
 use crate::signed::signed;
@@ -124,6 +125,13 @@ pub fn left(s: &[u8], at: usize) -> usize
     if at < s.len() { s.len() - at } else { 0 }
 }
 
+// The byte at a place, 0 past the end.
+pub fn byte_at(s: &[u8], at: usize) -> u8
+    ensures { λ r. ⌜ r ≡ getD (now (s .entry)) at 0 ⌝ }
+{
+    if at < s.len() { s[at] } else { 0 }
+}
+
 pub fn read_byte(s: &[u8], at: usize) -> ByteRead
     ensures means { λ r. ⌜ byteOf (now (s .entry)) r ≡ byte (onward (now (s .entry)) at) ⌝ }
     ensures within { λ r. ⌜ byteEnd r ≤ length (now (s .entry)) ⌝ }
@@ -149,6 +157,49 @@ pub fn read_byte_below(s: &[u8], at: usize, limit: u8) -> ByteRead
     }
 }
 
+// A number below a limit, or 255 for none.
+fn known_or_none(x: u8, limit: u8) -> bool
+    ensures { λ r. ⌜ r ≡ (ltb x limit || eqb x 255) ⌝ }
+{
+    x < limit || x == 255
+}
+
+pub fn read_byte_or_none(s: &[u8], at: usize, limit: u8) -> ByteRead
+    ensures { λ r. ⌜ byteOf (now (s .entry)) r ≡ such byte (λ x. ltb x limit || eqb x 255) (onward (now (s .entry)) at) ⌝ }
+{
+    let b = read_byte(s, at);
+    let ByteRead::Value(x, _) = b else {
+        return b;
+    };
+    if known_or_none(x, limit) {
+        b
+    } else {
+        ByteRead::Fault(Fault::Range)
+    }
+}
+
+// A number of so many bits.
+pub fn in_width(x: u32, width: u8) -> bool
+    ensures { λ r. ⌜ r ≡ ltb x (2 ^ width) ⌝ }
+{
+    if width < 32 { x >> width == 0 } else { true }
+}
+
+// A set of marks in a byte, of which only the first `width` are in use.
+pub fn read_marks(s: &[u8], at: usize, width: u8) -> ByteRead
+    ensures { λ r. ⌜ byteOf (now (s .entry)) r ≡ such byte (λ x. ltb x (2 ^ width)) (onward (now (s .entry)) at) ⌝ }
+{
+    let b = read_byte(s, at);
+    let ByteRead::Value(x, _) = b else {
+        return b;
+    };
+    if in_width(x as u32, width) {
+        b
+    } else {
+        ByteRead::Fault(Fault::Range)
+    }
+}
+
 // A big-endian number of two bytes.
 pub fn short_of(a: u8, b: u8) -> u16
     ensures { λ r. ⌜ r ≡ 256 * a + b ⌝ }
@@ -164,6 +215,32 @@ pub fn read_short(s: &[u8], at: usize) -> ShortRead
         ShortRead::Fault(Fault::Length)
     } else {
         ShortRead::Value(short_of(s[at], s[at + 1]), at + 2)
+    }
+}
+
+// The two bytes at a place that has them, else 0.
+pub fn short_at(s: &[u8], at: usize) -> u16
+    ensures { λ r. ⌜ ((x : _) (t : _) → byte2 (onward (now (s .entry)) at) ≡ got x t → r ≡ x) ⌝ }
+{
+    let h = read_short(s, at);
+    let ShortRead::Value(x, _) = h else {
+        return 0;
+    };
+    x
+}
+
+// A set of marks in two bytes, of which only the first `width` are in use.
+pub fn read_long_marks(s: &[u8], at: usize, width: u8) -> ShortRead
+    ensures { λ r. ⌜ shortOf (now (s .entry)) r ≡ such byte2 (λ x. ltb x (2 ^ width)) (onward (now (s .entry)) at) ⌝ }
+{
+    let h = read_short(s, at);
+    let ShortRead::Value(x, _) = h else {
+        return h;
+    };
+    if in_width(x as u32, width) {
+        h
+    } else {
+        ShortRead::Fault(Fault::Range)
     }
 }
 
@@ -183,6 +260,17 @@ pub fn read_word(s: &[u8], at: usize) -> WordRead
     } else {
         WordRead::Value(word_of(s[at], s[at + 1], s[at + 2], s[at + 3]), at + 4)
     }
+}
+
+// The four bytes at a place that has them, else 0.
+pub fn word_at(s: &[u8], at: usize) -> u32
+    ensures { λ r. ⌜ ((x : _) (t : _) → byte4 (onward (now (s .entry)) at) ≡ got x t → r ≡ x) ⌝ }
+{
+    let w = read_word(s, at);
+    let WordRead::Value(x, _) = w else {
+        return 0;
+    };
+    x
 }
 
 // The signed number whose bits are the four bytes.

@@ -2,4 +2,7 @@
 pub mod clock;
 pub mod expression;
 pub mod field;
+pub mod guard;
+pub mod mark;
 pub mod signed;
+pub mod step;
