@@ -62,6 +62,9 @@ module _ {A : Type 0} (r : Reader A) (s : List ℕ) (a : ℕ) where
   pub part-fault : {f : Fault} → r (take (length s - a) (drop a s)) ≡ fault f → r (onward s a) ≡ fault f
   part-fault h = simp (part-onward s a) at h
 
+pub part-end : (s : List ℕ) (a : ℕ) {e n : ℕ} → a ≤ length s → e ≡ n → e ≤ length (take (length s - a) (drop a s)) → a + n ≤ length s
+part-end s a h q l = omega (arith, length-take (length s - a) (drop a s), length-drop a s)
+
 -- the value of a byte, of two and of four, at a place
 pub byte-some : (s : List ℕ) (at : ℕ) → at < length s → byte (onward s at) ≡ got (getD s at 0) (onward s (at + 1))
 unfolding byte

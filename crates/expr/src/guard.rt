@@ -124,7 +124,10 @@ fn clock_guard_holds(s: &[u8], at: usize, clocks: u8, times: [u32; 8]) -> TestRe
     let WordRead::Value(n, at3) = w else {
         return TestRead::Fault(field::word_fault(w));
     };
-    TestRead::Value(signed::compare_clocks(relation, time_of(times, clock), n as u64), at3)
+    TestRead::Value(
+        signed::compare_clocks(relation, time_of(times, clock), n as u64),
+        at3,
+    )
 }
 
 // What follows the kind of a guard on the difference of two clocks.
@@ -147,7 +150,14 @@ fn difference_guard_holds(s: &[u8], at: usize, clocks: u8, times: [u32; 8]) -> T
     let WordRead::Value(n, at4) = w else {
         return TestRead::Fault(field::word_fault(w));
     };
-    TestRead::Value(signed::compare_clocks(relation, time_of(times, first), sum_of(time_of(times, second), n)), at4)
+    TestRead::Value(
+        signed::compare_clocks(
+            relation,
+            time_of(times, first),
+            sum_of(time_of(times, second), n),
+        ),
+        at4,
+    )
 }
 
 // What follows the kind of a guard on variables.

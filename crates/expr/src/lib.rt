@@ -4,6 +4,6 @@ pub mod expression;
 pub mod field;
 pub mod guard;
 pub mod label;
-pub mod signed;
 pub mod mark;
+pub mod signed;
 pub mod step;
