@@ -1,6 +1,6 @@
 -- Readers on what was printed: they give the value back, and leave what stands behind it.
 use mathlib.Core.Path.{_≡_, refl, sym, ap, _∙_}
-use mathlib.Core.Bool.{true, cond}
+use mathlib.Core.Bool.{Bool, true, cond}
 use mathlib.Core.List.{List, [], _∷_, _++_, append-assoc, List·Memᴰ as Mem, List·Memᴰ·head as here, List·Memᴰ·tail as there}
 use Prim.Native.Nat.{ℕ, zero, suc, _+_, _*_, _-_, _≤_}
 use native.Mathlib.Omega.{arith}
@@ -10,13 +10,16 @@ use lib.ListN.{length, take, drop, replicate, length-append, length-take, take-a
 use lib.Seq.{take-append-seam, drop-append-seam}
 use Rattle.expr.specs.Lists.{concat}
 use Rattle.expr.specs.Reading.{Read, got, fault, length-fault, Reader, yield, next, _>>=_, _>>_, field, byte, byte2, byte4, such, many, end, framed, whole, recorded}
-use Rattle.expr.specs.Clocks.{isBound, no-bound, row}
 use Rattle.expr.proofs.Places.{bind-got, such-got}
 
 -- a number in front
 pub byte-front : (x : ℕ) (s : List ℕ) → byte (x ∷ s) ≡ got x s
 unfolding byte field
 byte-front x s = rw (le-leb 1 (suc (length s)) (omega arith))
+
+-- .. that a test holds of
+pub such-front : (p : ℕ → Bool) (x : ℕ) (s : List ℕ) → p x ≡ true → such byte p (x ∷ s) ≡ got x s
+such-front p x s h = such-got byte p (x ∷ s) (byte-front x s) h
 
 pub byte2-front : (x y : ℕ) (s : List ℕ) → byte2 (x ∷ y ∷ s) ≡ got (256 * x + y) s
 unfolding byte2 field
@@ -60,18 +63,3 @@ pub recorded-printed : {A : Type 0} (size : Reader ℕ) (out : ℕ → List ℕ)
     → r b ≡ got a [] → recorded size r ((out (length b) ++ b) ++ s) ≡ got a s
 unfolding recorded whole next
 recorded-printed size out r b s h k = bind-got _ _ _ (framed-printed size out b s h) ∙ rw (k, end-front)
-
--- a row of eight: bounds for the first n clocks, and none for the rest
-pub record Row (n : ℕ) (r : List ℕ) : Type 0 where
-  pub long : length r ≡ 8
-  pub bound : (b : ℕ) → Mem b (take n r) → isBound b ≡ true
-  pub past : drop n r ≡ replicate (8 - n) no-bound
-
-pub row-printed : (out : ℕ → List ℕ) → ((x : ℕ) → isBound x ≡ true → (s : List ℕ) → byte4 (out x ++ s) ≡ got x s)
-    → (n : ℕ) → n ≤ 8 → (r : List ℕ) → Row n r → (s : List ℕ) → row n (concat out (take n r) ++ s) ≡ got r s
-unfolding row yield
-row-printed out f n h r w s =
-    let z : n ≡ length (take n r) = omega (arith, length-take n r, w .long) in
-    bind-got _ _ _ (ap (λ (k : ℕ). many k (such byte4 isBound) (concat out (take n r) ++ s)) z
-    ∙ many-printed (such byte4 isBound) out (take n r) (λ x m t. such-got byte4 isBound _ (f x (w .bound x m) t) (w .bound x m)) s)
-    ∙ ap (λ (l : List ℕ). got l s) (rw (← w .past) (take-append-drop n r))

@@ -17,9 +17,11 @@ use Rattle.expr.specs.Guard.{Limits}
 use Rattle.expr.specs.Label.{Label, Body, body, channelFits, label}
 use Rattle.expr.specs.Clocks.{isBound, clock-limit, no-bound, row}
 use Rattle.expr.proofs.Bools.{both, or-l, or-r, or-cases, implies-by}
+use Rattle.expr.proofs.Lists.{concat-length}
 use Rattle.expr.proofs.Answer.{unless-by}
 use Rattle.expr.proofs.Places.{bind-got, such-got}
-use Rattle.expr.proofs.Printed.{byte-front, byte2-front, byte4-front, end-front, then-got, bytes-front, many-printed, recorded-printed, Row, row-printed}
+use Rattle.expr.proofs.Printed.{byte-front, byte2-front, byte4-front, such-front, end-front, then-got, bytes-front, many-printed, recorded-printed}
+use Rattle.expr.proofs.Ranges.{Row, row-printed, LabelRange, label-printed}
 use Rattle.network.specs.Network.{Location, Edge, Network, limits, location, edge, records, numbered, counted, header, readNetwork}
 use Rattle.flattener.specs.File.{out2, out4, locationBytes, edgeBytes, recordBytes, contentBytes, networkBytes}
 
@@ -49,18 +51,12 @@ byte4-printed x h s =
 bound-lt : (b : ℕ) → isBound b ≡ true → b < 2 ^ 32
 bound-lt b h = ⊎-elim (λ e. let l = leb-true b clock-limit e in omega arith) (λ e. let l = eqb-true b no-bound e in omega arith) (or-cases (leb b clock-limit) (eqb b no-bound) h)
 
--- what the readers ask of a location, a label, an edge and a network
+-- what the readers ask of a location, an edge and a network
 pub record PrintableLocation (automata clocks : ℕ) (l : Location) : Type 0 where
   pub automaton-known : l .automaton < automata
   pub urgent-flag : l .urgent < 2
   pub initial-flag : l .initial < 2
   pub bounds-row : Row clocks (l .bounds)
-
-pub record PrintableLabel (l : Limits) (channels : ℕ) (x : Label) : Type 0 where
-  pub signal-known : x .signal < 3
-  pub channel-known : channelFits channels (x .signal) (x .channel) ≡ true
-  pub resets-known : x .resets < 2 ^ (l .clocks)
-  pub body-read : body l (x .bytes) ≡ got (x .body) []
 
 pub record PrintableEdge (automata locations : ℕ) (l : Limits) (channels : ℕ) (e : Edge) : Type 0 where
   pub source-known : e .source < locations
@@ -74,7 +70,7 @@ pub record PrintableEdge (automata locations : ℕ) (l : Limits) (channels : ℕ
   pub written-byte : e .written < 256
   pub values-byte : e .values < 256
   pub values-written : subset 8 (e .values) (e .written) ≡ true
-  pub label-known : PrintableLabel l channels (e .label)
+  pub label-known : LabelRange l channels (e .label)
   pub record-short : length (edgeBytes e) < 2 ^ 16
 
 pub record Printable (n : Network) : Type 0 where
@@ -90,10 +86,6 @@ pub record Printable (n : Network) : Type 0 where
   pub of-location : (l : Location) → Mem l (n .locations) → PrintableLocation (n .automata) (n .clocks) l
   pub of-edge : (e : Edge) → Mem e (n .edges) → PrintableEdge (n .automata) (length (n .locations)) (limits (n .clocks) (n .variables)) (n .rendezvous + n .broadcasts) e
 
--- a number that a test holds of
-such-front : (p : ℕ → Bool) (x : ℕ) (s : List ℕ) → p x ≡ true → such byte p (x ∷ s) ≡ got x s
-such-front p x s h = such-got byte p (x ∷ s) (byte-front x s) h
-
 one-of : (x m k : ℕ) → (x < m) ⊎ (x ≡ k) → (ltb x m || eqb x k) ≡ true
 one-of x m k h = ⊎-elim (λ l. or-l (eqb x k) (lt-ltb x m l)) (λ e. or-r (ltb x m) (eq-eqb x k e)) h
 
@@ -106,15 +98,7 @@ location-printed automata clocks h l p =
     ∙ (bind-got _ _ _ (such-front _ (l .initial) _ (lt-ltb _ _ (p .initial-flag)))
     ∙ bind-got _ _ _ (ap (row clocks) (sym (append-nil _)) ∙ row-printed out4 (λ x b s. byte4-printed x (bound-lt x b) s) clocks h (l .bounds) (p .bounds-row) [])))
 
--- a label, last in its record
-label-printed : (l : Limits) (channels : ℕ) (x : Label) → PrintableLabel l channels x → label l channels (x .signal ∷ x .channel ∷ x .resets ∷ x .bytes) ≡ got x []
-unfolding label yield next
-label-printed l channels x p =
-    bind-got _ _ _ (such-front _ (x .signal) _ (lt-ltb _ _ (p .signal-known)))
-    ∙ (bind-got _ _ _ (such-front _ (x .channel) _ (p .channel-known))
-    ∙ (bind-got _ _ _ (such-front _ (x .resets) _ (lt-ltb _ _ (p .resets-known)))
-    ∙ rw (p .body-read)))
-
+-- an edge's record
 edge-printed : (automata locations : ℕ) (l : Limits) (channels : ℕ) → automata ≤ 16 → (e : Edge) → PrintableEdge automata locations l channels e → edge automata locations l channels (edgeBytes e) ≡ got e []
 unfolding edge edgeBytes yield
 edge-printed automata locations l channels h e p =
@@ -160,6 +144,23 @@ header-printed n h =
     ∙ (bind-got _ _ _ (byte4-printed (length (contentBytes n)) h (contentBytes n))
     ∙ rw (eq-eqb (length (contentBytes n)) (length (contentBytes n)) refl) (bytes-front (counts n) (content n)))
 
-pub read-printed : (n : Network) → Printable n → length (contentBytes n) < 2 ^ 32 → readNetwork (networkBytes n) ≡ done n
+-- its length fits four bytes
+content-short : (n : Network) → Printable n → length (contentBytes n) < 2 ^ 32
+unfolding contentBytes recordBytes locationBytes out2 out4
+content-short n p = omega (arith, length-append ls es, concat-length (λ l. recordBytes (λ k. k ∷ []) (locationBytes (n .clocks) l)) 36 (n .locations) (λ l m. location-short l), concat-length (λ e. recordBytes out2 (edgeBytes e)) 65537 (n .edges) edge-short, p .locations-few, p .edges-few)
+  where
+    ls : List ℕ
+    ls = concat (λ l. recordBytes (λ k. k ∷ []) (locationBytes (n .clocks) l)) (n .locations)
+
+    es : List ℕ
+    es = concat (λ e. recordBytes out2 (edgeBytes e)) (n .edges)
+
+    location-short : (l : Location) → length (recordBytes (λ k. k ∷ []) (locationBytes (n .clocks) l)) ≤ 36
+    location-short l = omega (arith, concat-length out4 4 (take (n .clocks) (l .bounds)) (λ x m. omega arith), length-take (n .clocks) (l .bounds), p .clocks-few)
+
+    edge-short : (e : Edge) → Mem e (n .edges) → length (recordBytes out2 (edgeBytes e)) ≤ 65537
+    edge-short e m = omega (arith, p .of-edge e m .record-short)
+
+pub read-printed : (n : Network) → Printable n → readNetwork (networkBytes n) ≡ done n
 unfolding readNetwork
-read-printed n p h = rw (header-printed n h) (counted-printed n p)
+read-printed n p = rw (header-printed n (content-short n p)) (counted-printed n p)
