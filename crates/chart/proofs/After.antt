@@ -47,6 +47,17 @@ pub after-active : (c : Chart) (σ : Configuration) (ts : List Transition) → s
 unfolding isActive after
 after-active c σ ts few s = made 48 (activeAfter c σ ts) (size c) few s
 
+-- what is active after a step was active, or is entered
+pub after-cases : (c : Chart) (σ : Configuration) (ts : List Transition) → size c ≤ 48 → (s : ℕ) → isActive (after c ts σ) s ≡ true
+    → (isActive σ s ≡ true) ⊎ ((t : Transition) × Mem t ts × (entered c (t .destination) (t .entry) s ≡ true))
+unfolding activeAfter
+after-cases c σ ts few s h = ⊎-elim (λ k. inl (and-l (isActive σ s) _ k)) (λ k. inr (any-at _ ts k))
+    (or-cases (isActive σ s && all (λ t. not (under c (t .source) s)) ts) _ (and-r (ltb s (size c)) _ (sym (after-active c σ ts few s) ∙ h)))
+
+pub after-entered : (c : Chart) (σ : Configuration) (ts : List Transition) → size c ≤ 48 → {t : Transition} → Mem t ts → (s : ℕ) → s < size c → entered c (t .destination) (t .entry) s ≡ true → isActive (after c ts σ) s ≡ true
+unfolding activeAfter
+after-entered c σ ts few m s h e = after-active c σ ts few s ∙ both (lt-ltb s (size c) h) (or-r (isActive σ s && all (λ t. not (under c (t .source) s)) ts) (any-by (λ t. entered c (t .destination) (t .entry) s) m e))
+
 -- the states that are entered at the start
 pub start-is-tree : (c : Chart) → Parents c → EntryMarks c → 0 < size c → size c ≤ 48 → Entry c 0 0 → isTree c (start c) ≡ true
 start-is-tree c tree marks some few entry = known-tree c (entered c 0 0) (start c) (start-active c few) (record {

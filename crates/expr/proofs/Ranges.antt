@@ -16,6 +16,7 @@ use Rattle.expr.specs.Guard.{Limits}
 use Rattle.expr.specs.Label.{Label, body, channelFits, label}
 use Rattle.expr.proofs.Places.{bind-got, such-got}
 use Rattle.expr.proofs.Reading.{next-at, bind-at, yield-at, yield-rest, such-at, many-at, byte-takes}
+use Rattle.expr.proofs.Rows.{length-join}
 use Rattle.expr.proofs.Printed.{such-front, many-printed}
 
 -- a row of eight: bounds for the first n clocks, and none for the rest
@@ -57,12 +58,6 @@ row-free n h = record { long = refl; bound = λ b m. rw (taken n 8 b m); past = 
     dropped (suc n) zero h = absurd (omega arith)
     dropped (suc n) (suc k) h = dropped n k (omega arith) ∙ ap (λ (j : ℕ). replicate j no-bound) (let z : k - n ≡ suc k - suc n = omega arith in z)
 
-join-long : (a b : List ℕ) → length a ≡ length b → length (join a b) ≡ length a
-unfolding join
-join-long [] b e = refl
-join-long (x ∷ xs) [] e = sym e
-join-long (x ∷ xs) (y ∷ ys) e = ap suc (join-long xs ys (omega arith))
-
 take-join : (n : ℕ) (a b : List ℕ) → take n (join a b) ≡ join (take n a) (take n b)
 unfolding join
 take-join zero a b = refl
@@ -99,7 +94,7 @@ bound-min x y h k = elim (decLe x y) [
 
 pub row-join : (n : ℕ) (a b : List ℕ) → Row n a → Row n b → Row n (join a b)
 row-join n a b v w = record {
-  long = join-long a b (v .long ∙ sym (w .long)) ∙ v .long;
+  long = length-join a b (v .long ∙ sym (w .long)) ∙ v .long;
   bound = λ z m. let r = join-mem (take n a) (take n b) (subst (Mem z) (take-join n a b) m) in rw (r .4) (bound-min (r .0) (r .1) (v .bound _ (r .2)) (w .bound _ (r .3)));
   past = drop-join n a b ∙ rw (v .past, w .past) (join-same (replicate (8 - n) no-bound));
 }
