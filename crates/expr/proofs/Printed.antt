@@ -1,15 +1,14 @@
 -- Readers on what was printed: they give the value back, and leave what stands behind it.
-use mathlib.Core.Path.{_≡_, refl, sym, ap, _∙_}
-use mathlib.Core.Bool.{Bool, true, cond}
+use mathlib.Core.Path.{_≡_, refl, ap, _∙_}
+use mathlib.Core.Bool.{Bool, true}
 use mathlib.Core.List.{List, [], _∷_, _++_, append-assoc, List·Memᴰ as Mem, List·Memᴰ·head as here, List·Memᴰ·tail as there}
-use Prim.Native.Nat.{ℕ, zero, suc, _+_, _*_, _-_, _≤_}
+use Prim.Native.Nat.{ℕ, suc, _+_, _*_}
 use native.Mathlib.Omega.{arith}
 use borrow.Author.Tests.{le-leb}
-use lib.Dec.{leb}
-use lib.ListN.{length, take, drop, replicate, length-append, length-take, take-append-drop}
+use lib.ListN.{length, length-append}
 use lib.Seq.{take-append-seam, drop-append-seam}
 use Rattle.expr.specs.Lists.{concat}
-use Rattle.expr.specs.Reading.{Read, got, fault, length-fault, Reader, yield, next, _>>=_, _>>_, field, byte, byte2, byte4, such, many, end, framed, whole, recorded}
+use Rattle.expr.specs.Reading.{got, Reader, yield, next, _>>_, field, byte, byte2, byte4, such, many, end, framed, whole, recorded}
 use Rattle.expr.proofs.Places.{bind-got, such-got}
 
 -- a number in front

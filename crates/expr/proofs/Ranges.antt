@@ -1,16 +1,16 @@
 -- The ranges of rows and labels: what was read has them, and what has them is read back when it was printed.
 use mathlib.Core.Path.{_≡_, refl, sym, ap, _∙_, subst}
 use mathlib.Core.Bool.{Bool, true, false, cond}
-use mathlib.Core.List.{List, [], _∷_, _++_, append-nil, List·Memᴰ as Mem, List·Memᴰ·head as here, List·Memᴰ·tail as there}
+use mathlib.Core.List.{List, [], _∷_, _++_, List·Memᴰ as Mem, List·Memᴰ·head as here, List·Memᴰ·tail as there}
 use Prim.Native.Nat.{ℕ, zero, suc, _+_, _-_, _^_, _≤_, _<_, min}
 use native.Mathlib.Omega.{arith}
 use native.Mathlib.Decide.{decLe}
-use borrow.Author.Tests.{lt-ltb, le-ltb, ltb-true, eq-eqb}
-use lib.Dec.{leb, ltb, eqb}
+use borrow.Author.Tests.{lt-ltb, ltb-true}
+use lib.Dec.{ltb, eqb}
 use lib.ListN.{length, take, drop, replicate, length-append, length-take, length-replicate, take-append-drop}
 use lib.Seq.{take-at, drop-at}
 use Rattle.expr.specs.Lists.{concat}
-use Rattle.expr.specs.Reading.{got, Reader, yield, next, _>>=_, byte, byte4, such, many}
+use Rattle.expr.specs.Reading.{got, yield, next, byte, byte4, such, many}
 use Rattle.expr.specs.Clocks.{isBound, no-bound, free, join, row}
 use Rattle.expr.specs.Guard.{Limits}
 use Rattle.expr.specs.Label.{Label, body, channelFits, label}

@@ -1,12 +1,12 @@
 -- How many pairs, places and automata a chart has: what is counted is matched with the chart's transitions and states.
-use mathlib.Core.Path.{_≡_, refl, sym, ap, _∙_}
-use mathlib.Core.Bool.{true, false}
+use mathlib.Core.Path.{_≡_, sym, _∙_}
+use mathlib.Core.Bool.{false}
 use mathlib.Core.List.{List, _++_, map, List·Memᴰ as Mem, Memᴰ·append-left as append-left, Memᴰ·append-right as append-right}
 use Prim.Native.Nat.{ℕ, _+_, _-_, _≤_, _<_}
 use native.Mathlib.Omega.{arith}
 use lib.ListN.{length, length-append, length-map}
 use Rattle.expr.specs.Lists.{range, below}
-use Rattle.expr.proofs.Bools.{clash, fails}
+use Rattle.expr.proofs.Bools.{fails}
 use Rattle.expr.proofs.Lists.{map-by, range-by, below-by, length-range, length-below, mem-some, partners-length, within-length}
 use Rattle.chart.specs.Chart.{Chart, transitionAt, parentOf, basic, parallel}
 use Rattle.chart.specs.Tree.{sequentials}

@@ -1,8 +1,8 @@
 -- Reading what was printed gives the network back.
 use mathlib.Core.Path.{_≡_, refl, sym, ap, _∙_}
-use mathlib.Core.Bool.{Bool, true, false, cond, _||_, _&&_}
-use mathlib.Core.Logic.{_⊎_, inl, inr, ⊎-elim}
-use mathlib.Core.List.{List, [], _∷_, _++_, append-nil, append-assoc, List·Memᴰ as Mem}
+use mathlib.Core.Bool.{true, _||_, _&&_}
+use mathlib.Core.Logic.{_⊎_, ⊎-elim}
+use mathlib.Core.List.{List, [], _∷_, _++_, append-nil, List·Memᴰ as Mem}
 use Prim.Native.Nat.{ℕ, _+_, _*_, _^_, _/_, _%_, _≤_, _<_}
 use native.Mathlib.Omega.{arith}
 use native.Mathlib.Nat.{div-div-eq-div-mul, lt-of-lt-of-le}
@@ -11,10 +11,10 @@ use lib.Dec.{leb, ltb, eqb}
 use lib.ListN.{length, take, length-append, length-take}
 use lib.Pow.{pow-mono}
 use Rattle.expr.specs.Lists.{concat, implies, subset}
-use Rattle.expr.specs.Answer.{Answer, done, unless}
-use Rattle.expr.specs.Reading.{Read, got, fault, length-fault, Reader, yield, next, _>>=_, _>>_, byte, byte2, byte4, such, many, end, recorded}
+use Rattle.expr.specs.Answer.{done}
+use Rattle.expr.specs.Reading.{got, yield, byte, byte2, byte4, many}
 use Rattle.expr.specs.Guard.{Limits}
-use Rattle.expr.specs.Label.{Label, Body, body, channelFits, label}
+use Rattle.expr.specs.Label.{label}
 use Rattle.expr.specs.Clocks.{isBound, clock-limit, no-bound, row}
 use Rattle.expr.proofs.Bools.{both, or-l, or-r, or-cases, implies-by}
 use Rattle.expr.proofs.Lists.{concat-length}

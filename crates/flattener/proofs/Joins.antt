@@ -1,13 +1,11 @@
 -- What holds of each state's bounds, and is kept by joining rows, holds of the bounds of each place.
 use mathlib.Core.Path.{_≡_, refl, sym, ap, _∙_, subst}
 use mathlib.Core.Bool.{Bool, true, false, cond}
-use mathlib.Core.List.{List, [], _∷_, map, List·Memᴰ as Mem, List·Memᴰ·head as here, List·Memᴰ·tail as there}
-use Prim.Native.Nat.{ℕ, zero, suc, _≤_, _<_}
+use mathlib.Core.List.{List, [], _∷_, List·Memᴰ as Mem, List·Memᴰ·head as here, List·Memᴰ·tail as there}
+use Prim.Native.Nat.{ℕ, zero, suc, _<_}
 use native.Mathlib.Omega.{arith}
 use native.Mathlib.Decide.{decLt}
 use lib.Dec.{eqb}
-use lib.ListN.{length}
-use Rattle.expr.specs.Lists.{keep}
 use Rattle.expr.specs.Clocks.{free, join}
 use Rattle.expr.proofs.Bools.{clash}
 use Rattle.expr.proofs.Lists.{keep-at, map-at}

@@ -1,21 +1,20 @@
 -- The network of a chart that is not refused is printable: so reading its file gives it back.
 use mathlib.Core.Path.{_≡_, refl, sym, ap, _∙_, subst}
-use mathlib.Core.Bool.{Bool, true, false, cond, not, _&&_, xor, Bool·beq}
+use mathlib.Core.Bool.{Bool, true, false, cond, _&&_, xor, Bool·beq}
 use mathlib.Core.Logic.{_⊎_, inl, inr, ⊎-elim}
-use mathlib.Core.List.{List, [], _∷_, List·Memᴰ as Mem}
-use Prim.Native.Nat.{ℕ, zero, suc, _+_, _^_, _≤_, _<_}
+use mathlib.Core.List.{List, [], List·Memᴰ as Mem}
+use Prim.Native.Nat.{ℕ, _+_, _^_, _≤_, _<_}
 use native.Mathlib.Omega.{arith}
-use borrow.Author.Tests.{lt-ltb, leb-true, ne-eqb, eqb-true, not-true}
+use borrow.Author.Tests.{lt-ltb, leb-true, ne-eqb, not-true}
 use lib.Dec.{ltb, eqb}
-use lib.ListN.{length, length-map}
+use lib.ListN.{length}
 use lib.Pow.{pow-pos}
-use Rattle.expr.specs.Lists.{has, keep, subset, bitsOf}
-use Rattle.expr.specs.Answer.{done, unless}
+use Rattle.expr.specs.Lists.{has, subset}
+use Rattle.expr.specs.Answer.{done}
 use Rattle.expr.specs.Answer as answer
-use Rattle.expr.specs.Reading.{got, yield, many}
+use Rattle.expr.specs.Reading.{yield, many}
 use Rattle.expr.specs.Guard.{Limits}
 use Rattle.expr.specs.Label.{Label, body, channelFits}
-use Rattle.expr.specs.Clocks.{free, join}
 use Rattle.expr.proofs.Bools.{clash, fails, and-l, and-r}
 use Rattle.expr.proofs.Lists.{all-at, map-at, keep-at}
 use Rattle.expr.proofs.Bits.{has-bits, has-zero, bits-lt, has-low-lt, subset-by}
@@ -23,7 +22,7 @@ use Rattle.expr.proofs.Answer.{unless-at, unless-by, then-at}
 use Rattle.expr.proofs.Places.{bind-got}
 use Rattle.expr.proofs.Printed.{byte-front}
 use Rattle.expr.proofs.Ranges.{Row, row-free, row-join, LabelRange, label-range-more}
-use Rattle.network.specs.Network.{Location, Edge, Network, limits, readNetwork, sound, networkOf}
+use Rattle.network.specs.Network.{Edge, limits, readNetwork, networkOf}
 use Rattle.chart.specs.Chart.{Chart, transitionAt, basic}
 use Rattle.chart.specs.Chart as chart
 use Rattle.chart.specs.Tree.{sequentials}
@@ -32,7 +31,7 @@ use Rattle.chart.proofs.Tree.{size}
 use Rattle.chart.proofs.Rules.{Passed, kinds-left}
 use Rattle.chart.proofs.Ranges.{Ranges, kinds-of, chart-at}
 use Rattle.chart.proofs.Step.{transition-mem}
-use Rattle.flattener.specs.Flatten.{Pair, Place, idle, child, pre, post, samePlace, hasExit, own, boundsOf, atExit, initialPlace, flagAt, writtenBy, valuesBy, placeHome, number, allPlaces, automaton, choicesFrom, alternatives, onValues, enterChannel, exitChannel, enterPairs, exitPairs, signalling, edge, ownEdge, departure, arrival, heardExits, heardEntries, urgentPlace, locationOf, flatten}
+use Rattle.flattener.specs.Flatten.{Pair, Place, idle, child, pre, post, samePlace, hasExit, own, boundsOf, atExit, initialPlace, flagAt, writtenBy, valuesBy, placeHome, allPlaces, alternatives, onValues, enterPairs, exitPairs, signalling, edge, ownEdge, departure, heardExits, heardEntries, urgentPlace, locationOf, flatten}
 use Rattle.flattener.specs.File.{edgeBytes, out2, networkBytes, flattenOf, fitted}
 use Rattle.flattener.proofs.Automata.{automaton-lt}
 use Rattle.flattener.proofs.Sums.{sorted-at}
