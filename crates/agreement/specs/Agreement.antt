@@ -1,12 +1,12 @@
 -- Runs side by side: what is claimed of a chart and the network that flattening writes of it, over any list of calls.
-use Prim.Native.Nat.{ℕ, zero, suc, _+_, _-_, _<_}
-use mathlib.Core.Bool.{Bool, true, false, cond, not, _&&_, _||_}
+use Prim.Native.Nat.{ℕ, _+_, _-_, _<_}
+use mathlib.Core.Bool.{Bool, true, false, cond, not}
 use mathlib.Core.List.{List, [], _∷_, _++_, map}
 use mathlib.Core.Path.{_≡_}
 use lib.Dec.{eqb}
 use Rattle.expr.specs.Lists.{any, keep}
 use Rattle.expr.specs.Answer.{Answer, done, refused}
-use Rattle.chart.specs.Chart.{Chart, transitionAt}
+use Rattle.chart.specs.Chart.{Chart}
 use Rattle.chart.specs.Rules.{chartOf}
 use Rattle.chart.specs.Machine as chart
 use Rattle.chart.specs.declared.configuration.Configuration as chart-type

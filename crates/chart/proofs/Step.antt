@@ -16,13 +16,14 @@ use Rattle.expr.proofs.Bools.{parts, clash, decided, and-l, both, cond-yes, con
 use Rattle.expr.proofs.Lists.{all-at, all-below, map-at, map-by, getD-mem}
 use Rattle.expr.proofs.Answer.{unless-at}
 use Rattle.expr.proofs.Moves.{allowed-at}
-use Rattle.expr.proofs.Rows.{ClockValues, values-in-limit}
+use Rattle.expr.proofs.Rows.{ClockValues, values-in-limit, values-zeros, keeps-zeros}
 use Rattle.chart.specs.Chart.{Chart, Transition, stateAt, transitionAt, parentOf, basic, sequential, home}
 use Rattle.chart.specs.Tree.{under}
 use Rattle.chart.specs.Rules.{siblings, entries, apart}
 use Rattle.chart.specs.Machine.{isActive, isTree, isConfiguration, activeTransition, after, tested, start, step, boundsKept}
 use Rattle.chart.specs.declared.configuration.Configuration.{Configuration}
 use Rattle.chart.proofs.Entered.{Entry}
+use Rattle.chart.proofs.Active.{bounds-kept-by}
 use Rattle.chart.proofs.Rules.{Passed}
 use Rattle.chart.proofs.Ranges.{Ranges}
 use Rattle.chart.proofs.After.{Fires, start-is-tree, after-is-tree}
@@ -116,6 +117,15 @@ configuration-clocks c σ h = values-in-limit (c .clocks) (σ .clocks) (search p
 pub configuration-bounds : (c : Chart) (σ : Configuration) → isConfiguration c σ ≡ true → boundsKept c σ ≡ true
 unfolding isConfiguration
 configuration-bounds c σ h = search parts
+
+-- at the start the clocks are 0, and every bound is kept
+pub start-clocks : (c : Chart) → ClockValues (start c .clocks)
+unfolding start
+start-clocks c = values-zeros 8
+
+pub start-bounds : (c : Chart) → boundsKept c (start c) ≡ true
+unfolding start
+start-bounds c = bounds-kept-by c (start c) (λ s h a. keeps-zeros (stateAt c s .bounds) 8)
 
 -- transitions that can be taken together: their sources are active, their homes not nested
 pub record Together (c : Chart) (σ : Configuration) (ms : List ℕ) : Type 0 where

@@ -1,11 +1,12 @@
 -- What holds of each state's bounds, and is kept by joining rows, holds of the bounds of each place.
 use mathlib.Core.Path.{_≡_, refl, sym, ap, _∙_, subst}
 use mathlib.Core.Bool.{Bool, true, false, cond}
-use mathlib.Core.List.{List, [], _∷_, List·Memᴰ as Mem, List·Memᴰ·head as here, List·Memᴰ·tail as there}
+use mathlib.Core.List.{List, [], _∷_, map, List·Memᴰ as Mem, List·Memᴰ·head as here, List·Memᴰ·tail as there}
 use Prim.Native.Nat.{ℕ, zero, suc, _<_}
 use native.Mathlib.Omega.{arith}
 use native.Mathlib.Decide.{decLt}
 use lib.Dec.{eqb}
+use Rattle.expr.specs.Lists.{keep}
 use Rattle.expr.specs.Clocks.{free, join}
 use Rattle.expr.proofs.Bools.{clash}
 use Rattle.expr.proofs.Lists.{keep-at, map-at}
@@ -15,10 +16,10 @@ use Rattle.chart.proofs.Tree.{size, states-at, basic-not-parallel, unknown-pare
 use Rattle.chart.proofs.Ranges.{Ranges}
 use Rattle.chart.proofs.Step.{transition-mem}
 use Rattle.flattener.specs.Flatten.{Pair, Place, idle, child, pre, post, hasEntry, own, carriedFrom, joined, joinAll, preBounds, arrival, arrivalBounds, boundsOf}
-use Rattle.flattener.proofs.Numbers.{IsPlace}
+use Rattle.flattener.proofs.Numbers.{Stands}
 
 -- a child of a parallel state is a state of the chart
-pub child-known : (c : Chart) → Ranges c → (s : ℕ) → parallel c (parentOf c s) ≡ true → s < size c
+child-known : (c : Chart) → Ranges c → (s : ℕ) → parallel c (parentOf c s) ≡ true → s < size c
 child-known c ranges s z = elim (decLt s (size c)) [
   | yes h ↦ h
   | no h ↦ clash (ap (parallel c) (sym (unknown-parent c s (omega arith))) ∙ z) (basic-not-parallel c 255 (unknown-basic c 255 (omega (arith, ranges .states-few))))
@@ -41,13 +42,16 @@ module _ (P : List ℕ → Type 0) (none : P free) (both : (a b : List ℕ) → 
         go false true e k = both (own c s) _ (each s (child-known c ranges s e)) k
         go false false e k = none
 
-    pub joined-has : (s : ℕ) → s < size c → P (joined c s)
+    joined-has : (s : ℕ) → s < size c → P (joined c s)
     unfolding joined
     joined-has s h = both (own c s) _ (each s h) (carried-has (suc s) (parentOf c s))
 
-    pub pre-has : (p : Pair) → P (preBounds c p)
+    pub entered-have : (p : Pair) (r : List ℕ) → Mem r (map (joined c) (keep (entered c (p .state) (p .mark)) (states c))) → P r
+    entered-have p r m = let k = map-at (joined c) _ m in subst P (sym (k .2)) (joined-has (k .0) (states-at c (keep-at (entered c (p .state) (p .mark)) (states c) (k .1) .0)))
+
+    pre-has : (p : Pair) → P (preBounds c p)
     unfolding preBounds
-    pre-has p = join-all-has _ (λ r m. let k = map-at (joined c) _ m in subst P (sym (k .2)) (joined-has (k .0) (states-at c (keep-at (entered c (p .state) (p .mark)) (states c) (k .1) .0))))
+    pre-has p = join-all-has _ (entered-have p)
 
     arrival-has : (t : ℕ) → transitionAt c t .destination < size c → P (arrivalBounds c (arrival c t))
     unfolding arrival arrivalBounds
@@ -60,9 +64,9 @@ module _ (P : List ℕ → Type 0) (none : P free) (both : (a b : List ℕ) → 
         go true = pre-has p
         go false = joined-has _ h
 
-    pub bounds-have : (p : Place) → IsPlace c p → P (boundsOf c p)
+    pub bounds-have : (p : Place) → Stands c p → P (boundsOf c p)
     unfolding boundsOf
     bounds-have (idle q) k = none
-    bounds-have (child s) k = joined-has s (k .stands .known)
+    bounds-have (child s) k = joined-has s (k .known)
     bounds-have (pre p) k = pre-has p
-    bounds-have (post t) k = arrival-has t (ranges .of-transition _ (transition-mem c t (k .stands .0)) .destination-known)
+    bounds-have (post t) k = arrival-has t (ranges .of-transition _ (transition-mem c t (k .0)) .destination-known)

@@ -60,7 +60,7 @@ urgent-flag (post t) = omega arith
 module _ (c : Chart) (ranges : Ranges c) where
   bounds-row : (p : Place) → IsPlace c p → Row (c .clocks) (boundsOf c p)
   unfolding own
-  bounds-row = bounds-have (Row (c .clocks)) (row-free (c .clocks) (ranges .clocks-few)) (row-join (c .clocks)) c ranges (λ s h. ranges .of-state s h .bounds-row)
+  bounds-row p k = bounds-have (Row (c .clocks)) (row-free (c .clocks) (ranges .clocks-few)) (row-join (c .clocks)) c ranges (λ s h. ranges .of-state s h .bounds-row) p (k .stands)
 
   location-fits : (p : Place) → IsPlace c p → PrintableLocation (length (sequentials c)) (c .clocks) (locationOf c p)
   unfolding locationOf
