@@ -31,14 +31,22 @@ names-one state mark p r t h k =
 
 -- each pair is named by some transition, so there are at most as many
 pub enter-pairs-few : (c : Chart) → length (enterPairs c) ≤ length (c .transitions)
-enter-pairs-few c = omega (arith, length-below (length (c .transitions)), partners-length _ (enterPairs c) (below (length (c .transitions))) (enter-pairs-once c)
-    (λ p m. let t = enters-at c (p .state) (p .mark) (enter-pairs-at c m .2) in (t .0, below-by (t .1), (t .2, t .3)))
-    (names-one (λ t. transitionAt c t .destination) (λ t. transitionAt c t .entry)))
+enter-pairs-few c = omega (
+  arith,
+  length-below (length (c .transitions)),
+  partners-length _ (enterPairs c) (below (length (c .transitions))) (enter-pairs-once c)
+      (λ p m. let t = enters-at c (p .state) (p .mark) (enter-pairs-at c m .2) in (t .0, below-by (t .1), (t .2, t .3)))
+      (names-one (λ t. transitionAt c t .destination) (λ t. transitionAt c t .entry)),
+)
 
 pub exit-pairs-few : (c : Chart) → length (exitPairs c) ≤ length (c .transitions)
-exit-pairs-few c = omega (arith, length-below (length (c .transitions)), partners-length _ (exitPairs c) (below (length (c .transitions))) (exit-pairs-once c)
-    (λ p m. let t = leaves-at c (p .state) (p .mark) (exit-pairs-at c m .2) in (t .0, below-by (t .1), (t .2, t .3)))
-    (names-one (λ t. transitionAt c t .source) (λ t. transitionAt c t .exit)))
+exit-pairs-few c = omega (
+  arith,
+  length-below (length (c .transitions)),
+  partners-length _ (exitPairs c) (below (length (c .transitions))) (exit-pairs-once c)
+      (λ p m. let t = leaves-at c (p .state) (p .mark) (exit-pairs-at c m .2) in (t .0, below-by (t .1), (t .2, t .3)))
+      (names-one (λ t. transitionAt c t .source) (λ t. transitionAt c t .exit)),
+)
 
 -- every place there can be: an idle sequential state, a state but the root, a pair that is entered, a transition
 candidates : Chart → List Place

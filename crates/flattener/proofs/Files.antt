@@ -115,30 +115,35 @@ edge-printed automata locations l channels h e p =
     tested : (ltb (e .tested) (2 ^ automata) && implies (eqb (e .exit) 255) (eqb (e .tested) 0)) ≡ true
     tested = both (lt-ltb _ _ (p .tested-known)) (implies-by _ _ (λ z. eq-eqb _ 0 (p .tested-none (eqb-true (e .exit) 255 z))))
 
--- the records
-records-printed : (n : Network) → Printable n → records (n .automata) (length (n .locations)) (length (n .edges)) (n .clocks) (n .variables) (n .rendezvous) (n .broadcasts)
-    (concat (λ l. recordBytes (λ k. k ∷ []) (locationBytes (n .clocks) l)) (n .locations) ++ concat (λ e. recordBytes out2 (edgeBytes e)) (n .edges)) ≡ got n []
-unfolding records recordBytes yield
+-- the counts of a network's file, and its records
+counts : Network → List ℕ
+counts n = n .automata ∷ length (n .locations) ∷ length (n .edges) / 256 % 256 ∷ length (n .edges) % 256 ∷ n .clocks ∷ n .variables ∷ n .rendezvous ∷ n .broadcasts ∷ []
+
+locationRecord : Network → Location → List ℕ
+locationRecord n l = recordBytes (λ k. k ∷ []) (locationBytes (n .clocks) l)
+
+edgeRecord : Edge → List ℕ
+edgeRecord e = recordBytes out2 (edgeBytes e)
+
+content : Network → List ℕ
+content n = concat (locationRecord n) (n .locations) ++ concat edgeRecord (n .edges)
+
+records-printed : (n : Network) → Printable n → records (n .automata) (length (n .locations)) (length (n .edges)) (n .clocks) (n .variables) (n .rendezvous) (n .broadcasts) (content n) ≡ got n []
+unfolding records content locationRecord edgeRecord recordBytes yield
 records-printed n p =
     bind-got _ _ _ (many-printed _ _ (n .locations) (λ l m s. recorded-printed byte (λ k. k ∷ []) _ (locationBytes (n .clocks) l) s (λ t. byte-front _ t) (location-printed _ _ (p .clocks-few) l (p .of-location l m))) _)
     ∙ (bind-got _ _ _ (ap (many _ _) (sym (append-nil _)) ∙ many-printed _ _ (n .edges) (λ e m s. recorded-printed byte2 out2 _ (edgeBytes e) s (λ t. byte2-printed _ (p .of-edge e m .record-short) t) (edge-printed _ _ _ _ (p .automata-few) e (p .of-edge e m))) [])
     ∙ then-got _ _ _ end-front)
 
-counts : Network → List ℕ
-counts n = n .automata ∷ length (n .locations) ∷ length (n .edges) / 256 % 256 ∷ length (n .edges) % 256 ∷ n .clocks ∷ n .variables ∷ n .rendezvous ∷ n .broadcasts ∷ []
-
-content : Network → List ℕ
-content n = concat (λ l. recordBytes (λ k. k ∷ []) (locationBytes (n .clocks) l)) (n .locations) ++ concat (λ e. recordBytes out2 (edgeBytes e)) (n .edges)
-
 counted-printed : (n : Network) → Printable n → counted (counts n) (content n) ≡ done n
-unfolding counted counts content numbered
+unfolding counted counts numbered
 counted-printed n p =
     let z : 256 * (length (n .edges) / 256 % 256) + length (n .edges) % 256 ≡ length (n .edges) = omega (arith, p .edges-few) in
     rw z (unless-by 24 _ (both (le-leb _ _ (p .automata-some)) (both (le-leb _ _ (p .automata-few)) (both (le-leb _ _ (p .locations-some)) (both (le-leb _ _ (p .locations-few)) (both (le-leb _ _ (p .edges-few)) (both (le-leb _ _ (p .clocks-few)) (both (le-leb _ _ (p .variables-few)) (both (le-leb _ _ (p .rendezvous-few)) (le-leb _ _ (p .broadcasts-few))))))))))
     ∙ rw (records-printed n p))
 
 header-printed : (n : Network) → length (contentBytes n) < 2 ^ 32 → header (networkBytes n) ≡ got (counts n) (content n)
-unfolding header networkBytes recordBytes contentBytes counts content out2
+unfolding header networkBytes recordBytes contentBytes counts content locationRecord edgeRecord out2
 header-printed n h =
     then-got _ _ _ (such-front _ 1 _ refl)
     ∙ (bind-got _ _ _ (byte4-printed (length (contentBytes n)) h (contentBytes n))
@@ -146,19 +151,20 @@ header-printed n h =
 
 -- its length fits four bytes
 content-short : (n : Network) → Printable n → length (contentBytes n) < 2 ^ 32
-unfolding contentBytes recordBytes locationBytes out2 out4
-content-short n p = omega (arith, length-append ls es, concat-length (λ l. recordBytes (λ k. k ∷ []) (locationBytes (n .clocks) l)) 36 (n .locations) (λ l m. location-short l), concat-length (λ e. recordBytes out2 (edgeBytes e)) 65537 (n .edges) edge-short, p .locations-few, p .edges-few)
+unfolding contentBytes locationRecord edgeRecord recordBytes locationBytes out2 out4
+content-short n p = omega (
+  arith,
+  length-append (concat (locationRecord n) (n .locations)) (concat edgeRecord (n .edges)),
+  concat-length (locationRecord n) 36 (n .locations) (λ l m. location-short l),
+  concat-length edgeRecord 65537 (n .edges) edge-short,
+  p .locations-few,
+  p .edges-few,
+)
   where
-    ls : List ℕ
-    ls = concat (λ l. recordBytes (λ k. k ∷ []) (locationBytes (n .clocks) l)) (n .locations)
-
-    es : List ℕ
-    es = concat (λ e. recordBytes out2 (edgeBytes e)) (n .edges)
-
-    location-short : (l : Location) → length (recordBytes (λ k. k ∷ []) (locationBytes (n .clocks) l)) ≤ 36
+    location-short : (l : Location) → length (locationRecord n l) ≤ 36
     location-short l = omega (arith, concat-length out4 4 (take (n .clocks) (l .bounds)) (λ x m. omega arith), length-take (n .clocks) (l .bounds), p .clocks-few)
 
-    edge-short : (e : Edge) → Mem e (n .edges) → length (recordBytes out2 (edgeBytes e)) ≤ 65537
+    edge-short : (e : Edge) → Mem e (n .edges) → length (edgeRecord e) ≤ 65537
     edge-short e m = omega (arith, p .of-edge e m .record-short)
 
 pub read-printed : (n : Network) → Printable n → readNetwork (networkBytes n) ≡ done n
