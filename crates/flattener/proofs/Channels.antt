@@ -10,11 +10,11 @@ use lib.Dec.{eqb}
 use lib.ListN.{length}
 use Rattle.expr.specs.Lists.{below, position}
 use Rattle.expr.proofs.Bools.{parts, both}
-use Rattle.expr.proofs.Lists.{any-below, below-any, Once, once-below}
+use Rattle.expr.proofs.Lists.{any-below, below-any, Once, once-below, index-lt, index-injective}
+use Rattle.expr.proofs.Pairwise.{Pairwise, pairwise-by, index-ascends}
 use Rattle.chart.specs.Chart.{Chart, transitionAt, states}
 use Rattle.chart.proofs.Tree.{size, states-at, states-by}
 use Rattle.flattener.specs.Flatten.{Pair, samePair, transitions, entersBy, leavesBy, enterPairs, exitPairs, enterChannel, exitChannel, flatten}
-use Rattle.flattener.proofs.Pairwise.{Pairwise, pairwise-by, index-lt, index-injective, index-ascends}
 use Rattle.flattener.proofs.Numbers.{same-pair-at, same-pair-by, pairs-at, pairs-by, pairs-once}
 
 -- the transition that uses a pair

@@ -10,14 +10,14 @@ use lib.Dec.{eqb}
 use lib.ListN.{length, getD}
 use Rattle.expr.specs.Lists.{below, keep, concat, position, ascending}
 use Rattle.expr.proofs.Bools.{parts, clash, both}
-use Rattle.expr.proofs.Lists.{keep-at, keep-by, map-at, map-by, concat-at, concat-by, below-at, below-by, getD-mem, Once, once-keep, once-below, ascending-below, ascending-keep}
+use Rattle.expr.proofs.Lists.{keep-at, keep-by, map-at, map-by, concat-at, concat-by, below-at, below-by, getD-mem, Once, once-keep, once-below, ascending-below, ascending-keep, index-lt, index-at, index-injective, index-of, getD-map}
+use Rattle.expr.proofs.Pairwise.{Pairwise, pairwise-in, pairwise-between, pairwise-order, ascending-pairwise, map-once, append-once, concat-once, index-ascends}
 use Rattle.chart.specs.Chart.{Chart, states, parentOf, sequential, home}
 use Rattle.chart.specs.Tree.{children, sequentials}
 use Rattle.chart.proofs.Tree.{size, Child, children-at, children-by, children-once}
 use Rattle.network.specs.Network.{Location, locationAt}
 use Rattle.flattener.specs.Flatten.{Pair, Place, idle, child, pre, post, samePair, samePlace, pairs, entersBy, hasExit, transitions, places, allPlaces, number, automaton, placeHome, locationOf, flatten}
 use Rattle.flattener.proofs.Automata.{Region, sequentials-at, sequentials-by, sequentials-once}
-use Rattle.flattener.proofs.Pairwise.{Pairwise, pairwise-in, pairwise-between, pairwise-order, ascending-pairwise, map-once, append-once, concat-once, index-lt, index-at, index-injective, index-of, index-ascends, getD-map}
 
 -- equality of pairs and of places is tested
 pub same-pair-at : (p r : Pair) → samePair p r ≡ true → p ≡ r

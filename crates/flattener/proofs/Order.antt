@@ -10,11 +10,11 @@ use lib.Dec.{eqb, ltb}
 use Rattle.expr.specs.Lists.{keep, concat}
 use Rattle.expr.proofs.Bools.{parts, both, or-l, or-r}
 use Rattle.expr.proofs.Lists.{keep-at, map-at, ascending-keep, ascending-below, Once}
+use Rattle.expr.proofs.Pairwise.{Pairwise, pairwise-by, pairwise-keep, pairwise-left, pairwise-map, pairwise-of-map, pairwise-concat, pairwise-once, ascending-pairwise}
 use Rattle.chart.specs.Chart.{Chart, Transition, transitionAt, parentOf}
 use Rattle.chart.specs.Tree.{children}
 use Rattle.network.specs.Network.{Edge, edgesAscend, key}
 use Rattle.flattener.specs.Flatten.{Pair, Place, idle, child, pre, post, samePlace, hasExit, transitions, places, allPlaces, number, placeHome, alternatives, exitPairs, enterPairs, enterChannel, exitChannel, signalling, edge, ownEdge, departure, bearing, bearingAll, heardExits, heardEntries, toPlace, fromPlace, flatten}
-use Rattle.flattener.proofs.Pairwise.{Pairwise, pairwise-by, pairwise-keep, pairwise-left, pairwise-map, pairwise-of-map, pairwise-concat, pairwise-once, ascending-pairwise}
 use Rattle.flattener.proofs.Sums.{sorted-ascending}
 use Rattle.flattener.proofs.Automata.{Region}
 use Rattle.flattener.proofs.Numbers.{IsPlace, places-at, all-places-at, numbers-ascend, numbers-ascend-within}

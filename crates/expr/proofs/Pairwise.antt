@@ -5,10 +5,9 @@ use mathlib.Core.Logic.{⊎-elim, _≢_}
 use mathlib.Core.List.{List, [], _∷_, _++_, map, List·Memᴰ as Mem, List·Memᴰ·head as here, List·Memᴰ·tail as there, List·Memᴰ·not-nil as not-nil, List·Memᴰ·append-cases as append-cases, Memᴰ·append-left as append-left, Memᴰ·append-right as append-right, Memᴰ·cast as cast, List·Memᴰ·cases-cons as cases-cons}
 use Prim.Native.Nat.{ℕ, zero, suc, _+_, _≤_, _<_}
 use native.Mathlib.Omega.{arith}
-use lib.ListN.{length, getD}
 use Rattle.expr.specs.Lists.{keep, concat, position, ascending}
 use Rattle.expr.proofs.Bools.{fails}
-use Rattle.expr.proofs.Lists.{keep-at, map-at, map-by, concat-at, concat-by, any-by, Once, getD-mem, position-lt, position-of, position-getD, ascending-above, ascending-tail}
+use Rattle.expr.proofs.Lists.{keep-at, map-at, map-by, concat-at, concat-by, Once, ascending-above, ascending-tail}
 
 abbrev pub Pairwise : {A : Type 0} → (A → A → Type 0) → List A → Type 0
 Pairwise R [] = Unit {0}
@@ -108,18 +107,6 @@ concat-once {A} {B} f owner xs g h o = pairwise-once (concat f xs) (pairwise-con
 
 -- the index of an element, by a test for equality
 module _ {A : Type 0} (same : A → A → Bool) (equal : (x y : A) → same x y ≡ true → x ≡ y) (itself : (x : A) → same x x ≡ true) where
-  pub index-lt : {x : A} {xs : List A} → Mem x xs → position (same x) xs < length xs
-  index-lt {x} {xs} m = position-lt (same x) xs (any-by (same x) m (itself x))
-
-  pub index-at : {x : A} {xs : List A} (d : A) → Mem x xs → getD xs (position (same x) xs) d ≡ x
-  index-at {x} {xs} d m = position-of (same x) d m (itself x) (λ y e. sym (equal x y e))
-
-  pub index-injective : {x y : A} {xs : List A} → Mem x xs → Mem y xs → position (same x) xs ≡ position (same y) xs → x ≡ y
-  index-injective {x} {y} {xs} m n e = sym (index-at x m) ∙ ap (λ (i : ℕ). getD xs i x) e ∙ index-at x n
-
-  pub index-of : (xs : List A) (d : A) (i : ℕ) → Once xs → i < length xs → position (same (getD xs i d)) xs ≡ i
-  index-of xs d i o h = position-getD (same (getD xs i d)) xs d i o h (itself _) (λ y e. sym (equal _ y e))
-
   index-there : (x y : A) (xs : List A) → y ≢ x → position (same y) (x ∷ xs) ≡ suc (position (same y) xs)
   unfolding position
   index-there x y xs d = rw (fails (same y x) (λ e. d (equal y x e)))
@@ -139,8 +126,3 @@ module _ {A : Type 0} (same : A → A → Bool) (equal : (x y : A) → same x y 
     where
       other : (y : A) → Mem y xs → y ≢ x
       other y m e = o .0 (cast (sym e) m)
-
-pub getD-map : {A B : Type 0} (f : A → B) (xs : List A) (i : ℕ) (a : A) (b : B) → i < length xs → getD (map f xs) i b ≡ f (getD xs i a)
-getD-map f [] i a b h = absurd (omega arith)
-getD-map f (x ∷ xs) zero a b h = refl
-getD-map f (x ∷ xs) (suc i) a b h = getD-map f xs i a b (omega arith)
