@@ -5,9 +5,13 @@ use mathlib.Core.Logic.{⊎-elim, _≢_}
 use mathlib.Core.List.{List, [], _∷_, _++_, map, List·Memᴰ as Mem, List·Memᴰ·head as here, List·Memᴰ·tail as there, List·Memᴰ·not-nil as not-nil, List·Memᴰ·append-cases as append-cases, Memᴰ·append-left as append-left, Memᴰ·append-right as append-right, Memᴰ·cast as cast, List·Memᴰ·cases-cons as cases-cons}
 use Prim.Native.Nat.{ℕ, zero, suc, _+_, _≤_, _<_}
 use native.Mathlib.Omega.{arith}
+use native.Mathlib.Decide.{ℕ-discrete}
+use borrow.Author.Tests.{ltb-true, ltb-false}
+use lib.Dec.{ltb}
+use lib.ListN.{length, getD}
 use Rattle.expr.specs.Lists.{keep, concat, position, ascending}
-use Rattle.expr.proofs.Bools.{fails}
-use Rattle.expr.proofs.Lists.{keep-at, map-at, map-by, concat-at, concat-by, Once, ascending-above, ascending-tail}
+use Rattle.expr.proofs.Bools.{decided, fails}
+use Rattle.expr.proofs.Lists.{keep-at, map-at, map-by, concat-at, concat-by, Once, getD-mem, ascending-above, ascending-tail}
 
 abbrev pub Pairwise : {A : Type 0} → (A → A → Type 0) → List A → Type 0
 Pairwise R [] = Unit {0}
@@ -44,6 +48,12 @@ module _ {A : Type 0} (R : A → A → Type 0) where
   pub pairwise-across : {xs : List A} (ys : List A) {x y : A} → Pairwise R (xs ++ ys) → Mem x xs → Mem y ys → R x y
   pairwise-across {xs = z ∷ zs} ys {x} {y} o (here e) n = subst (λ (w : A). R w y) (sym e) (o .0 y (append-right zs n))
   pairwise-across {xs = z ∷ zs} ys o (there m) n = pairwise-across ys (o .1) m n
+
+  pub pairwise-getD : (xs : List A) (d : A) (i j : ℕ) → Pairwise R xs → i < j → j < length xs → R (getD xs i d) (getD xs j d)
+  pairwise-getD [] d i j o l h = absurd (omega arith)
+  pairwise-getD (x ∷ xs) d i zero o l h = absurd (omega arith)
+  pairwise-getD (x ∷ xs) d zero (suc j) o l h = o .0 _ (getD-mem xs j d (omega arith))
+  pairwise-getD (x ∷ xs) d (suc i) (suc j) o l h = pairwise-getD xs d i j (o .1) (omega arith) (omega arith)
 
   -- where an order without both ways goes along the list, so does the relation along the order
   pub pairwise-order : (Q : A → A → Type 0) → ((x y : A) → Q x y → Q y x → ⊥) → {xs : List A} {x y : A} → Pairwise Q xs → Pairwise R xs → Mem x xs → Mem y xs → Q x y → R x y
@@ -93,6 +103,12 @@ once-pairwise (x ∷ xs) o = (λ y m e. o .0 (cast e m), once-pairwise xs (o .1)
 pub pairwise-once : {A : Type 0} (xs : List A) → Pairwise (λ x y. x ≢ y) xs → Once xs
 pairwise-once [] o = tt
 pairwise-once (x ∷ xs) o = (λ m. o .0 x m refl, pairwise-once xs (o .1))
+
+pub once-getD : {A : Type 0} (xs : List A) (d : A) (i j : ℕ) → Once xs → i < length xs → j < length xs → getD xs i d ≡ getD xs j d → i ≡ j
+once-getD xs d i j o h k e = elim (ℕ-discrete i j) [
+  | yes q ↦ q
+  | no n ↦ absurd (⊎-elim (λ l. pairwise-getD (λ x y. x ≢ y) xs d i j (once-pairwise xs o) (ltb-true i j l) k e) (λ l. pairwise-getD (λ x y. x ≢ y) xs d j i (once-pairwise xs o) (omega (arith, ltb-false i j l)) h (sym e)) (decided (ltb i j)))
+]
 
 pub map-once : {A B : Type 0} (f : A → B) (xs : List A) → ((x y : A) → f x ≡ f y → x ≡ y) → Once xs → Once (map f xs)
 map-once f xs g o = pairwise-once (map f xs) (pairwise-map (λ x y. x ≢ y) f xs (pairwise-by (λ x y. x ≢ y) (λ x y. f x ≢ f y) xs (λ x y m n d e. d (g x y e)) (once-pairwise xs o)))

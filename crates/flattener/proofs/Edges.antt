@@ -19,8 +19,8 @@ use Rattle.chart.proofs.Ranges.{Ranges}
 use Rattle.network.specs.Network.{Edge}
 use Rattle.flattener.specs.Flatten.{Pair, Place, idle, child, pre, post, samePlace, hasExit, hasEntry, transitions, places, allPlaces, number, placeHome, alternatives, enterChannel, exitChannel, signalling, edge, ownEdge, arrival, departure, bearing, bearingAll, heardExits, heardEntries, toPlace, fromPlace, flatten}
 use Rattle.flattener.proofs.Automata.{Region}
-use Rattle.flattener.proofs.Numbers.{IsPlace, same-place-at, same-place-by, places-at, places-by, all-places-at, all-places-by, number-injective}
-use Rattle.flattener.proofs.Arrivals.{PlaceOf, idle-place, child-place, ends, source-place, arrival-place, departure-place}
+use Rattle.flattener.proofs.Numbers.{IsPlace, PlaceOf, idle-place, child-place, same-place-at, same-place-by, places-at, places-by, all-places-at, all-places-by, number-injective}
+use Rattle.flattener.proofs.Arrivals.{arrival-place, departure-place}
 
 -- the exit that an edge bearing t tests, and the set of automata: an alternative, or none
 abbrev pub Tests : Chart → ℕ → ℕ → ℕ → Type 0
