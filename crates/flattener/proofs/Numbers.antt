@@ -1,22 +1,26 @@
--- The places of a chart's automata, and their numbers.
+-- The places of a chart's automata, and their numbers. `IsPlace` says which places there are, `PlaceOf` which an automaton
+-- has; `places-at`, `places-by`, `all-places-at` and `all-places-by` that the lists have just these, each once. Numbers are
+-- below their count (`number-lt`), no two places share one (`number-injective`), and the location of that number is the
+-- place's (`location-of-place`). They ascend from automaton to automaton (`numbers-ascend-between`), and in one along its
+-- places (`numbers-ascend-within`, `number-order`); `idle-number`, `child-number`, `pre-number` and `post-number` count them.
 use mathlib.Core.Path.{_≡_, refl, sym, ap, ap₂, _∙_, subst}
 use mathlib.Core.Bool.{Bool, true, false, _&&_}
-use mathlib.Core.Logic.{_⊎_, inl, inr, ⊎-elim, _≢_}
-use mathlib.Core.List.{List, [], _∷_, _++_, map, List·Memᴰ as Mem, List·Memᴰ·head as here, List·Memᴰ·tail as there, List·Memᴰ·append-cases as append-cases, Memᴰ·append-left as append-left, Memᴰ·append-right as append-right, Memᴰ·cast as cast, List·Memᴰ·cases-cons as cases-cons}
-use Prim.Native.Nat.{ℕ, zero, suc, _+_, _≤_, _<_}
+use mathlib.Core.Logic.{⊎-elim, _≢_}
+use mathlib.Core.List.{List, _++_, map, List·Memᴰ as Mem, List·Memᴰ·head as here, List·Memᴰ·tail as there, List·Memᴰ·append-cases as append-cases, Memᴰ·append-left as append-left, Memᴰ·append-right as append-right, List·Memᴰ·cases-cons as cases-cons}
+use Prim.Native.Nat.{ℕ, suc, _+_, _<_}
 use native.Mathlib.Omega.{arith}
-use borrow.Author.Tests.{eqb-true, eq-eqb}
+use borrow.Author.Tests.{eqb-true, eq-eqb, ltb-true, lt-ltb}
 use lib.Dec.{eqb, ltb}
 use lib.ListN.{length, getD, length-map}
 use Rattle.expr.specs.Lists.{any, below, keep, concat, position}
-use Rattle.expr.proofs.Bools.{parts, clash, fails, both}
+use Rattle.expr.proofs.Bools.{parts, clash, fails, both, same}
 use Rattle.expr.proofs.Lists.{keep-at, keep-by, map-at, map-by, concat-at, concat-by, any-by, none-any, below-at, below-by, getD-mem, Once, once-keep, once-below, position-left, position-right, position-map, position-concat, index-lt, index-at, index-injective, index-of, getD-map}
 use Rattle.expr.proofs.Pairwise.{Pairwise, pairwise-in, pairwise-between, pairwise-order, ascending-pairwise, map-once, append-once, concat-once, index-ascends}
-use Rattle.chart.specs.Chart.{Chart, states, parentOf, sequential, home}
+use Rattle.chart.specs.Chart.{Chart, parentOf, home}
 use Rattle.chart.specs.Tree.{children, sequentials}
-use Rattle.chart.proofs.Tree.{size, Child, children-at, children-by, children-once}
+use Rattle.chart.proofs.Tree.{Child, children-at, children-by, children-once}
 use Rattle.network.specs.Network.{Location, locationAt}
-use Rattle.flattener.specs.Flatten.{Pair, Place, idle, child, pre, post, samePair, samePlace, pairs, entersBy, hasExit, transitions, places, allPlaces, number, automaton, placeHome, locationOf, flatten}
+use Rattle.flattener.specs.Flatten.{Pair, Place, idle, child, pre, post, samePair, samePlace, pairs, entersBy, hasExit, transitions, places, allPlaces, number, automaton, placeHome, urgentPlace, boundsOf, locationOf, flatten}
 use Rattle.flattener.proofs.Automata.{Region, sequentials-at, sequentials-by, sequentials-once, sequentials-ascending, regionAt, region-at, automaton-of-region, automaton-injective}
 
 -- equality of pairs and of places is tested
@@ -248,6 +252,14 @@ module _ (c : Chart) where
   unfolding locationOf
   automaton-of-place k = ap (λ (l : Location). l .automaton) (location-of-place k)
 
+  pub urgent-of-place : {p : Place} → IsPlace c p → locationAt (flatten c) (number c p) .urgent ≡ urgentPlace p
+  unfolding locationOf
+  urgent-of-place k = ap (λ (l : Location). l .urgent) (location-of-place k)
+
+  pub bounds-of-place : {p : Place} → IsPlace c p → locationAt (flatten c) (number c p) .bounds ≡ boundsOf c p
+  unfolding locationOf
+  bounds-of-place k = ap (λ (l : Location). l .bounds) (location-of-place k)
+
   -- a location of an automaton is one of its places
   pub place-of-location : (a i : ℕ) → a < length (sequentials c) → i < length (flatten c .locations) → locationAt (flatten c) i .automaton ≡ a → (p : Place) × PlaceOf c (regionAt c a) p × (number c p ≡ i)
   place-of-location a i h l e =
@@ -265,6 +277,15 @@ module _ (c : Chart) where
       (λ r m l. none-any (samePlace p) (places c r) (λ x n. fails (samePlace p x) (λ e. let same : q ≡ r = sym (k .home-is) ∙ ap (placeHome c) (same-place-at p x e) ∙ places-at r n .0 in omega arith)))
       (any-by (samePlace p) (places-by q p (k .home-is) (k .is-place .stands)) (same-place-by p))
 
+  -- so in one automaton the order of the numbers is that of the places
+  pub number-order : {q : ℕ} {p r : Place} → PlaceOf c q p → PlaceOf c q r → ltb (number c p) (number c r) ≡ ltb (position (samePlace p) (places c q)) (position (samePlace r) (places c q))
+  number-order {q} {p} {r} j k =
+      let a = number-counts p j in
+      let b = number-counts r k in
+      same _ _ (λ h. lt-ltb (position (samePlace p) (places c q)) (position (samePlace r) (places c q)) (omega (arith, ltb-true (number c p) (number c r) h)))
+      (λ h. lt-ltb (number c p) (number c r) (omega (arith, ltb-true (position (samePlace p) (places c q)) (position (samePlace r) (places c q)) h)))
+
+  -- the numbers of each sort
   idle-position : (q : ℕ) → position (samePlace (idle q)) (places c q) ≡ 0
   unfolding places position samePlace
   idle-position q = rw (eq-eqb q q refl)

@@ -1,28 +1,28 @@
--- The network of a chart passes what is asked of a network file beyond its fields.
-use mathlib.Core.Path.{_≡_, refl, sym, ap, _∙_, subst}
+-- The network of a chart passes what is asked of a network beyond the ranges of its fields: `sound-flatten`.
+use mathlib.Core.Path.{_≡_, refl, sym, ap, _∙_}
 use mathlib.Core.Bool.{Bool, true, false, cond, not, _&&_}
 use mathlib.Core.Logic.{⊎-elim}
-use mathlib.Core.List.{List, map, List·Memᴰ as Mem}
+use mathlib.Core.List.{List·Memᴰ as Mem}
 use Prim.Native.Nat.{ℕ, _<_}
 use native.Mathlib.Omega.{arith}
 use borrow.Author.Tests.{eqb-true, eq-eqb}
 use lib.Dec.{eqb}
 use lib.ListN.{length}
-use Rattle.expr.specs.Lists.{all, below, keep}
-use Rattle.expr.specs.Label.{Label, assignsOnce}
+use Rattle.expr.specs.Lists.{all, below}
+use Rattle.expr.specs.Label.{assignsOnce}
 use Rattle.expr.proofs.Bools.{parts, both, or-r, cond-yes}
-use Rattle.expr.proofs.Lists.{all-at, all-by, below-all, below-at, below-by, keep-at, keep-by, once-keep, once-below, getD-mem, one-length}
-use Rattle.chart.specs.Chart.{Chart, Transition, transitionAt}
+use Rattle.expr.proofs.Lists.{all-at, all-by, below-all, below-at, below-by, keep-at, keep-by, once-keep, once-below, one-length}
+use Rattle.chart.specs.Chart.{Chart}
 use Rattle.chart.specs.Tree.{sequentials}
 use Rattle.chart.proofs.Rules.{Passed}
 use Rattle.chart.proofs.Ranges.{Ranges}
 use Rattle.chart.proofs.Step.{transition-mem}
 use Rattle.network.specs.Network.{Edge, Location, locationAt, ownerOf, initials, sound}
-use Rattle.flattener.specs.Flatten.{Place, idle, samePlace, allPlaces, number, automaton, placeHome, initialPlace, locationOf, signalling, flatten}
+use Rattle.flattener.specs.Flatten.{Place, samePlace, number, automaton, placeHome, initialPlace, locationOf, signalling, flatten}
 use Rattle.flattener.proofs.Automata.{regionAt, region-at, automaton-of-region}
 use Rattle.flattener.proofs.Numbers.{IsPlace, same-place-at, same-place-by, number-lt, location-of-place, automaton-of-place, locations-length, place-of-location}
 use Rattle.flattener.proofs.Arrivals.{initial-place}
-use Rattle.flattener.proofs.Edges.{edges-at, source-of, target-of, label-of}
+use Rattle.flattener.proofs.Edges.{edges-at, owner-of, target-of, label-of}
 use Rattle.flattener.proofs.Order.{edges-ascend}
 
 -- a label that only signals assigns nothing
@@ -70,19 +70,17 @@ module _ (c : Chart) (passed : Passed c) (ranges : Ranges c) where
 
   -- each edge joins two locations of one automaton
   pub edge-joins : {e : Edge} → Mem e (flatten c .edges) → ownerOf (flatten c) e ≡ locationAt (flatten c) (e .target) .automaton
-  unfolding ownerOf
   edge-joins {e} m =
-      let r = edges-at c passed ranges m in
+      let r = edges-at c m in
       let t = target-of c passed ranges (r .0) e (r .1) (r .2) in
-      ap (λ (i : ℕ). locationAt (flatten c) i .automaton) (source-of c (r .0) e (r .2)) ∙ automaton-of-place c (r .1) ∙ ap (automaton c) (sym (t .1 .home-is)) ∙ sym (automaton-of-place c (t .1 .is-place))
-      ∙ ap (λ (i : ℕ). locationAt (flatten c) i .automaton) (sym (t .2))
+      owner-of c (r .0) e (r .1) (r .2) ∙ ap (automaton c) (sym (t .1 .home-is)) ∙ sym (automaton-of-place c (t .1 .is-place)) ∙ ap (λ (i : ℕ). locationAt (flatten c) i .automaton) (sym (t .2))
 
   pub edges-join : all (λ e. eqb (ownerOf (flatten c) e) (locationAt (flatten c) (e .target) .automaton)) (flatten c .edges) ≡ true
   edges-join = all-by _ (flatten c .edges) (λ e m. eq-eqb _ _ (edge-joins m))
 
   -- each edge keeps rule 13
   pub edges-assign-once : all (λ e. assignsOnce (e .label)) (flatten c .edges) ≡ true
-  edges-assign-once = all-by _ (flatten c .edges) (λ e m. let r = edges-at c passed ranges m in ⊎-elim
+  edges-assign-once = all-by _ (flatten c .edges) (λ e m. let r = edges-at c m in ⊎-elim
       (λ k. ap assignsOnce (k .2) ∙ all-at _ _ (passed .assign-once) (transition-mem c (k .0) (k .1)))
       (λ k. ap assignsOnce (k .2) ∙ signalling-assigns (k .0) (k .1))
       (label-of c (r .0) e (r .1) (r .2)))
