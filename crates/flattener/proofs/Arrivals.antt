@@ -1,44 +1,25 @@
--- The places that a transition goes through, and those where automata start.
-use mathlib.Core.Path.{_≡_, refl, sym, ap, _∙_, subst}
-use mathlib.Core.Bool.{Bool, true, false, cond, not}
-use mathlib.Core.Logic.{_⊎_, ⊎-elim, _≢_}
+-- The places that a transition goes through, and those where automata start. Each is of the transition's home, or of the
+-- automaton that starts: `source-place`, `post-place`, `pre-place`, `arrival-place`, `departure-place`, `initial-place`.
+use mathlib.Core.Path.{_≡_, refl, sym, subst}
+use mathlib.Core.Bool.{Bool, true, false, cond}
+use mathlib.Core.Logic.{⊎-elim}
 use mathlib.Core.List.{List·Memᴰ as Mem}
 use Prim.Native.Nat.{ℕ, _<_}
 use native.Mathlib.Omega.{arith}
-use borrow.Author.Tests.{eqb-true, eqb-false, eq-eqb, not-true}
-use lib.Dec.{eqb}
+use borrow.Author.Tests.{eqb-false, not-true}
 use lib.ListN.{length}
-use Rattle.expr.specs.Lists.{has}
-use Rattle.expr.proofs.Bools.{decided, cond-yes, cond-no}
 use Rattle.expr.proofs.Lists.{all-at}
-use Rattle.chart.specs.Chart.{Chart, Transition, transitionAt, parentOf, sequential, home}
+use Rattle.chart.specs.Chart.{Chart, transitionAt, home}
 use Rattle.chart.specs.Tree.{entered}
-use Rattle.chart.proofs.Tree.{size, Child}
+use Rattle.chart.proofs.Tree.{Child}
 use Rattle.chart.proofs.Entered.{entered-marked}
 use Rattle.chart.proofs.Rules.{Passed}
 use Rattle.chart.proofs.Ranges.{Ranges}
 use Rattle.chart.proofs.Step.{siblings-at, transition-mem}
-use Rattle.flattener.specs.Flatten.{Pair, Place, idle, child, pre, post, hasExit, hasEntry, exitPairs, enterPairs, arrival, departure, placeHome, markedChild, initialPlace}
+use Rattle.flattener.specs.Flatten.{idle, child, pre, post, hasExit, hasEntry, exitPairs, enterPairs, arrival, departure, placeHome, markedChild, initialPlace}
 use Rattle.flattener.proofs.Automata.{Region, marked-child}
-use Rattle.flattener.proofs.Numbers.{IsPlace}
+use Rattle.flattener.proofs.Numbers.{PlaceOf, idle-place, child-place}
 use Rattle.flattener.proofs.Channels.{enters-by, leaves-by, enter-pairs-by, exit-pairs-by}
-
--- a place of the automaton of q
-pub record PlaceOf (c : Chart) (q : ℕ) (p : Place) : Type 0 where
-  pub is-place : IsPlace c p
-  pub home-is : placeHome c p ≡ q
-
--- an idle automaton, and one at a child
-pub idle-place : (c : Chart) {q : ℕ} → Region c q → PlaceOf c q (idle q)
-unfolding placeHome
-idle-place c g = record { is-place = record { region = g; stands = tt }; home-is = refl }
-
-pub child-place : (c : Chart) {q s : ℕ} → Region c q → Child c q s → PlaceOf c q (child s)
-unfolding placeHome
-child-place c g k = record {
-  is-place = record { region = subst (Region c) (sym (k .parent-is)) g; stands = record { known = k .known; below-root = k .below-root; parent-is = refl } };
-  home-is = k .parent-is;
-}
 
 -- a transition goes from a child of its home to a child of its home
 pub record Ends (c : Chart) (t : ℕ) : Type 0 where

@@ -1,20 +1,20 @@
--- The channels of enter pairs and exit pairs.
-use mathlib.Core.Path.{_≡_, refl, sym, ap, _∙_}
-use mathlib.Core.Bool.{true, _&&_}
+-- The channels of enter pairs and exit pairs: after the chart's channels and among the network's, no two pairs share one, and
+-- they ascend along the pairs.
+use mathlib.Core.Path.{_≡_, refl}
+use mathlib.Core.Bool.{true}
 use mathlib.Core.Logic.{_≢_}
-use mathlib.Core.List.{List, List·Memᴰ as Mem}
+use mathlib.Core.List.{List·Memᴰ as Mem}
 use Prim.Native.Nat.{ℕ, _+_, _≤_, _<_}
 use native.Mathlib.Omega.{arith}
 use borrow.Author.Tests.{eqb-true, eq-eqb}
-use lib.Dec.{eqb}
 use lib.ListN.{length}
-use Rattle.expr.specs.Lists.{below, position}
+use Rattle.expr.specs.Lists.{position}
 use Rattle.expr.proofs.Bools.{parts, both}
-use Rattle.expr.proofs.Lists.{any-below, below-any, Once, once-below}
+use Rattle.expr.proofs.Lists.{any-below, below-any, Once, once-below, index-lt, index-injective}
+use Rattle.expr.proofs.Pairwise.{Pairwise, pairwise-by, index-ascends}
 use Rattle.chart.specs.Chart.{Chart, transitionAt, states}
 use Rattle.chart.proofs.Tree.{size, states-at, states-by}
 use Rattle.flattener.specs.Flatten.{Pair, samePair, transitions, entersBy, leavesBy, enterPairs, exitPairs, enterChannel, exitChannel, flatten}
-use Rattle.flattener.proofs.Pairwise.{Pairwise, pairwise-by, index-lt, index-injective, index-ascends}
 use Rattle.flattener.proofs.Numbers.{same-pair-at, same-pair-by, pairs-at, pairs-by, pairs-once}
 
 -- the transition that uses a pair

@@ -15,9 +15,8 @@ use Rattle.chart.proofs.Rules.{Passed, kinds-left}
 use Rattle.chart.proofs.Ranges.{Ranges, kinds-of}
 use Rattle.flattener.specs.Flatten.{Pair, Place, idle, child, pre, post, enterPairs, exitPairs, allPlaces, placeHome}
 use Rattle.flattener.proofs.Automata.{Region, sequentials-by}
-use Rattle.flattener.proofs.Numbers.{IsPlace, all-places-at, all-places-by, all-places-once}
+use Rattle.flattener.proofs.Numbers.{IsPlace, idle-place, all-places-at, all-places-by, all-places-once}
 use Rattle.flattener.proofs.Channels.{enters-at, leaves-at, enter-pairs-at, enter-pairs-by, enter-pairs-once, exit-pairs-at, exit-pairs-once}
-use Rattle.flattener.proofs.Arrivals.{idle-place}
 
 -- a transition names a pair: by what it has of a state and of a mark
 abbrev Names : (ℕ → ℕ) → (ℕ → ℕ) → Pair → ℕ → Type 0

@@ -1,26 +1,26 @@
--- The edges of a chart's network: which there are, and the places that each joins.
+-- The edges of a chart's network. `Leaves` says which edges leave a place; `edges-at` and `edges-by` that the network has just
+-- these. Each comes from one place (`edge-from`), and joins it to a place of the same automaton (`source-of`, `target-of`).
 use mathlib.Core.Path.{_≡_, refl, sym, ap, _∙_, subst}
 use mathlib.Core.Bool.{Bool, true, false, cond, _&&_}
 use mathlib.Core.Logic.{_⊎_, inl, inr, ⊎-elim}
-use mathlib.Core.List.{List, [], _∷_, map, List·Memᴰ as Mem, List·Memᴰ·head as here, List·Memᴰ·eq-of-singleton as eq-of-singleton, Memᴰ·cast as cast}
+use mathlib.Core.List.{[], _∷_, map, List·Memᴰ as Mem, List·Memᴰ·head as here, List·Memᴰ·eq-of-singleton as eq-of-singleton, Memᴰ·cast as cast}
 use Prim.Native.Nat.{ℕ, _<_}
 use borrow.Author.Tests.{eqb-true, eq-eqb}
 use lib.Dec.{eqb}
 use lib.ListN.{length}
-use Rattle.expr.specs.Lists.{concat, keep, below}
-use Rattle.expr.specs.Label.{Label}
-use Rattle.expr.proofs.Bools.{parts, clash, both}
-use Rattle.expr.proofs.Lists.{keep-at, keep-by, map-at, map-by, concat-at, concat-by, below-at, below-by}
+use Rattle.expr.specs.Lists.{keep}
+use Rattle.expr.proofs.Bools.{parts, both}
+use Rattle.expr.proofs.Lists.{keep-at, keep-by, map-at, map-by, concat-at, concat-by, below-at, below-by, getD-mem, mem-getD}
 use Rattle.chart.specs.Chart.{Chart, Transition, transitionAt, parentOf, home}
 use Rattle.chart.specs.Tree.{children}
 use Rattle.chart.proofs.Tree.{Child, children-at, children-by}
 use Rattle.chart.proofs.Rules.{Passed}
 use Rattle.chart.proofs.Ranges.{Ranges}
-use Rattle.network.specs.Network.{Edge}
-use Rattle.flattener.specs.Flatten.{Pair, Place, idle, child, pre, post, samePlace, hasExit, hasEntry, transitions, places, allPlaces, number, placeHome, alternatives, enterChannel, exitChannel, signalling, edge, ownEdge, arrival, departure, bearing, bearingAll, heardExits, heardEntries, toPlace, fromPlace, flatten}
-use Rattle.flattener.proofs.Automata.{Region}
-use Rattle.flattener.proofs.Numbers.{IsPlace, same-place-at, same-place-by, places-at, places-by, all-places-at, all-places-by, number-injective}
-use Rattle.flattener.proofs.Arrivals.{PlaceOf, idle-place, child-place, ends, source-place, arrival-place, departure-place}
+use Rattle.network.specs.Network.{Edge, Network, locationAt, ownerOf}
+use Rattle.network.specs.Machine.{edgeAt}
+use Rattle.flattener.specs.Flatten.{Pair, Place, idle, child, pre, post, samePlace, hasExit, hasEntry, transitions, places, allPlaces, number, automaton, placeHome, alternatives, enterChannel, exitChannel, signalling, edge, ownEdge, arrival, departure, bearing, bearingAll, heardExits, heardEntries, toPlace, fromPlace, flatten}
+use Rattle.flattener.proofs.Numbers.{IsPlace, PlaceOf, idle-place, child-place, same-place-at, same-place-by, places-at, places-by, all-places-at, all-places-by, number-injective, automaton-of-place}
+use Rattle.flattener.proofs.Arrivals.{arrival-place, departure-place}
 
 -- the exit that an edge bearing t tests, and the set of automata: an alternative, or none
 abbrev pub Tests : Chart → ℕ → ℕ → ℕ → Type 0
@@ -148,11 +148,7 @@ module _ (c : Chart) (passed : Passed c) (ranges : Ranges c) where
   from-place-by (pre p) k = here k
   from-place-by (post t) k = here k
 
-  -- the edges of the network: those from its places
-  pub edges-at : {e : Edge} → Mem e (flatten c .edges) → (p : Place) × IsPlace c p × Leaves c p e
-  unfolding flatten
-  edges-at m = let r = concat-at (fromPlace c) (allPlaces c) m in (r .0, all-places-at c (r .1), from-place-at c (r .0) (r .2))
-
+  -- those from a place of the chart's automata are the network's
   pub edges-by : {p : Place} {e : Edge} → IsPlace c p → Leaves c p e → Mem e (flatten c .edges)
   unfolding flatten
   edges-by {p} k l = concat-by (fromPlace c) (all-places-by c k) (from-place-by p l)
@@ -168,6 +164,25 @@ source-of c (post t) e k = ap (λ (x : Edge). x .source) k
 -- so it leaves no other place
 pub leaves-one : (c : Chart) (e : Edge) {p r : Place} → IsPlace c p → IsPlace c r → Leaves c p e → Leaves c r e → p ≡ r
 leaves-one c e {p} {r} j k l m = number-injective c j k (sym (source-of c p e l) ∙ source-of c r e m)
+
+-- the edges of the network: those from its places
+pub edges-at : (c : Chart) {e : Edge} → Mem e (flatten c .edges) → (p : Place) × IsPlace c p × Leaves c p e
+unfolding flatten
+edges-at c m = let r = concat-at (fromPlace c) (allPlaces c) m in (r .0, all-places-at c (r .1), from-place-at c (r .0) (r .2))
+
+pub edge-from : (c : Chart) {e : Edge} → Mem e (flatten c .edges)
+    → (p : Place) × IsPlace c p × Mem e (fromPlace c p) × (e .source ≡ number c p) × ((r : Place) → IsPlace c r → Mem e (fromPlace c r) → r ≡ p)
+unfolding flatten
+edge-from c {e} m =
+    let r = concat-at (fromPlace c) (allPlaces c) m in
+    let k = all-places-at c (r .1) in
+    let l = from-place-at c (r .0) (r .2) in
+    (r .0, k, r .2, source-of c (r .0) e l, λ p j n. leaves-one c e j k (from-place-at c p n) l)
+
+-- its owner is the automaton of that place's home
+pub owner-of : (c : Chart) (p : Place) (e : Edge) → IsPlace c p → Leaves c p e → ownerOf (flatten c) e ≡ automaton c (placeHome c p)
+unfolding ownerOf
+owner-of c p e k l = ap (λ (i : ℕ). locationAt (flatten c) i .automaton) (source-of c p e l) ∙ automaton-of-place c k
 
 -- its target is the number of a place of the same automaton
 pub target-of : (c : Chart) → Passed c → Ranges c → (p : Place) (e : Edge) → IsPlace c p → Leaves c p e → (r : Place) × PlaceOf c (placeHome c p) r × (e .target ≡ number c r)
@@ -191,3 +206,12 @@ label-of c (child s) e k l = ⊎-elim
     l
 label-of c (pre p) e k l = inr (1, enterChannel c p, ap (λ (x : Edge). x .label) l)
 label-of c (post t) e k l = inr (1, exitChannel c (record { state = transitionAt c t .source; mark = transitionAt c t .exit }), ap (λ (x : Edge). x .label) l)
+
+-- the edges of a network by their numbers
+pub edge-at-mem : (n : Network) (m : ℕ) → m < length (n .edges) → Mem (edgeAt n m) (n .edges)
+unfolding edgeAt
+edge-at-mem n m h = getD-mem (n .edges) m _ h
+
+pub mem-edge-at : (n : Network) {e : Edge} → Mem e (n .edges) → (m : ℕ) × (m < length (n .edges)) × (edgeAt n m ≡ e)
+unfolding edgeAt
+mem-edge-at n m = mem-getD _ m

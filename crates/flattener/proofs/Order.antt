@@ -1,4 +1,5 @@
--- The edges of a chart's network ascend.
+-- The edges of a chart's network ascend strictly (`edges-ascend`): by source, since they are listed place by place, and the
+-- edges of one place by target, transition, automata tested and channel.
 use mathlib.Core.Path.{_≡_, refl, sym, ap, _∙_, subst}
 use mathlib.Core.Logic.{_≢_}
 use mathlib.Core.Bool.{Bool, true, false, cond, _&&_, _||_}
@@ -7,19 +8,21 @@ use Prim.Native.Nat.{ℕ, _<_}
 use native.Mathlib.Omega.{arith}
 use borrow.Author.Tests.{eqb-true, eq-eqb, lt-ltb}
 use lib.Dec.{eqb, ltb}
+use lib.ListN.{length}
 use Rattle.expr.specs.Lists.{keep, concat}
 use Rattle.expr.proofs.Bools.{parts, both, or-l, or-r}
 use Rattle.expr.proofs.Lists.{keep-at, map-at, ascending-keep, ascending-below, Once}
+use Rattle.expr.proofs.Pairwise.{Pairwise, pairwise-by, pairwise-keep, pairwise-left, pairwise-map, pairwise-of-map, pairwise-concat, pairwise-once, pairwise-getD, once-getD, ascending-pairwise}
 use Rattle.chart.specs.Chart.{Chart, Transition, transitionAt, parentOf}
 use Rattle.chart.specs.Tree.{children}
 use Rattle.network.specs.Network.{Edge, edgesAscend, key}
+use Rattle.network.specs.Machine.{edgeAt}
 use Rattle.flattener.specs.Flatten.{Pair, Place, idle, child, pre, post, samePlace, hasExit, transitions, places, allPlaces, number, placeHome, alternatives, exitPairs, enterPairs, enterChannel, exitChannel, signalling, edge, ownEdge, departure, bearing, bearingAll, heardExits, heardEntries, toPlace, fromPlace, flatten}
-use Rattle.flattener.proofs.Pairwise.{Pairwise, pairwise-by, pairwise-keep, pairwise-left, pairwise-map, pairwise-of-map, pairwise-concat, pairwise-once, ascending-pairwise}
 use Rattle.flattener.proofs.Sums.{sorted-ascending}
 use Rattle.flattener.proofs.Automata.{Region}
 use Rattle.flattener.proofs.Numbers.{IsPlace, places-at, all-places-at, numbers-ascend, numbers-ascend-within}
 use Rattle.flattener.proofs.Channels.{enter-channels-ascend, exit-channels-ascend}
-use Rattle.flattener.proofs.Edges.{Bears, bearing-at, bearing-all-at, to-place-at, from-place-at, source-of}
+use Rattle.flattener.proofs.Edges.{bearing-at, bearing-all-at, to-place-at, from-place-at, source-of}
 
 -- e stands before f: by source, target, transition, automata tested and channel
 pub data Less (e f : Edge) : Type 0 where
@@ -161,3 +164,11 @@ module _ (c : Chart) where
   -- so none comes twice
   pub edges-once : Once (flatten c .edges)
   edges-once = pairwise-once (flatten c .edges) (pairwise-by Less (λ e f. e ≢ f) (flatten c .edges) (λ e f m n l q. less-irreflexive f (subst (λ (x : Edge). Less x f) q l)) edges-pairwise)
+
+  pub edge-at-injective : (m k : ℕ) → m < length (flatten c .edges) → k < length (flatten c .edges) → edgeAt (flatten c) m ≡ edgeAt (flatten c) k → m ≡ k
+  unfolding edgeAt
+  edge-at-injective m k h l e = once-getD (flatten c .edges) _ m k edges-once h l e
+
+  pub edge-at-ascends : (m k : ℕ) → m < k → k < length (flatten c .edges) → Less (edgeAt (flatten c) m) (edgeAt (flatten c) k)
+  unfolding edgeAt
+  edge-at-ascends m k h l = pairwise-getD Less (flatten c .edges) _ m k edges-pairwise h l

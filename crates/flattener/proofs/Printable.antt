@@ -36,11 +36,11 @@ use Rattle.flattener.specs.File.{edgeBytes, out2, networkBytes, flattenO
 use Rattle.flattener.proofs.Automata.{automaton-lt}
 use Rattle.flattener.proofs.Sums.{sorted-at}
 use Rattle.flattener.proofs.Alternatives.{drawn}
-use Rattle.flattener.proofs.Numbers.{IsPlace, all-places-at, number-lt}
+use Rattle.flattener.proofs.Numbers.{IsPlace, idle-place, child-place, all-places-at, number-lt, locations-length}
 use Rattle.flattener.proofs.Channels.{enter-channel-known, exit-channel-known, enter-pairs-by}
-use Rattle.flattener.proofs.Arrivals.{child-place, idle-place, ends, exit-lt, exit-pair, arrival-place, departure-place, source-place}
+use Rattle.flattener.proofs.Arrivals.{ends, exit-lt, exit-pair, arrival-place, departure-place, source-place}
 use Rattle.flattener.proofs.Edges.{Tests, Leaves, edges-at}
-use Rattle.flattener.proofs.Sound.{locations-length, sound-flatten}
+use Rattle.flattener.proofs.Sound.{sound-flatten}
 use Rattle.flattener.proofs.Files.{PrintableLocation, PrintableEdge, Printable, read-printed}
 use Rattle.flattener.proofs.Joins.{bounds-have}
 use Rattle.flattener.proofs.Counts.{enter-pairs-few, exit-pairs-few, all-places-few, automata-some, all-places-some}
@@ -194,7 +194,7 @@ module _ (c : Chart) (passed : Passed c) (ranges : Ranges c) where
     rendezvous-few = omega (arith, ranges .channels-few);
     broadcasts-few = omega (arith, ranges .channels-few, enter-pairs-few c, exit-pairs-few c, ranges .transitions-few);
     of-location = λ l m. let r = map-at (locationOf c) (allPlaces c) m in subst (PrintableLocation (length (sequentials c)) (c .clocks)) (sym (r .2)) (location-fits c ranges (r .0) (all-places-at c (r .1)));
-    of-edge = λ e m. let r = edges-at c passed ranges m in leaving-fits (r .0) e (r .1) (r .2);
+    of-edge = λ e m. let r = edges-at c m in leaving-fits (r .0) e (r .1) (r .2);
   }
 
 -- reading the file of a chart's network gives the network, and finds it sound

@@ -1,34 +1,29 @@
--- The network of a chart passes what is asked of a network file beyond its fields.
-use mathlib.Core.Path.{_≡_, refl, sym, ap, _∙_, subst}
+-- The network of a chart passes what is asked of a network beyond the ranges of its fields: `sound-flatten`.
+use mathlib.Core.Path.{_≡_, refl, sym, ap, _∙_}
 use mathlib.Core.Bool.{Bool, true, false, cond, not, _&&_}
 use mathlib.Core.Logic.{⊎-elim}
-use mathlib.Core.List.{List, map, List·Memᴰ as Mem}
+use mathlib.Core.List.{List·Memᴰ as Mem}
 use Prim.Native.Nat.{ℕ, _<_}
 use native.Mathlib.Omega.{arith}
 use borrow.Author.Tests.{eqb-true, eq-eqb}
 use lib.Dec.{eqb}
-use lib.ListN.{length, getD, length-map}
-use Rattle.expr.specs.Lists.{all, below, keep}
-use Rattle.expr.specs.Label.{Label, assignsOnce}
+use lib.ListN.{length}
+use Rattle.expr.specs.Lists.{all, below}
+use Rattle.expr.specs.Label.{assignsOnce}
 use Rattle.expr.proofs.Bools.{parts, both, or-r, cond-yes}
-use Rattle.expr.proofs.Lists.{all-at, all-by, below-all, below-at, below-by, keep-at, keep-by, once-keep, once-below, getD-mem, one-length}
-use Rattle.chart.specs.Chart.{Chart, Transition, transitionAt}
+use Rattle.expr.proofs.Lists.{all-at, all-by, below-all, below-at, below-by, keep-at, keep-by, once-keep, once-below, one-length}
+use Rattle.chart.specs.Chart.{Chart}
 use Rattle.chart.specs.Tree.{sequentials}
 use Rattle.chart.proofs.Rules.{Passed}
 use Rattle.chart.proofs.Ranges.{Ranges}
 use Rattle.chart.proofs.Step.{transition-mem}
 use Rattle.network.specs.Network.{Edge, Location, locationAt, ownerOf, initials, sound}
-use Rattle.flattener.specs.Flatten.{Place, idle, samePlace, allPlaces, number, automaton, placeHome, initialPlace, locationOf, signalling, flatten}
-use Rattle.flattener.proofs.Automata.{Region, regionAt, region-at, automaton-of-region, automaton-injective}
-use Rattle.flattener.proofs.Numbers.{IsPlace, same-place-at, same-place-by, all-places-at, number-lt, number-of-place, location-of-place, automaton-of-place}
-use Rattle.flattener.proofs.Arrivals.{PlaceOf, initial-place}
-use Rattle.flattener.proofs.Edges.{edges-at, source-of, target-of, label-of}
+use Rattle.flattener.specs.Flatten.{Place, samePlace, number, automaton, placeHome, initialPlace, locationOf, signalling, flatten}
+use Rattle.flattener.proofs.Automata.{regionAt, region-at, automaton-of-region}
+use Rattle.flattener.proofs.Numbers.{IsPlace, same-place-at, same-place-by, number-lt, location-of-place, automaton-of-place, locations-length, place-of-location}
+use Rattle.flattener.proofs.Arrivals.{initial-place}
+use Rattle.flattener.proofs.Edges.{edges-at, owner-of, target-of, label-of}
 use Rattle.flattener.proofs.Order.{edges-ascend}
-
--- there are as many locations as places
-pub locations-length : (c : Chart) → length (flatten c .locations) ≡ length (allPlaces c)
-unfolding flatten
-locations-length c = length-map (allPlaces c) (locationOf c)
 
 -- a label that only signals assigns nothing
 signalling-assigns : (signal channel : ℕ) → assignsOnce (signalling signal channel) ≡ true
@@ -56,13 +51,9 @@ module _ (c : Chart) (passed : Passed c) (ranges : Ranges c) where
   initials-at a h {i} m =
       let k = keep-at (λ i. eqb (locationAt (flatten c) i .automaton) a && eqb (locationAt (flatten c) i .initial) 1) (below (length (flatten c .locations))) m in
       let t = k .1 in
-      let l : i < length (allPlaces c) = omega (arith, below-at _ (k .0), locations-length c) in
-      let p = getD (allPlaces c) i (idle 0) in
-      let j : IsPlace c p = all-places-at c (getD-mem (allPlaces c) i (idle 0) l) in
-      let n : number c p ≡ i = number-of-place c (idle 0) i l in
-      let owner : automaton c (placeHome c p) ≡ a = sym (automaton-of-place c j) ∙ ap (λ (x : ℕ). locationAt (flatten c) x .automaton) n ∙ eqb-true (locationAt (flatten c) i .automaton) a (search parts) in
-      let starts : p ≡ initialPlace c (placeHome c p) = initial-at c j (ap (λ (x : ℕ). locationAt (flatten c) x .initial) n ∙ eqb-true (locationAt (flatten c) i .initial) 1 (search parts)) in
-      sym n ∙ ap (number c) (starts ∙ ap (initialPlace c) (automaton-injective c (j .region) (region-at c a h) (owner ∙ sym (automaton-of-region c a h))))
+      let r = place-of-location c a i h (below-at _ (k .0)) (eqb-true (locationAt (flatten c) i .automaton) a (search parts)) in
+      let starts = initial-at c (r .1 .is-place) (ap (λ (x : ℕ). locationAt (flatten c) x .initial) (r .2) ∙ eqb-true (locationAt (flatten c) i .initial) 1 (search parts)) in
+      sym (r .2) ∙ ap (number c) (starts ∙ ap (initialPlace c) (r .1 .home-is))
 
   pub initials-by : (a : ℕ) → a < length (sequentials c) → Mem (number c (initialPlace c (regionAt c a))) (initials (flatten c) a)
   unfolding initials
@@ -79,19 +70,17 @@ module _ (c : Chart) (passed : Passed c) (ranges : Ranges c) where
 
   -- each edge joins two locations of one automaton
   pub edge-joins : {e : Edge} → Mem e (flatten c .edges) → ownerOf (flatten c) e ≡ locationAt (flatten c) (e .target) .automaton
-  unfolding ownerOf
   edge-joins {e} m =
-      let r = edges-at c passed ranges m in
+      let r = edges-at c m in
       let t = target-of c passed ranges (r .0) e (r .1) (r .2) in
-      ap (λ (i : ℕ). locationAt (flatten c) i .automaton) (source-of c (r .0) e (r .2)) ∙ automaton-of-place c (r .1) ∙ ap (automaton c) (sym (t .1 .home-is)) ∙ sym (automaton-of-place c (t .1 .is-place))
-      ∙ ap (λ (i : ℕ). locationAt (flatten c) i .automaton) (sym (t .2))
+      owner-of c (r .0) e (r .1) (r .2) ∙ ap (automaton c) (sym (t .1 .home-is)) ∙ sym (automaton-of-place c (t .1 .is-place)) ∙ ap (λ (i : ℕ). locationAt (flatten c) i .automaton) (sym (t .2))
 
   pub edges-join : all (λ e. eqb (ownerOf (flatten c) e) (locationAt (flatten c) (e .target) .automaton)) (flatten c .edges) ≡ true
   edges-join = all-by _ (flatten c .edges) (λ e m. eq-eqb _ _ (edge-joins m))
 
   -- each edge keeps rule 13
   pub edges-assign-once : all (λ e. assignsOnce (e .label)) (flatten c .edges) ≡ true
-  edges-assign-once = all-by _ (flatten c .edges) (λ e m. let r = edges-at c passed ranges m in ⊎-elim
+  edges-assign-once = all-by _ (flatten c .edges) (λ e m. let r = edges-at c m in ⊎-elim
       (λ k. ap assignsOnce (k .2) ∙ all-at _ _ (passed .assign-once) (transition-mem c (k .0) (k .1)))
       (λ k. ap assignsOnce (k .2) ∙ signalling-assigns (k .0) (k .1))
       (label-of c (r .0) e (r .1) (r .2)))

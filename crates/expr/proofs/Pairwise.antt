@@ -2,13 +2,16 @@
 use mathlib.Core.Path.{_≡_, refl, sym, ap, _∙_, subst, subst₂}
 use mathlib.Core.Bool.{Bool, true, false, cond}
 use mathlib.Core.Logic.{⊎-elim, _≢_}
-use mathlib.Core.List.{List, [], _∷_, _++_, map, List·Memᴰ as Mem, List·Memᴰ·head as here, List·Memᴰ·tail as there, List·Memᴰ·not-nil as not-nil, List·Memᴰ·append-cases as append-cases, Memᴰ·append-left as append-left, Memᴰ·append-right as append-right, Memᴰ·cast as cast, List·Memᴰ·cases-cons as cases-cons}
-use Prim.Native.Nat.{ℕ, zero, suc, _+_, _≤_, _<_}
+use mathlib.Core.List.{List, [], _∷_, _++_, map, List·Memᴰ as Mem, List·Memᴰ·head as here, List·Memᴰ·tail as there, List·Memᴰ·append-cases as append-cases, Memᴰ·append-left as append-left, Memᴰ·append-right as append-right, Memᴰ·cast as cast}
+use Prim.Native.Nat.{ℕ, zero, suc, _<_}
 use native.Mathlib.Omega.{arith}
+use native.Mathlib.Decide.{ℕ-discrete}
+use borrow.Author.Tests.{ltb-true, ltb-false}
+use lib.Dec.{ltb}
 use lib.ListN.{length, getD}
 use Rattle.expr.specs.Lists.{keep, concat, position, ascending}
-use Rattle.expr.proofs.Bools.{fails}
-use Rattle.expr.proofs.Lists.{keep-at, map-at, map-by, concat-at, concat-by, any-by, Once, getD-mem, position-lt, position-of, position-getD, ascending-above, ascending-tail}
+use Rattle.expr.proofs.Bools.{decided, fails}
+use Rattle.expr.proofs.Lists.{keep-at, map-at, map-by, concat-at, concat-by, Once, getD-mem, ascending-above, ascending-tail}
 
 abbrev pub Pairwise : {A : Type 0} → (A → A → Type 0) → List A → Type 0
 Pairwise R [] = Unit {0}
@@ -45,6 +48,12 @@ module _ {A : Type 0} (R : A → A → Type 0) where
   pub pairwise-across : {xs : List A} (ys : List A) {x y : A} → Pairwise R (xs ++ ys) → Mem x xs → Mem y ys → R x y
   pairwise-across {xs = z ∷ zs} ys {x} {y} o (here e) n = subst (λ (w : A). R w y) (sym e) (o .0 y (append-right zs n))
   pairwise-across {xs = z ∷ zs} ys o (there m) n = pairwise-across ys (o .1) m n
+
+  pub pairwise-getD : (xs : List A) (d : A) (i j : ℕ) → Pairwise R xs → i < j → j < length xs → R (getD xs i d) (getD xs j d)
+  pairwise-getD [] d i j o l h = absurd (omega arith)
+  pairwise-getD (x ∷ xs) d i zero o l h = absurd (omega arith)
+  pairwise-getD (x ∷ xs) d zero (suc j) o l h = o .0 _ (getD-mem xs j d (omega arith))
+  pairwise-getD (x ∷ xs) d (suc i) (suc j) o l h = pairwise-getD xs d i j (o .1) (omega arith) (omega arith)
 
   -- where an order without both ways goes along the list, so does the relation along the order
   pub pairwise-order : (Q : A → A → Type 0) → ((x y : A) → Q x y → Q y x → ⊥) → {xs : List A} {x y : A} → Pairwise Q xs → Pairwise R xs → Mem x xs → Mem y xs → Q x y → R x y
@@ -95,6 +104,12 @@ pub pairwise-once : {A : Type 0} (xs : List A) → Pairwise (λ x y. x ≢ y) xs
 pairwise-once [] o = tt
 pairwise-once (x ∷ xs) o = (λ m. o .0 x m refl, pairwise-once xs (o .1))
 
+pub once-getD : {A : Type 0} (xs : List A) (d : A) (i j : ℕ) → Once xs → i < length xs → j < length xs → getD xs i d ≡ getD xs j d → i ≡ j
+once-getD xs d i j o h k e = elim (ℕ-discrete i j) [
+  | yes q ↦ q
+  | no n ↦ absurd (⊎-elim (λ l. pairwise-getD (λ x y. x ≢ y) xs d i j (once-pairwise xs o) (ltb-true i j l) k e) (λ l. pairwise-getD (λ x y. x ≢ y) xs d j i (once-pairwise xs o) (omega (arith, ltb-false i j l)) h (sym e)) (decided (ltb i j)))
+]
+
 pub map-once : {A B : Type 0} (f : A → B) (xs : List A) → ((x y : A) → f x ≡ f y → x ≡ y) → Once xs → Once (map f xs)
 map-once f xs g o = pairwise-once (map f xs) (pairwise-map (λ x y. x ≢ y) f xs (pairwise-by (λ x y. x ≢ y) (λ x y. f x ≢ f y) xs (λ x y m n d e. d (g x y e)) (once-pairwise xs o)))
 
@@ -108,18 +123,6 @@ concat-once {A} {B} f owner xs g h o = pairwise-once (concat f xs) (pairwise-con
 
 -- the index of an element, by a test for equality
 module _ {A : Type 0} (same : A → A → Bool) (equal : (x y : A) → same x y ≡ true → x ≡ y) (itself : (x : A) → same x x ≡ true) where
-  pub index-lt : {x : A} {xs : List A} → Mem x xs → position (same x) xs < length xs
-  index-lt {x} {xs} m = position-lt (same x) xs (any-by (same x) m (itself x))
-
-  pub index-at : {x : A} {xs : List A} (d : A) → Mem x xs → getD xs (position (same x) xs) d ≡ x
-  index-at {x} {xs} d m = position-of (same x) d m (itself x) (λ y e. sym (equal x y e))
-
-  pub index-injective : {x y : A} {xs : List A} → Mem x xs → Mem y xs → position (same x) xs ≡ position (same y) xs → x ≡ y
-  index-injective {x} {y} {xs} m n e = sym (index-at x m) ∙ ap (λ (i : ℕ). getD xs i x) e ∙ index-at x n
-
-  pub index-of : (xs : List A) (d : A) (i : ℕ) → Once xs → i < length xs → position (same (getD xs i d)) xs ≡ i
-  index-of xs d i o h = position-getD (same (getD xs i d)) xs d i o h (itself _) (λ y e. sym (equal _ y e))
-
   index-there : (x y : A) (xs : List A) → y ≢ x → position (same y) (x ∷ xs) ≡ suc (position (same y) xs)
   unfolding position
   index-there x y xs d = rw (fails (same y x) (λ e. d (equal y x e)))
@@ -139,8 +142,3 @@ module _ {A : Type 0} (same : A → A → Bool) (equal : (x y : A) → same x y 
     where
       other : (y : A) → Mem y xs → y ≢ x
       other y m e = o .0 (cast (sym e) m)
-
-pub getD-map : {A B : Type 0} (f : A → B) (xs : List A) (i : ℕ) (a : A) (b : B) → i < length xs → getD (map f xs) i b ≡ f (getD xs i a)
-getD-map f [] i a b h = absurd (omega arith)
-getD-map f (x ∷ xs) zero a b h = refl
-getD-map f (x ∷ xs) (suc i) a b h = getD-map f xs i a b (omega arith)
