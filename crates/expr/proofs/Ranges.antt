@@ -1,5 +1,5 @@
 -- The ranges of rows and labels: what was read has them, and what has them is read back when it was printed.
-use mathlib.Core.Path.{_≡_, refl, sym, ap, _∙_, subst}
+use mathlib.Core.Path.{_≡_, refl, ap, _∙_, subst}
 use mathlib.Core.Bool.{Bool, true, false, cond}
 use mathlib.Core.List.{List, [], _∷_, _++_, List·Memᴰ as Mem, List·Memᴰ·head as here, List·Memᴰ·tail as there}
 use Prim.Native.Nat.{ℕ, zero, suc, _+_, _-_, _^_, _≤_, _<_, min}
@@ -15,8 +15,9 @@ use Rattle.expr.specs.Clocks.{isBound, no-bound, free, join, row}
 use Rattle.expr.specs.Guard.{Limits}
 use Rattle.expr.specs.Label.{Label, body, channelFits, label}
 use Rattle.expr.proofs.Places.{bind-got, such-got}
-use Rattle.expr.proofs.Reading.{next-at, bind-at, yield-at, yield-rest, such-at, many-at, byte-takes}
-use Rattle.expr.proofs.Rows.{length-join}
+use Rattle.expr.proofs.Reading.{next-at, bind-at, yield-at, yield-rest, such-at, many-at}
+use Rattle.expr.proofs.Lengths.{byte-takes}
+use Rattle.expr.proofs.Clocks.{length-join}
 use Rattle.expr.proofs.Printed.{such-front, many-printed}
 
 -- a row of eight: bounds for the first n clocks, and none for the rest
@@ -94,7 +95,7 @@ bound-min x y h k = elim (decLe x y) [
 
 pub row-join : (n : ℕ) (a b : List ℕ) → Row n a → Row n b → Row n (join a b)
 row-join n a b v w = record {
-  long = length-join a b (v .long ∙ sym (w .long)) ∙ v .long;
+  long = length-join a b ∙ omega (arith, v .long, w .long);
   bound = λ z m. let r = join-mem (take n a) (take n b) (subst (Mem z) (take-join n a b) m) in rw (r .4) (bound-min (r .0) (r .1) (v .bound _ (r .2)) (w .bound _ (r .3)));
   past = drop-join n a b ∙ rw (v .past, w .past) (join-same (replicate (8 - n) no-bound));
 }

@@ -21,7 +21,8 @@ use Rattle.expr.specs.Clocks.{free, join, keeps}
 use Rattle.expr.specs.Moves.{clocksAfter}
 use Rattle.expr.proofs.Bools.{clash, decided, and-l, and-r, both, implies-at, implies-by, same}
 use Rattle.expr.proofs.Lists.{all-at, all-by, all-same, all-map, all-keep, keep-at, map-at, map-by, getD-mem}
-use Rattle.expr.proofs.Rows.{ClockValues, IsRow, free-row, join-row, keeps-join, keeps-free, keeps-clocks-after, values-clocks-after}
+use Rattle.expr.proofs.Clocks.{keeps-join}
+use Rattle.expr.proofs.Rows.{ClockValues, IsRow, free-row, join-row, keeps-free, keeps-clocks-after, values-clocks-after}
 use Rattle.chart.specs.Chart.{Chart, Transition, transitionAt, states, parentOf, basic, sequential, parallel, home}
 use Rattle.chart.specs.Tree.{children, sequentials, entered}
 use Rattle.chart.specs.Machine.{isActive, isTree, boundsKept, after}

@@ -13,7 +13,7 @@ use lib.Pow.{pow-mono}
 use Rattle.expr.specs.Lists.{concat, implies, subset}
 use Rattle.expr.specs.Answer.{done}
 use Rattle.expr.specs.Reading.{got, yield, byte, byte2, byte4, many}
-use Rattle.expr.specs.Guard.{Limits}
+use Rattle.expr.specs.Guard.{Limits, limits}
 use Rattle.expr.specs.Label.{label}
 use Rattle.expr.specs.Clocks.{isBound, clock-limit, no-bound, row}
 use Rattle.expr.proofs.Bools.{both, or-l, or-r, or-cases, implies-by}
@@ -22,7 +22,7 @@ use Rattle.expr.proofs.Answer.{unless-by}
 use Rattle.expr.proofs.Places.{bind-got, such-got}
 use Rattle.expr.proofs.Printed.{byte-front, byte2-front, byte4-front, such-front, end-front, then-got, bytes-front, many-printed, recorded-printed}
 use Rattle.expr.proofs.Ranges.{Row, row-printed, LabelRange, label-printed}
-use Rattle.network.specs.Network.{Location, Edge, Network, limits, location, edge, records, numbered, counted, header, readNetwork}
+use Rattle.network.specs.Network.{Location, Edge, Network, location, edge, records, numbered, counted, header, readNetwork}
 use Rattle.flattener.specs.File.{out2, out4, locationBytes, edgeBytes, recordBytes, contentBytes, networkBytes}
 
 -- numbers

@@ -13,7 +13,7 @@ use Rattle.expr.specs.Lists.{has, subset}
 use Rattle.expr.specs.Answer.{done}
 use Rattle.expr.specs.Answer as answer
 use Rattle.expr.specs.Reading.{yield, many}
-use Rattle.expr.specs.Guard.{Limits}
+use Rattle.expr.specs.Guard.{Limits, limits}
 use Rattle.expr.specs.Label.{Label, body, channelFits}
 use Rattle.expr.proofs.Bools.{clash, fails, and-l, and-r}
 use Rattle.expr.proofs.Lists.{all-at, map-at, keep-at}
@@ -22,9 +22,8 @@ use Rattle.expr.proofs.Answer.{unless-at, unless-by, then-at}
 use Rattle.expr.proofs.Places.{bind-got}
 use Rattle.expr.proofs.Printed.{byte-front}
 use Rattle.expr.proofs.Ranges.{Row, row-free, row-join, LabelRange, label-range-more}
-use Rattle.network.specs.Network.{Edge, limits, readNetwork, networkOf}
+use Rattle.network.specs.Network.{Edge, readNetwork, networkOf}
 use Rattle.chart.specs.Chart.{Chart, transitionAt, basic}
-use Rattle.chart.specs.Chart as chart
 use Rattle.chart.specs.Tree.{sequentials}
 use Rattle.chart.specs.Rules.{exits, chartOf}
 use Rattle.chart.proofs.Tree.{size}
@@ -75,10 +74,6 @@ signalling-fits l channels signal channel some few h = record {
   resets-known = pow-pos (l .clocks);
   body-read = bind-got _ _ _ (byte-front 0 _) ∙ (bind-got _ _ _ (byte-front 0 []) ∙ (bind-got _ _ _ refl ∙ bind-got _ _ _ refl));
 }
-
-same-limits : (clocks variables : ℕ) → chart.limits clocks variables ≡ limits clocks variables
-unfolding chart.limits limits
-same-limits clocks variables = refl
 
 -- values are of what is tested or written
 needed-tested : (c : Chart) (exit set : ℕ) → subset 16 (cond (eqb exit 255) 0 (onValues c exit set)) set ≡ true
@@ -138,7 +133,7 @@ module _ (c : Chart) (passed : Passed c) (ranges : Ranges c) where
   -- a transition's label
   label-fits : (t : ℕ) → t < length (c .transitions) → FitsLabel (transitionAt c t .label)
   unfolding flatten
-  label-fits t h = label-range-more _ (c .rendezvous + c .broadcasts) _ _ (omega arith) (subst (λ (l : Limits). LabelRange l (c .rendezvous + c .broadcasts) (transitionAt c t .label)) (same-limits (c .clocks) (c .variables)) (ranges .of-transition _ (transition-mem c t h) .label-known))
+  label-fits t h = label-range-more _ (c .rendezvous + c .broadcasts) _ _ (omega arith) (ranges .of-transition _ (transition-mem c t h) .label-known)
 
   -- rule 11: an exit has a composite source
   exit-composite : (t : ℕ) → t < length (c .transitions) → hasExit c t ≡ true → basic c (transitionAt c t .source) ≡ false
