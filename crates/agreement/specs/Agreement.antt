@@ -1,21 +1,20 @@
 -- Runs side by side: what is claimed of a chart and the network that flattening writes of it, over any list of calls.
-use Prim.Native.Nat.{ℕ, zero, suc, _+_, _-_, _<_}
-use mathlib.Core.Bool.{Bool, true, false, cond, not, _&&_, _||_}
+use Prim.Native.Nat.{ℕ, _+_, _-_, _<_}
+use mathlib.Core.Bool.{Bool, true, false, cond, not}
 use mathlib.Core.List.{List, [], _∷_, _++_, map}
 use mathlib.Core.Path.{_≡_}
-use lib.Dec.{leb, ltb, eqb}
-use lib.ListN.{getD, length}
-use Rattle.expr.specs.Lists.{has, all, any, below, keep, bitsOf}
+use lib.Dec.{eqb}
+use Rattle.expr.specs.Lists.{any, keep}
 use Rattle.expr.specs.Answer.{Answer, done, refused}
-use Rattle.chart.specs.Chart.{Chart, transitionAt}
-use Rattle.chart.specs.Tree.{children, sequentials}
+use Rattle.chart.specs.Chart.{Chart}
 use Rattle.chart.specs.Rules.{chartOf}
 use Rattle.chart.specs.Machine as chart
 use Rattle.chart.specs.declared.configuration.Configuration as chart-type
 use Rattle.network.specs.Network.{Network, networkOf}
 use Rattle.network.specs.Machine as network
 use Rattle.network.specs.declared.configuration.Configuration as network-type
-use Rattle.flattener.specs.Flatten.{Place, idle, child, number, automaton, flagAt, sorted, hasExit, hasEntry}
+use Rattle.flattener.specs.Flatten.{sorted, hasExit, hasEntry}
+use Rattle.flattener.specs.Picture.{picture}
 use Rattle.flattener.specs.File.{flattenOf}
 
 abbrev pub ChartConfiguration : Type 0
@@ -54,20 +53,6 @@ isUrgent n ms = any (λ m. network.urgentAt n (network.edgeAt n m .source)) ms
 unfoldable pub named : Chart → List ℕ → ℕ
 named c [] = 0
 named c (t ∷ ts) = cond (hasExit c t) 1 0 + cond (hasEntry c t) 1 0 + named c ts
-
--- the picture of a chart configuration
-
--- the place of a sequential state: its active child, or idle
-unfoldable pub pictured : Chart → ChartConfiguration → ℕ → Place
-pictured c σ q = cond (chart.isActive σ q) (child (getD (keep (chart.isActive σ) (children c q)) 0 0)) (idle q)
-
-unfoldable pub picture : Chart → ChartConfiguration → NetworkConfiguration
-picture c σ = record {
-  locations = map (λ a. cond (ltb a (length (sequentials c))) (number c (pictured c σ (getD (sequentials c) a 0))) 0) (below 16);
-  flags = map (λ a. cond (ltb a (length (sequentials c))) (bitsOf (flagAt c (getD (sequentials c) a 0) (pictured c σ (getD (sequentials c) a 0))) 8) 0) (below 16);
-  variables = σ .variables;
-  clocks = σ .clocks;
-}
 
 -- both machines, the chart list read so far, and how many urgent moves are owed
 pub record Run : Type 0 where

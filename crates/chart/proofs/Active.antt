@@ -11,11 +11,12 @@ use lib.Dec.{eqb}
 use lib.ListN.{length, getD, drop, length-drop, List·getD-eq-default}
 use lib.Seq.{getD-drop}
 use Rattle.expr.specs.Lists.{has, all, below, keep, implies}
+use Rattle.expr.specs.Clocks.{keeps}
 use Rattle.expr.proofs.Bools.{clash, parts, and-l, and-r, both, or-l, or-r, or-else, implies-at, implies-by, not-yes}
 use Rattle.expr.proofs.Lists.{all-at, all-by, keep-at, keep-by, one-mem, one-length, once-keep, getD-mem, mem-getD}
 use Rattle.chart.specs.Chart.{Chart, stateAt, states, parentOf, basic, sequential, parallel}
 use Rattle.chart.specs.Tree.{under, children}
-use Rattle.chart.specs.Machine.{isActive, isTree, completed}
+use Rattle.chart.specs.Machine.{isActive, isTree, boundsKept, completed}
 use Rattle.chart.specs.declared.configuration.Configuration.{Configuration}
 use Rattle.chart.proofs.Tree.{size, states-at, states-by, Child, children-at, children-by, children-once, own-child, Parents, tree-induction, under-down, child-towards, root-under}
 
@@ -100,6 +101,15 @@ completed-at c σ m e h s k a b u = implies-at _ (has (stateAt c s .exits) e) (a
 pub completed-by : (c : Chart) (σ : Configuration) (m e : ℕ) → ((s : ℕ) → s < size c → isActive σ s ≡ true → basic c s ≡ true → under c m s ≡ true → has (stateAt c s .exits) e ≡ true) → completed c σ m e ≡ true
 unfolding completed
 completed-by c σ m e f = all-by _ _ (λ s n. implies-by (isActive σ s && (basic c s && under c m s)) _ (λ a. f s (states-at c n) (and-l (isActive σ s) _ a) (and-l (basic c s) _ (and-r (isActive σ s) _ a)) (and-r (basic c s) _ (and-r (isActive σ s) _ a))))
+
+-- every active state keeps its bounds
+pub bounds-kept-at : (c : Chart) (σ : Configuration) → boundsKept c σ ≡ true → (s : ℕ) → s < size c → isActive σ s ≡ true → keeps (stateAt c s .bounds) (σ .clocks) ≡ true
+unfolding boundsKept
+bounds-kept-at c σ h s k a = implies-at (isActive σ s) _ (all-at _ _ h (states-by c k)) a
+
+pub bounds-kept-by : (c : Chart) (σ : Configuration) → ((s : ℕ) → s < size c → isActive σ s ≡ true → keeps (stateAt c s .bounds) (σ .clocks) ≡ true) → boundsKept c σ ≡ true
+unfolding boundsKept
+bounds-kept-by c σ f = all-by _ _ (λ s m. implies-by (isActive σ s) _ (f s (states-at c m)))
 
 module _ (c : Chart) (tree : Parents c) (p : ℕ → Bool) (active : IsTree c p) where
   -- what is above an active state is active

@@ -2,7 +2,7 @@
 use mathlib.Core.Path.{_≡_, refl, sym, ap, _∙_, subst, fun-ext}
 use mathlib.Core.Bool.{Bool, true, false, not, _&&_}
 use mathlib.Core.Logic.{_⊎_, inl, inr, ⊎-elim, _≢_}
-use mathlib.Core.List.{List, map, List·Memᴰ as Mem}
+use mathlib.Core.List.{List, map, map-map, List·Memᴰ as Mem}
 use Prim.Native.Nat.{ℕ, _≤_, _<_}
 use native.Mathlib.Omega.{arith}
 use native.Mathlib.Decide.{ℕ-discrete, decLt}
@@ -10,9 +10,11 @@ use borrow.Author.Tests.{eqb-true, eq-eqb, not-true, lt-ltb, le-ltb}
 use lib.Dec.{ltb, eqb}
 use lib.ListN.{getD, length-map, List·getD-eq-default}
 use Rattle.expr.specs.Lists.{all, any, below}
+use Rattle.expr.specs.Label.{Label}
+use Rattle.expr.specs.Moves.{clocksAfter}
 use Rattle.expr.proofs.Bools.{clash, fails, and-l, and-r, both, or-l, or-r, or-cases, same, not-yes}
 use Rattle.expr.proofs.Lists.{all-at, all-by, any-at, any-by, getD-mapped, length-below}
-use Rattle.chart.specs.Chart.{Chart, Transition, states, parentOf, sequential, parallel}
+use Rattle.chart.specs.Chart.{Chart, Transition, transitionAt, states, parentOf, sequential, parallel}
 use Rattle.chart.specs.Tree.{under, children, entered}
 use Rattle.chart.specs.Machine.{isActive, isTree, start, after, activeAfter}
 use Rattle.chart.specs.declared.configuration.Configuration.{Configuration}
@@ -46,6 +48,22 @@ start-active c few s = made 48 (entered c 0 0) (size c) few s
 pub after-active : (c : Chart) (σ : Configuration) (ts : List Transition) → size c ≤ 48 → (s : ℕ) → isActive (after c ts σ) s ≡ (ltb s (size c) && activeAfter c σ ts s)
 unfolding isActive after
 after-active c σ ts few s = made 48 (activeAfter c σ ts) (size c) few s
+
+-- the clocks after a step, by the numbers of its transitions
+pub after-clocks : (c : Chart) (σ : Configuration) (ms : List ℕ) → after c (map (transitionAt c) ms) σ .clocks ≡ clocksAfter (map (λ m. transitionAt c m .label) ms) (σ .clocks)
+unfolding after
+after-clocks c σ ms = ap (λ (ls : List Label). clocksAfter ls (σ .clocks)) (map-map (λ (t : Transition). t .label) (transitionAt c) ms)
+
+-- what is active after a step was active, or is entered
+pub after-cases : (c : Chart) (σ : Configuration) (ts : List Transition) → size c ≤ 48 → (s : ℕ) → isActive (after c ts σ) s ≡ true
+    → (isActive σ s ≡ true) ⊎ ((t : Transition) × Mem t ts × (entered c (t .destination) (t .entry) s ≡ true))
+unfolding activeAfter
+after-cases c σ ts few s h = ⊎-elim (λ k. inl (and-l (isActive σ s) _ k)) (λ k. inr (any-at _ ts k))
+    (or-cases (isActive σ s && all (λ t. not (under c (t .source) s)) ts) _ (and-r (ltb s (size c)) _ (sym (after-active c σ ts few s) ∙ h)))
+
+pub after-entered : (c : Chart) (σ : Configuration) (ts : List Transition) → size c ≤ 48 → {t : Transition} → Mem t ts → (s : ℕ) → s < size c → entered c (t .destination) (t .entry) s ≡ true → isActive (after c ts σ) s ≡ true
+unfolding activeAfter
+after-entered c σ ts few m s h e = after-active c σ ts few s ∙ both (lt-ltb s (size c) h) (or-r (isActive σ s && all (λ t. not (under c (t .source) s)) ts) (any-by (λ t. entered c (t .destination) (t .entry) s) m e))
 
 -- the states that are entered at the start
 pub start-is-tree : (c : Chart) → Parents c → EntryMarks c → 0 < size c → size c ≤ 48 → Entry c 0 0 → isTree c (start c) ≡ true

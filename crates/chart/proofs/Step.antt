@@ -1,6 +1,6 @@
 -- What a step that is not refused says, and that start and step stay within the trees.
 use mathlib.Core.Path.{_≡_, refl, sym, ap, _∙_, subst}
-use mathlib.Core.Bool.{true, not, _&&_}
+use mathlib.Core.Bool.{Bool, true, not, _&&_}
 use mathlib.Core.Logic.{_⊎_, inl, inr, ⊎-elim, _≢_}
 use mathlib.Core.List.{List, map, List·Memᴰ as Mem}
 use Prim.Native.Nat.{ℕ, _<_}
@@ -9,19 +9,21 @@ use native.Mathlib.Decide.{ℕ-discrete}
 use borrow.Author.Tests.{eqb-true, eqb-false, eq-eqb, ne-eqb, ltb-true, not-true}
 use lib.Dec.{ltb, eqb}
 use lib.ListN.{length}
-use Rattle.expr.specs.Lists.{has}
+use Rattle.expr.specs.Lists.{has, all}
 use Rattle.expr.specs.Answer.{done}
 use Rattle.expr.specs.Moves.{known, allowed}
 use Rattle.expr.proofs.Bools.{parts, clash, decided, and-l, both, cond-yes, cond-no, not-yes}
 use Rattle.expr.proofs.Lists.{all-at, all-below, map-at, map-by, getD-mem}
 use Rattle.expr.proofs.Answer.{unless-at}
 use Rattle.expr.proofs.Moves.{allowed-at}
+use Rattle.expr.proofs.Rows.{ClockValues, values-in-limit, values-zeros, keeps-zeros}
 use Rattle.chart.specs.Chart.{Chart, Transition, stateAt, transitionAt, parentOf, basic, sequential, home}
 use Rattle.chart.specs.Tree.{under}
 use Rattle.chart.specs.Rules.{siblings, entries, apart}
 use Rattle.chart.specs.Machine.{isActive, isTree, isConfiguration, activeTransition, after, tested, start, step, boundsKept}
 use Rattle.chart.specs.declared.configuration.Configuration.{Configuration}
 use Rattle.chart.proofs.Entered.{Entry}
+use Rattle.chart.proofs.Active.{bounds-kept-by}
 use Rattle.chart.proofs.Rules.{Passed}
 use Rattle.chart.proofs.Ranges.{Ranges}
 use Rattle.chart.proofs.After.{Fires, start-is-tree, after-is-tree}
@@ -107,6 +109,30 @@ apart-at c h t u i j a b e v = elim (ℕ-discrete (home c t) (home c u)) [
       (not-true _ (all-below _ _ (all-below _ _ h t i) u j))
 ]
 
+-- the clocks of a configuration are values of 32 bits
+pub configuration-clocks : (c : Chart) (σ : Configuration) → isConfiguration c σ ≡ true → ClockValues (σ .clocks)
+unfolding isConfiguration
+configuration-clocks c σ h = values-in-limit (c .clocks) (σ .clocks) (search parts) (search parts)
+
+pub configuration-bounds : (c : Chart) (σ : Configuration) → isConfiguration c σ ≡ true → boundsKept c σ ≡ true
+unfolding isConfiguration
+configuration-bounds c σ h = search parts
+
+-- at the start the clocks are 0, and every bound is kept
+pub start-clocks : (c : Chart) → ClockValues (start c .clocks)
+unfolding start
+start-clocks c = values-zeros 8
+
+pub start-bounds : (c : Chart) → boundsKept c (start c) ≡ true
+unfolding start
+start-bounds c = bounds-kept-by c (start c) (λ s h a. keeps-zeros (stateAt c s .bounds) 8)
+
+-- transitions that can be taken together: their sources are active, their homes not nested
+pub record Together (c : Chart) (σ : Configuration) (ms : List ℕ) : Type 0 where
+  pub each-known : (m : ℕ) → Mem m ms → m < length (c .transitions)
+  pub each-from : (m : ℕ) → Mem m ms → isActive σ (transitionAt c m .source) ≡ true
+  pub homes : (a b : ℕ) → Mem a ms → Mem b ms → under c (home c a) (home c b) ≡ true → a ≡ b
+
 module _ (c : Chart) (passed : Passed c) (ranges : Ranges c) where
   pub fires-at : (σ : Configuration) (t : Transition) → Mem t (c .transitions) → isActive σ (t .source) ≡ true → Fires c (isActive σ) t
   fires-at σ t m a =
@@ -129,19 +155,42 @@ module _ (c : Chart) (passed : Passed c) (ranges : Ranges c) where
       first : has 1 0 ≡ true
       first = refl
 
-  -- the homes of a step's transitions are not nested
-  pub homes-apart : (σ : Configuration) (ms : List ℕ) {τ : Configuration} → Stepped c σ ms τ → (a b : ℕ) → Mem a ms → Mem b ms → under c (home c a) (home c b) ≡ true → a ≡ b
-  homes-apart σ ms s a b m n u =
-      let w = allowed-at _ _ _ _ _ ms (s .is-allowed) in
-      ⊎-elim (λ e. e) (λ e. w .owners a b m n (apart-at c (passed .not-nested) a b (s .each-known a m) (s .each-known b n) (e .0) (e .1) (e .2) u)) (w .channels a b m n)
+  -- the homes of transitions that are allowed together are not nested
+  pub allowed-apart : (active : ℕ → Bool) (ms : List ℕ) → ((m : ℕ) → Mem m ms → m < length (c .transitions))
+      → allowed (λ m. transitionAt c m .label) (home c) active (length (c .transitions)) (c .rendezvous) ms ≡ true
+      → (a b : ℕ) → Mem a ms → Mem b ms → under c (home c a) (home c b) ≡ true → a ≡ b
+  allowed-apart active ms k h a b m n u =
+      let w = allowed-at _ _ _ _ _ ms h in
+      ⊎-elim (λ e. e) (λ e. w .owners a b m n (apart-at c (passed .not-nested) a b (k a m) (k b n) (e .0) (e .1) (e .2) u)) (w .channels a b m n)
 
-  -- a step keeps the tree
-  pub step-tree : (σ : Configuration) (ms : List ℕ) {τ : Configuration} → step c σ ms ≡ done τ → isTree c τ ≡ true
+  pub homes-apart : (σ : Configuration) (ms : List ℕ) {τ : Configuration} → Stepped c σ ms τ → (a b : ℕ) → Mem a ms → Mem b ms → under c (home c a) (home c b) ≡ true → a ≡ b
+  homes-apart σ ms s = allowed-apart _ ms (s .each-known) (s .is-allowed)
+
+  -- transitions that are not refused by 18, 19 and 20
+  pub together-by : (σ : Configuration) (ms : List ℕ) → known (length (c .transitions)) ms ≡ true → all (activeTransition c σ) (map (transitionAt c) ms) ≡ true
+      → allowed (λ m. transitionAt c m .label) (home c) (λ m. activeTransition c σ (transitionAt c m)) (length (c .transitions)) (c .rendezvous) ms ≡ true → Together c σ ms
+  together-by σ ms k a w = record {
+    each-known = known-at _ ms k;
+    each-from = λ m n. active-source c σ _ (all-at _ _ a (map-by (transitionAt c) n));
+    homes = allowed-apart _ ms (known-at _ ms k) w;
+  }
+
+  pub stepped-together : (σ : Configuration) (ms : List ℕ) {τ : Configuration} → Stepped c σ ms τ → Together c σ ms
+  stepped-together σ ms s = record { each-known = s .each-known; each-from = λ m n. active-source c σ _ (s .each-active m n); homes = homes-apart σ ms s }
+
+  pub together-fires : (σ : Configuration) (ms : List ℕ) → Together c σ ms → (m : ℕ) → Mem m ms → Fires c (isActive σ) (transitionAt c m)
+  together-fires σ ms h m n = fires-at σ (transitionAt c m) (transition-mem c m (h .each-known m n)) (h .each-from m n)
+
+  -- taken together they keep the tree, and so does a step
+  pub together-tree : (σ : Configuration) (ms : List ℕ) → isTree c σ ≡ true → Together c σ ms → isTree c (after c (map (transitionAt c) ms) σ) ≡ true
   unfolding home
-  step-tree σ ms {τ} h =
-      let s = step-at c σ ms h in
-      subst (λ (x : Configuration). isTree c x ≡ true) (s .result)
-      (after-is-tree c (passed .tree) (passed .entry-marks) (omega (arith, ranges .states-some)) (ranges .states-few) σ (configuration-tree c σ (s .given)) (map (transitionAt c) ms)
-      (λ t m. let k = map-at (transitionAt c) ms m in subst (Fires c (isActive σ)) (sym (k .2)) (fires-at σ (transitionAt c (k .0)) (transition-mem c (k .0) (s .each-known (k .0) (k .1))) (active-source c σ _ (s .each-active (k .0) (k .1)))))
+  together-tree σ ms tree h =
+      after-is-tree c (passed .tree) (passed .entry-marks) (omega (arith, ranges .states-some)) (ranges .states-few) σ tree (map (transitionAt c) ms)
+      (λ t m. let k = map-at (transitionAt c) ms m in subst (Fires c (isActive σ)) (sym (k .2)) (together-fires σ ms h (k .0) (k .1)))
       (λ t u m n v. let k = map-at (transitionAt c) ms m in let l = map-at (transitionAt c) ms n in
-      k .2 ∙ ap (transitionAt c) (homes-apart σ ms s (k .0) (l .0) (k .1) (l .1) (subst (λ (x : Transition). under c (parentOf c (transitionAt c (k .0) .source)) (parentOf c (x .source)) ≡ true) (l .2) (subst (λ (x : Transition). under c (parentOf c (x .source)) (parentOf c (u .source)) ≡ true) (k .2) v))) ∙ sym (l .2)))
+      k .2 ∙ ap (transitionAt c) (h .homes (k .0) (l .0) (k .1) (l .1) (subst (λ (x : Transition). under c (parentOf c (transitionAt c (k .0) .source)) (parentOf c (x .source)) ≡ true) (l .2) (subst (λ (x : Transition). under c (parentOf c (x .source)) (parentOf c (u .source)) ≡ true) (k .2) v))) ∙ sym (l .2))
+
+  pub step-tree : (σ : Configuration) (ms : List ℕ) {τ : Configuration} → step c σ ms ≡ done τ → isTree c τ ≡ true
+  step-tree σ ms h =
+      let s = step-at c σ ms h in
+      subst (λ (x : Configuration). isTree c x ≡ true) (s .result) (together-tree σ ms (configuration-tree c σ (s .given)) (stepped-together σ ms s))

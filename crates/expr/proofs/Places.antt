@@ -7,14 +7,18 @@ use native.Mathlib.Omega.{arith}
 use borrow.Author.Tests.{le-leb, lt-leb, eq-eqb, ne-eqb, ltb-true, ltb-false}
 use lib.Dec.{ltb}
 use lib.ListN.{length, getD, take, drop, length-take, length-drop}
-use lib.Seq.{getD-drop, drop-drop}
-use Rattle.expr.specs.Places.{onward, faultOf, FrameFits, reached, wholly}
+use lib.Seq.{getD-drop, drop-drop, take-all}
+use Rattle.expr.specs.Places.{onward, faultOf, byteOf, byteEnd, wordOf, wordEnd, FrameFits, reached, reachedEnd, byteReached, wordReached, wholly}
 use Rattle.expr.specs.declared.field.Fault.the-variants as Fl
+use Rattle.expr.specs.declared.field.ByteRead.{ByteRead}
+use Rattle.expr.specs.declared.field.ByteRead.the-variants as Bt
+use Rattle.expr.specs.declared.field.WordRead.{WordRead}
+use Rattle.expr.specs.declared.field.WordRead.the-variants as Wd
 use Rattle.expr.specs.declared.field.Frame.{Frame}
 use Rattle.expr.specs.declared.field.Frame.the-variants as Fr
 use Rattle.expr.specs.declared.field.Reached.{Reached}
 use Rattle.expr.specs.declared.field.Reached.the-variants as Rd
-use Rattle.expr.specs.Reading.{Fault, length-fault, range-fault, Read, got, fault, Reader, yield, next, _>>=_, field, byte, byte2, byte4, such, end, framed, whole, recorded}
+use Rattle.expr.specs.Reading.{Fault, length-fault, range-fault, Read, got, fault, Reader, yield, next, _>>=_, field, byte, byte2, byte4, such, end, framed, whole, recorded, mapped, skipped}
 
 -- a field of n bytes at a place that has so many, and at one that has not
 pub field-some : (n : ℕ) (value : List ℕ → ℕ) (s : List ℕ) (at : ℕ) → n ≤ length s - at → field n value (onward s at) ≡ got (value (onward s at)) (onward s (at + n))
@@ -35,6 +39,26 @@ getD-here s at = getD-onward s at 0 ∙ ap (λ (i : ℕ). getD s i 0) (omega ari
 pub onward-all : (s : List ℕ) → onward s 0 ≡ s
 unfolding onward
 onward-all s = refl
+
+pub length-onward : (s : List ℕ) (at : ℕ) → length (onward s at) ≡ length s - at
+unfolding onward
+length-onward s at = length-drop at s
+
+pub onward-onward : (s : List ℕ) (a n : ℕ) → onward (onward s a) n ≡ onward s (a + n)
+unfolding onward
+onward-onward s a n = drop-drop n a s
+
+-- the part of a slice from a place on, as a callee has it: what it reads there, as the caller has it
+pub part-onward : (s : List ℕ) (a : ℕ) → take (length s - a) (drop a s) ≡ onward s a
+unfolding onward
+part-onward s a = take-all (length s - a) (drop a s) (omega (arith, length-drop a s))
+
+module _ {A : Type 0} (r : Reader A) (s : List ℕ) (a : ℕ) where
+  pub part-got : {x : A} (n : ℕ) → r (take (length s - a) (drop a s)) ≡ got x (onward (take (length s - a) (drop a s)) n) → r (onward s a) ≡ got x (onward s (a + n))
+  part-got n h = simp (part-onward s a, onward-onward s a n) at h
+
+  pub part-fault : {f : Fault} → r (take (length s - a) (drop a s)) ≡ fault f → r (onward s a) ≡ fault f
+  part-fault h = simp (part-onward s a) at h
 
 -- the value of a byte, of two and of four, at a place
 pub byte-some : (s : List ℕ) (at : ℕ) → at < length s → byte (onward s at) ≡ got (getD s at 0) (onward s (at + 1))
@@ -101,6 +125,25 @@ framed-fault size b h = bind-fault _ _ b h
 -- what an answer of the code that is known says of the definition
 pub answered : {Q D : Type 0} (meaning : Q → D) {q r : Q} {d : D} → meaning q ≡ d → q ≡ r → d ≡ meaning r
 answered meaning h e = sym h ∙ ap meaning e
+
+-- only where a value ends
+pub byte-skipped : (s : List ℕ) (b : ByteRead) {q : Reached} {d : Read ℕ} → q ≡ byteReached b → byteOf s b ≡ d → reached s tt q ≡ skipped d
+unfolding skipped mapped
+byte-skipped s (Bt.Value x n) e h = rw (e, ← h)
+byte-skipped s (Bt.Fault f) e h = rw (e, ← h)
+
+pub byte-skipped-end : (b : ByteRead) {q : Reached} (l : ℕ) → q ≡ byteReached b → byteEnd b ≤ l → reachedEnd q ≤ l
+byte-skipped-end (Bt.Value x n) l e h = rw e h
+byte-skipped-end (Bt.Fault f) l e h = rw e h
+
+pub word-skipped : (s : List ℕ) (w : WordRead) {q : Reached} {d : Read ℕ} → q ≡ wordReached w → wordOf s w ≡ d → reached s tt q ≡ skipped d
+unfolding skipped mapped
+word-skipped s (Wd.Value x n) e h = rw (e, ← h)
+word-skipped s (Wd.Fault f) e h = rw (e, ← h)
+
+pub word-skipped-end : (w : WordRead) {q : Reached} (l : ℕ) → q ≡ wordReached w → wordEnd w ≤ l → reachedEnd q ≤ l
+word-skipped-end (Wd.Value x n) l e h = rw e h
+word-skipped-end (Wd.Fault f) l e h = rw e h
 
 pub frame-fits : (s : List ℕ) {q : Frame} {from to : ℕ} → FrameFits s q → q ≡ Fr.Part from to → (from ≤ to) × (to ≤ length s)
 frame-fits s h e = subst (FrameFits s) e h

@@ -68,6 +68,10 @@ abbrev pub wordOf : List ℕ → WordRead → Read ℕ
 wordOf s (Wd.Value x n) = got x (onward s n)
 wordOf s (Wd.Fault f) = fault (faultOf f)
 
+abbrev pub wordEnd : WordRead → ℕ
+wordEnd (Wd.Value x n) = n
+wordEnd (Wd.Fault f) = 0
+
 -- the bytes of a record, and what follows them
 abbrev pub frameOf : List ℕ → Frame → Read (List ℕ)
 frameOf s (Fr.Part from to) = got (take (to - from) (drop from s)) (onward s to)
@@ -85,6 +89,19 @@ reached s a (Rd.Fault f) = fault (faultOf f)
 abbrev pub reachedEnd : Reached → ℕ
 reachedEnd (Rd.At n) = n
 reachedEnd (Rd.Fault f) = 0
+
+-- where an answer ends, without its value
+abbrev pub byteReached : ByteRead → Reached
+byteReached (Bt.Value x n) = Rd.At n
+byteReached (Bt.Fault f) = Rd.Fault f
+
+abbrev pub wordReached : WordRead → Reached
+wordReached (Wd.Value x n) = Rd.At n
+wordReached (Wd.Fault f) = Rd.Fault f
+
+abbrev pub testReached : TestRead → Reached
+testReached (Te.Value b n) = Rd.At n
+testReached (Te.Fault f) = Rd.Fault f
 
 -- the place after a record of `size` bytes that ends at `to`, where its reader reached so much of them
 abbrev pub wholly : Reached → ℕ → ℕ → Reached

@@ -1,17 +1,26 @@
-// Expressions and guards.
+// Clocks and their bounds: 4294967295 is no bound.
 ghost use mathlib.Core.Path.{_≡_};
-ghost use Prim.Native.Nat.{_+_, _*_, _-_, _≤_};
-ghost use lib.ListN.{length};
-ghost use lib.Dec.{ltb};
-ghost use Rattle.expr.specs.Reading.{byte, byte4, such, framed};
-ghost use Rattle.expr.specs.Clocks.{isBound, row};
-ghost use Rattle.expr.specs.Places.{onward, byteOf, byteEnd, wordOf, frameOf, FrameFits, reached, wholly};
+ghost use mathlib.Core.Bool.{true, cond};
+ghost use Prim.Native.Nat.{_+_, _≤_, _<_, min};
+ghost use lib.Dec.{leb};
+ghost use Rattle.expr.specs.Lists.{has};
+ghost use Rattle.expr.specs.Reading.{byte4, such};
+ghost use Rattle.expr.specs.Clocks.{clock-limit, isBound, row, join, joinTables, keeps, reset, later, inLimit, zeroPast};
+ghost use Rattle.expr.specs.Moves.{zerosPast};
+ghost use Rattle.expr.specs.Places.{onward, wordOf, reached};
 use crate::field::Fault;
 use crate::field::Reached;
 use crate::field::WordRead;
 use crate::field::read_word;
 use crate::field::word_fault;
 
+// Clocks after a delay, and whether they are within the limit.
+pub struct Delayed {
+    pub within: bool,
+    pub clocks: [u32; 8],
+}
+
+// A row of bounds that is read.
 pub struct RowRead {
     pub reached: Reached,
     pub row: [u32; 8],
@@ -66,5 +75,155 @@ pub fn read_row(s: &[u8], at: usize, clocks: usize) -> RowRead
     RowRead {
         reached: Reached::At(place),
         row,
+    }
+}
+
+fn least(a: u32, b: u32) -> u32
+    ensures { λ r. ⌜ r ≡ min a b ⌝ }
+{
+    if a < b { a } else { b }
+}
+
+// The least bound for each clock.
+pub fn join(a: [u32; 8], b: [u32; 8]) -> [u32; 8]
+    ensures { λ r. ⌜ r ≡ join a b ⌝ }
+{
+    let mut joined = [0; 8];
+    for i in 0..8 {
+        joined[i] = least(a[i], b[i]);
+    }
+    joined
+}
+
+// Tables of bounds, joined row by row.
+pub fn join_tables(a: [[u32; 8]; 48], b: [[u32; 8]; 48]) -> [[u32; 8]; 48]
+    ensures { λ r. ⌜ r ≡ joinTables a b ⌝ }
+{
+    let mut joined = a;
+    for i in 0..48 {
+        let x = a[i];
+        let y = b[i];
+        joined[i] = join(x, y);
+    }
+    joined
+}
+
+// Whether each clock is at most its bound.
+pub fn keeps(bounds: [u32; 8], clocks: [u32; 8]) -> bool
+    ensures { λ r. ⌜ r ≡ keeps bounds clocks ⌝ }
+{
+    for i in 0..8 {
+        if clocks[i] > bounds[i] {
+            return false;
+        }
+    }
+    true
+}
+
+fn reset_clock(bits: u8, i: usize, clock: u32) -> u32
+    requires { ⌜ i < 8 ⌝ }
+    ensures { λ r. ⌜ r ≡ cond (has bits i) 0 clock ⌝ }
+{
+    if (bits >> i) % 2 == 1 { 0 } else { clock }
+}
+
+// The clocks whose bits are set at 0.
+pub fn reset(bits: u8, clocks: [u32; 8]) -> [u32; 8]
+    ensures { λ r. ⌜ r ≡ reset bits clocks ⌝ }
+{
+    let mut after = [0; 8];
+    for i in 0..8 {
+        after[i] = reset_clock(bits, i, clocks[i]);
+    }
+    after
+}
+
+// Whether the clocks past the first `count` are 0.
+pub fn zero_past(count: usize, clocks: [u32; 8]) -> bool
+    ensures { λ r. ⌜ r ≡ zeroPast count clocks ⌝ }
+{
+    let mut i = count;
+    while i < 8 {
+        if clocks[i] != 0 {
+            return false;
+        }
+        i += 1;
+    }
+    true
+}
+
+// The same of bytes.
+pub fn zero_bytes_past(count: usize, bytes: [u8; 16]) -> bool
+    ensures { λ r. ⌜ r ≡ zeroPast count bytes ⌝ }
+{
+    let mut i = count;
+    while i < 16 {
+        if bytes[i] != 0 {
+            return false;
+        }
+        i += 1;
+    }
+    true
+}
+
+// The same of the values of variables.
+pub fn zeros_past(count: usize, values: [i32; 16]) -> bool
+    ensures { λ r. ⌜ r ≡ zerosPast count values ⌝ }
+{
+    let mut i = count;
+    while i < 16 {
+        if values[i] != 0 {
+            return false;
+        }
+        i += 1;
+    }
+    true
+}
+
+fn at_most_eight(count: usize) -> usize
+    ensures { λ r. ⌜ r ≡ min count 8 ⌝ }
+{
+    if count < 8 { count } else { 8 }
+}
+
+// Whether the first `count` clocks are within the limit.
+pub fn in_limit(count: usize, clocks: [u32; 8]) -> bool
+    ensures { λ r. ⌜ r ≡ inLimit count clocks ⌝ }
+{
+    let n = at_most_eight(count);
+    for i in 0..n {
+        if clocks[i] > 2147483647 {
+            return false;
+        }
+    }
+    true
+}
+
+fn fits(clock: u32, ticks: u32) -> bool
+    ensures { λ r. ⌜ r ≡ leb (clock + ticks) clock-limit ⌝ }
+{
+    (clock as u64) + (ticks as u64) <= 2147483647
+}
+
+// The first `count` clocks so many ticks later, where that is within the limit.
+pub fn later(count: usize, ticks: u32, clocks: [u32; 8]) -> Delayed
+    ensures within { λ r. ⌜ r .within ≡ inLimit count (later count ticks clocks) ⌝ }
+    ensures moved { λ r. ⌜ (r .within ≡ true → r .clocks ≡ later count ticks clocks) ⌝ }
+{
+    let moving = at_most_eight(count);
+    let mut moved = clocks;
+    for i in 0..moving {
+        let clock = clocks[i];
+        if !fits(clock, ticks) {
+            return Delayed {
+                within: false,
+                clocks,
+            };
+        }
+        moved[i] = clock + ticks;
+    }
+    Delayed {
+        within: true,
+        clocks: moved,
     }
 }

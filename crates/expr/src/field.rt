@@ -1,10 +1,13 @@
 // Fields of a record, read from left to right: one, two and four bytes, and the frame of a record.
 ghost use mathlib.Core.Path.{_≡_};
-ghost use Prim.Native.Nat.{_+_, _*_, _-_, _≤_};
+ghost use Prim.Native.Nat.{_+_, _*_, _-_, _≤_, _^_};
 ghost use lib.ListN.{length};
-ghost use lib.Dec.{ltb};
-ghost use Rattle.expr.specs.Reading.{byte, byte2, byte4, such, framed};
-ghost use Rattle.expr.specs.Places.{onward, byteOf, byteEnd, shortOf, shortEnd, wordOf, frameOf, FrameFits, wholly, byteFault, shortFault, wordFault, valueFault, testFault, frameFault, reachedFault};
+ghost use mathlib.Core.Bool.{_||_};
+ghost use lib.Dec.{ltb, eqb};
+ghost use Rattle.expr.specs.Reading.{byte, byte2, byte4, such, framed, mapped};
+ghost use Rattle.expr.specs.Integer.{signed};
+ghost use Rattle.expr.specs.Places.{onward, byteOf, byteEnd, shortOf, shortEnd, wordOf, wordEnd, valueOf, valueEnd, frameOf, FrameFits, wholly, byteFault, shortFault, wordFault, valueFault, testFault, frameFault, reachedFault};
+use crate::signed::signed;
 
 // What a file can have wrong: a length, or a field out of its range.
 pub enum Fault {
@@ -147,6 +150,53 @@ pub fn read_byte_below(s: &[u8], at: usize, limit: u8) -> ByteRead
     }
 }
 
+// A number below a limit, or 255 for none.
+fn known_or_none(x: u8, limit: u8) -> bool
+    ensures { λ r. ⌜ r ≡ (ltb x limit || eqb x 255) ⌝ }
+{
+    x < limit || x == 255
+}
+
+pub fn read_byte_or_none(s: &[u8], at: usize, limit: u8) -> ByteRead
+    ensures { λ r. ⌜ byteOf (now (s .entry)) r ≡ such byte (λ x. ltb x limit || eqb x 255) (onward (now (s .entry)) at) ⌝ }
+{
+    let b = read_byte(s, at);
+    let ByteRead::Value(x, _) = b else {
+        return b;
+    };
+    if known_or_none(x, limit) {
+        b
+    } else {
+        ByteRead::Fault(Fault::Range)
+    }
+}
+
+// A number of so many bits.
+pub fn in_width(x: u32, width: u8) -> bool
+    ensures { λ r. ⌜ r ≡ ltb x (2 ^ width) ⌝ }
+{
+    if width < 32 {
+        x >> width == 0
+    } else {
+        true
+    }
+}
+
+// A set of marks in a byte, of which only the first `width` are in use.
+pub fn read_marks(s: &[u8], at: usize, width: u8) -> ByteRead
+    ensures { λ r. ⌜ byteOf (now (s .entry)) r ≡ such byte (λ x. ltb x (2 ^ width)) (onward (now (s .entry)) at) ⌝ }
+{
+    let b = read_byte(s, at);
+    let ByteRead::Value(x, _) = b else {
+        return b;
+    };
+    if in_width(x as u32, width) {
+        b
+    } else {
+        ByteRead::Fault(Fault::Range)
+    }
+}
+
 // A big-endian number of two bytes.
 pub fn short_of(a: u8, b: u8) -> u16
     ensures { λ r. ⌜ r ≡ 256 * a + b ⌝ }
@@ -165,6 +215,21 @@ pub fn read_short(s: &[u8], at: usize) -> ShortRead
     }
 }
 
+// A set of marks in two bytes, of which only the first `width` are in use.
+pub fn read_long_marks(s: &[u8], at: usize, width: u8) -> ShortRead
+    ensures { λ r. ⌜ shortOf (now (s .entry)) r ≡ such byte2 (λ x. ltb x (2 ^ width)) (onward (now (s .entry)) at) ⌝ }
+{
+    let h = read_short(s, at);
+    let ShortRead::Value(x, _) = h else {
+        return h;
+    };
+    if in_width(x as u32, width) {
+        h
+    } else {
+        ShortRead::Fault(Fault::Range)
+    }
+}
+
 // A big-endian number of four bytes.
 pub fn word_of(a: u8, b: u8, c: u8, d: u8) -> u32
     ensures { λ r. ⌜ r ≡ 256 * (256 * (256 * a + b) + c) + d ⌝ }
@@ -173,13 +238,26 @@ pub fn word_of(a: u8, b: u8, c: u8, d: u8) -> u32
 }
 
 pub fn read_word(s: &[u8], at: usize) -> WordRead
-    ensures { λ r. ⌜ wordOf (now (s .entry)) r ≡ byte4 (onward (now (s .entry)) at) ⌝ }
+    ensures means { λ r. ⌜ wordOf (now (s .entry)) r ≡ byte4 (onward (now (s .entry)) at) ⌝ }
+    ensures within { λ r. ⌜ wordEnd r ≤ length (now (s .entry)) ⌝ }
 {
     if left(s, at) < 4 {
         WordRead::Fault(Fault::Length)
     } else {
         WordRead::Value(word_of(s[at], s[at + 1], s[at + 2], s[at + 3]), at + 4)
     }
+}
+
+// The signed number whose bits are the four bytes.
+pub fn read_signed(s: &[u8], at: usize) -> ValueRead
+    ensures means { λ r. ⌜ valueOf (now (s .entry)) r ≡ mapped signed (byte4 (onward (now (s .entry)) at)) ⌝ }
+    ensures within { λ r. ⌜ valueEnd r ≤ length (now (s .entry)) ⌝ }
+{
+    let w = read_word(s, at);
+    let WordRead::Value(x, next) = w else {
+        return ValueRead::Fault(word_fault(w));
+    };
+    ValueRead::Value(signed(x), next)
 }
 
 // A record's length, in one byte, and where its bytes stand.

@@ -1,2 +1,3 @@
 pub mod Flatten
+pub mod Picture
 pub mod File

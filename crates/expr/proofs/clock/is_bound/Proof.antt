@@ -1,14 +1,10 @@
 use borrow.Author.Tests.{le-leb, lt-leb}
 use Rattle.expr.proofs.clock.is_bound.Statement.{statement}
 use Rattle.expr.proofs.clock.is_bound.Tie as tie
-use Rattle.expr.proofs.clock.is_bound.Reads as reads
-use Rattle.expr.proofs.clock.is_bound.Lts as lts
 
--- src/lib.rt:120:1
 returns : tie.Need-returns
 returns c = rw (le-leb (c .before .args .b) 2147483647 (c .if1 .taken))
 
--- src/lib.rt:120:1
 returns-2 : tie.Need-returns-2
 returns-2 c = rw (lt-leb (c .before .args .b) 2147483647 (c .if1 .left))
 

@@ -4,38 +4,27 @@ use Rattle.expr.proofs.Places.{such-got, such-not, such-fault, answered
 use borrow.Author.Needs.{needs}
 use Rattle.expr.proofs.clock.read_bound.Statement.{statement}
 use Rattle.expr.proofs.clock.read_bound.Tie as tie
-use Rattle.expr.proofs.clock.read_bound.Reads as reads
-use Rattle.expr.proofs.clock.read_bound.Lts as lts
-use Rattle.expr.proofs.clock.is_bound.Reads as is-bound-reads
-use Rattle.expr.proofs.field.read_word.Reads as read-word-reads
 
--- src/lib.rt:129:9
 read-word-requires : tie.Need-read-word-requires
 read-word-requires c κs = search needs
 
--- src/lib.rt:130:25
 enum-known-w : tie.Need-enum-known-w
 enum-known-w c = search needs
 
--- src/lib.rt:131:9
 enum-told : tie.Need-enum-told
 enum-told c = search needs
 
--- src/lib.rt:131:9
 returns : tie.Need-returns
-returns c = ap (wordOf _) (c .enum-told .given .1) ∙ sym (such-fault _ _ _ (answered (wordOf _) (c .before .before .read-word .ensures) (c .enum-told .given .1)))
+returns c = ap (wordOf _) (c .enum-told .given .1) ∙ sym (such-fault _ _ _ (answered (wordOf _) (c .before .before .read-word .ensures .0) (c .enum-told .given .1)))
 
--- src/lib.rt:133:8
 is-bound-requires : tie.Need-is-bound-requires
 is-bound-requires c κs = search needs
 
--- src/lib.rt:126:1
 returns-2 : tie.Need-returns-2
-returns-2 c = sym (such-got _ _ _ (answered (wordOf _) (c .before .before .before .before .before .read-word .ensures) (c .before .before .before .w .given .1)) (sym (c .before .is-bound .ensures) ∙ c .if1 .taken))
+returns-2 c = sym (such-got _ _ _ (answered (wordOf _) (c .before .before .before .before .before .read-word .ensures .0) (c .before .before .before .w .given .1)) (sym (c .before .is-bound .ensures) ∙ c .if1 .taken))
 
--- src/lib.rt:126:1
 returns-3 : tie.Need-returns-3
-returns-3 c = sym (such-not _ _ _ (answered (wordOf _) (c .before .before .before .before .before .read-word .ensures) (c .before .before .before .w .given .1)) (sym (c .before .is-bound .ensures) ∙ c .if1 .left))
+returns-3 c = sym (such-not _ _ _ (answered (wordOf _) (c .before .before .before .before .before .read-word .ensures .0) (c .before .before .before .w .given .1)) (sym (c .before .is-bound .ensures) ∙ c .if1 .left))
 
 pub read-bound-spec : {M : Type 1} → statement M
 read-bound-spec =

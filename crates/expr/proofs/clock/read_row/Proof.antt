@@ -6,18 +6,13 @@ use native.Mathlib.Omega.{arith}
 use borrow.Author.Needs.{needs}
 use Prim.Native.Nat.{_-_}
 use Rattle.expr.specs.Lists.{padded}
-use Rattle.expr.specs.Reading.{got, fault, such, byte4}
+use Rattle.expr.specs.Reading.{such, byte4}
 use Rattle.expr.specs.Clocks.{isBound, no-bound}
-use Rattle.expr.specs.Places.{onward, wordOf, faultOf, reached, wordFault}
+use Rattle.expr.specs.Places.{onward, wordOf, wordFault}
 use Rattle.expr.proofs.Many.{Going, going-none, going-more, going-stop, going-all, padded-more}
 use Rattle.expr.proofs.Rows.{row-got, row-fault}
 use Rattle.expr.proofs.clock.read_row.Statement.{statement}
 use Rattle.expr.proofs.clock.read_row.Tie as tie
-use Rattle.expr.proofs.clock.read_row.Reads as reads
-use Rattle.expr.proofs.clock.read_row.Lts as lts
-use Rattle.expr.proofs.clock.no_row.Reads as no-row-reads
-use Rattle.expr.proofs.clock.read_bound.Reads as read-bound-reads
-use Rattle.expr.proofs.field.word_fault.Reads as word-fault-reads
 
 abbrev Inv-loop : tie.InvT-loop
 Inv-loop s at clocks row₀ place₀ i₀ row place i = (seen : List ℕ) × Going (such byte4 isBound) clocks (onward s at) (onward s place) i seen × (row ≡ padded 8 no-bound seen)
@@ -25,58 +20,45 @@ Inv-loop s at clocks row₀ place₀ i₀ row place i = (seen : List ℕ) × Goi
 abbrev μ-loop : tie.MeasureT-loop
 μ-loop s at clocks row₀ place₀ i₀ row place i = clocks - i
 
--- src/lib.rt:157:5
 loop-holds : tie.Need-loop-holds Inv-loop μ-loop
 unfolding padded
 loop-holds c = ([], going-none _ _ _, refl)
 
--- src/lib.rt:158:13
 read-bound-requires : tie.Need-read-bound-requires Inv-loop μ-loop
 read-bound-requires c κs = search needs
 
--- src/lib.rt:159:29
 enum-known-w : tie.Need-enum-known-w Inv-loop μ-loop
 enum-known-w c = search needs
 
--- src/lib.rt:160:27
 enum-told : tie.Need-enum-told Inv-loop μ-loop
 enum-told c = search needs
 
--- src/lib.rt:160:27
 word-fault-requires : tie.Need-word-fault-requires Inv-loop μ-loop
 word-fault-requires c κs = search needs
 
--- src/lib.rt:160:13
 no-row-requires : tie.Need-no-row-requires Inv-loop μ-loop
 no-row-requires c κs = search needs
 
--- src/lib.rt:160:13
 returns : tie.Need-returns Inv-loop μ-loop
 returns c = rw (c .no-row .ensures, (c .before .word-fault .ensures ∙ ap wordFault (c .before .before .enum-told .given .1)))
     (sym (row-fault _ _ (going-stop _ _ _ (c .before .before .before .before .before .before .loop .inv .1) (c .before .before .before .before .before .loop-test .taken) (answered (wordOf _) (c .before .before .before .before .read-bound .ensures) (c .before .before .enum-told .given .1)))))
 
--- src/lib.rt:162:9
 mul-row : tie.Need-mul-row Inv-loop μ-loop
 mul-row c = omega arith
 
--- src/lib.rt:162:9
 array-write-row : tie.Need-array-write-row Inv-loop μ-loop
 array-write-row c = omega arith
 
--- src/lib.rt:164:9
 add-i : tie.Need-add-i Inv-loop μ-loop
 add-i c = omega arith
 
--- src/lib.rt:157:5
 loop-less : tie.Need-loop-less Inv-loop μ-loop
 loop-less c = omega arith
 
--- src/lib.rt:157:5
 loop-again : tie.Need-loop-again Inv-loop μ-loop
 loop-again c = let g = c .before .before .before .before .before .loop .inv in
     (_, going-more _ _ _ (g .1) (c .before .before .before .before .loop-test .taken) (answered (wordOf _) (c .before .before .before .read-bound .ensures) (c .before .w .given .1)), rw (g .2) (padded-more 8 no-bound (g .0) _ (g .1 .count) (omega arith)))
 
--- src/lib.rt:150:1
 returns-2 : tie.Need-returns-2 Inv-loop μ-loop
 returns-2 c = let g = c .before .loop .inv in
     let a = going-all _ _ _ (g .1) (c .loop-test .left) in

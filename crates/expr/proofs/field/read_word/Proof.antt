@@ -51,11 +51,11 @@ add-t19 c = search needs
 
 -- src/lib.rt:110:1
 returns : tie.Need-returns
-returns c = sym (byte4-none _ _ (c .before .left .ensures) (c .if1 .taken))
+returns c = (sym (byte4-none _ _ (c .before .left .ensures) (c .if1 .taken)), omega arith)
 
 -- src/lib.rt:110:1
 returns-2 : tie.Need-returns-2
-returns-2 c = rw (c .word-of .ensures) (sym (byte4-some _ _ (c .before .before .before .before .before .before .left .ensures) (c .before .before .before .before .before .if1 .left)))
+returns-2 c = (rw (c .word-of .ensures) (sym (byte4-some _ _ (c .before .before .before .before .before .before .left .ensures) (c .before .before .before .before .before .if1 .left))), omega arith)
 
 pub read-word-spec : {M : Type 1} → statement M
 read-word-spec =

@@ -1,0 +1,167 @@
+-- How the reader of expressions answers, by the code and by what it answers on the arguments. What is read is taken as
+-- some f has it, so that the same laws serve where only the end is looked at and where the value is.
+use mathlib.Core.Path.{_≡_, refl, sym, ap, _∙_}
+use mathlib.Core.Bool.{Bool, true, false, _&&_}
+use mathlib.Core.List.{List}
+use mathlib.Core.Logic.{_≢_}
+use Prim.Native.Nat.{ℕ, zero, suc, _+_, _-_, _≤_, _<_, _^_}
+use native.Mathlib.Omega.{arith}
+use native.Mathlib.Numerals.{sub-one}
+use borrow.Author.Tests.{lt-ltb, le-ltb, leb-true, ltb-true, eq-eqb, ne-eqb}
+use lib.Dec.{ltb}
+use lib.IntN.{ℤ}
+use lib.ListN.{length, getD}
+use Rattle.expr.specs.Reading.{length-fault, range-fault, Read, got, fault, Reader, yield, next, _>>=_, byte, byte4, such, mapped}
+use Rattle.expr.specs.Integer.{signed, floorDiv, floorMod}
+use Rattle.expr.specs.Expression.{Expr, constant, variable, sum, difference, product, quotient, remainder, constant-code, codes, divisor, two, by, after, expression, value, combined, divided}
+use Rattle.expr.specs.Places.{onward}
+use Rattle.expr.proofs.Bools.{and-l, and-r}
+use Rattle.expr.proofs.Reading.{such-at, mapped-fault, mapped-bind, mapped-yield}
+use Rattle.expr.proofs.Places.{onward-all, byte-some, byte-none, bind-got, bind-fault, such-got, such-not, such-fault}
+
+-- codes 2, 3 and 4, and codes 5 and 6
+abbrev pub operator : ℕ → Expr → Expr → Expr
+operator zero = sum
+operator (suc zero) = sum
+operator (suc (suc zero)) = sum
+operator (suc (suc (suc zero))) = difference
+operator (suc (suc (suc (suc n)))) = product
+
+abbrev pub division : ℕ → Expr → ℕ → Expr
+division zero = quotient
+division (suc zero) = quotient
+division (suc (suc zero)) = quotient
+division (suc (suc (suc zero))) = quotient
+division (suc (suc (suc (suc zero)))) = quotient
+division (suc (suc (suc (suc (suc zero))))) = quotient
+division (suc (suc (suc (suc (suc (suc n)))))) = remainder
+
+module _ (v : ℕ) (r : Reader Expr) where
+  after-two : (c : ℕ) → c ≢ 0 → c ≢ 1 → c < 5 → after v r (getD codes c constant-code) ≡ two (operator c) r
+  unfolding after codes
+  after-two zero h k l = absurd (h refl)
+  after-two (suc zero) h k l = absurd (k refl)
+  after-two (suc (suc zero)) h k l = refl
+  after-two (suc (suc (suc zero))) h k l = refl
+  after-two (suc (suc (suc (suc zero)))) h k l = refl
+  after-two (suc (suc (suc (suc (suc n))))) h k l = absurd (omega arith)
+
+  after-by : (c : ℕ) → 5 ≤ c → c < 7 → after v r (getD codes c constant-code) ≡ by (division c) r
+  unfolding after codes
+  after-by zero h l = absurd (omega arith)
+  after-by (suc zero) h l = absurd (omega arith)
+  after-by (suc (suc zero)) h l = absurd (omega arith)
+  after-by (suc (suc (suc zero))) h l = absurd (omega arith)
+  after-by (suc (suc (suc (suc zero)))) h l = absurd (omega arith)
+  after-by (suc (suc (suc (suc (suc zero))))) h l = refl
+  after-by (suc (suc (suc (suc (suc (suc zero)))))) h l = refl
+  after-by (suc (suc (suc (suc (suc (suc (suc n))))))) h l = absurd (omega arith)
+
+-- the value of an operator's expression, from those of its arguments
+pub operator-value : (vars : List ℤ) (c : ℕ) → c ≢ 0 → c ≢ 1 → c < 5 → (a b : Expr) → value vars (operator c a b) ≡ combined c (value vars a) (value vars b)
+unfolding value combined
+operator-value vars zero h k l a b = absurd (h refl)
+operator-value vars (suc zero) h k l a b = absurd (k refl)
+operator-value vars (suc (suc zero)) h k l a b = refl
+operator-value vars (suc (suc (suc zero))) h k l a b = refl
+operator-value vars (suc (suc (suc (suc zero)))) h k l a b = refl
+operator-value vars (suc (suc (suc (suc (suc n))))) h k l a b = absurd (omega arith)
+
+pub division-value : (vars : List ℤ) (c : ℕ) → 5 ≤ c → c < 7 → (a : Expr) (d : ℕ) → value vars (division c a d) ≡ divided c (value vars a) d
+unfolding value divided
+division-value vars zero h l a d = absurd (omega arith)
+division-value vars (suc zero) h l a d = absurd (omega arith)
+division-value vars (suc (suc zero)) h l a d = absurd (omega arith)
+division-value vars (suc (suc (suc zero))) h l a d = absurd (omega arith)
+division-value vars (suc (suc (suc (suc zero)))) h l a d = absurd (omega arith)
+division-value vars (suc (suc (suc (suc (suc zero))))) h l a d = refl
+division-value vars (suc (suc (suc (suc (suc (suc zero)))))) h l a d = refl
+division-value vars (suc (suc (suc (suc (suc (suc (suc n))))))) h l a d = absurd (omega arith)
+
+pub divided-quotient : {c : ℕ} (x : ℤ) (d : ℕ) → c ≡ 5 → divided c x d ≡ floorDiv x d
+unfolding divided
+divided-quotient {c} x d h = rw (eq-eqb c 5 h)
+
+pub divided-remainder : {c : ℕ} (x : ℤ) (d : ℕ) → c ≢ 5 → divided c x d ≡ floorMod x d
+unfolding divided
+divided-remainder {c} x d h = rw (ne-eqb c 5 h)
+
+-- a divisor that is read is in its range
+pub divisor-in : (s : List ℕ) {d : ℕ} {t : List ℕ} → divisor s ≡ got d t → (1 ≤ d) × (d < 2 ^ 31)
+unfolding divisor
+divisor-in s {d} h = let w = such-at byte4 _ s h in (leb-true 1 d (and-l _ _ (w .0)), ltb-true d (2 ^ 31) (and-r (lib.Dec.leb 1 d) _ (w .0)))
+
+-- an operator's two arguments, one read after the other, and an argument with its divisor
+module _ {A : Type 0} (f : Expr → A) (r : Reader Expr) (s : List ℕ) where
+  two-mapped : (g : Expr → Expr → Expr) (h : A → A → A) → ((a b : Expr) → f (g a b) ≡ h (f a) (f b)) → mapped f (two g r s) ≡ ((λ t. mapped f (r t)) >>= λ x. (λ t. mapped f (r t)) >>= λ y. yield (h x y)) s
+  unfolding two _>>=_ next yield mapped
+  two-mapped g h e = go (r s)
+    where
+      inner : (a : Expr) (q : Read Expr) → mapped f (next q (λ b. yield (g a b))) ≡ next (mapped f q) (λ y. yield (h (f a) y))
+      inner a (got b u) = ap (λ x. got x u) (e a b)
+      inner a (fault x) = refl
+
+      go : (q : Read Expr) → mapped f (next q (λ a t. next (r t) (λ b. yield (g a b)))) ≡ next (mapped f q) (λ x t. next (mapped f (r t)) (λ y. yield (h x y)))
+      go (got a t) = inner a (r t)
+      go (fault x) = refl
+
+  by-mapped : (g : Expr → ℕ → Expr) (h : A → ℕ → A) → ((a : Expr) (d : ℕ) → f (g a d) ≡ h (f a) d) → mapped f (by g r s) ≡ ((λ t. mapped f (r t)) >>= λ x t. mapped (h x) (divisor t)) s
+  unfolding by _>>=_ next yield mapped
+  by-mapped g h e = go (r s)
+    where
+      inner : (a : Expr) (q : Read ℕ) → mapped f (next q (λ d. yield (g a d))) ≡ mapped (h (f a)) q
+      inner a (got d u) = ap (λ x. got x u) (e a d)
+      inner a (fault x) = refl
+
+      go : (q : Read Expr) → mapped f (next q (λ a t. next (divisor t) (λ d. yield (g a d)))) ≡ next (mapped f q) (λ x t. mapped (h x) (divisor t))
+      go (got a t) = inner a (divisor t)
+      go (fault x) = refl
+
+-- an expression by its first byte
+module _ (v : ℕ) (s : List ℕ) where
+  expression-empty : (k : ℕ) → length s ≡ 0 → expression v k s ≡ fault length-fault
+  unfolding expression
+  expression-empty zero h = bind-fault _ _ s (ap byte (sym (onward-all s)) ∙ byte-none s 0 (omega arith))
+  expression-empty (suc k) h = bind-fault _ _ s (such-fault _ _ s (ap byte (sym (onward-all s)) ∙ byte-none s 0 (omega arith)))
+
+  expression-deep : (k : ℕ) → length s ≢ 0 → k ≡ 0 → expression v k s ≡ fault range-fault
+  unfolding expression
+  expression-deep zero h e = bind-got _ _ s (ap byte (sym (onward-all s)) ∙ byte-some s 0 (omega arith))
+  expression-deep (suc k) h e = absurd (omega arith)
+
+  expression-unknown : (k : ℕ) → length s ≢ 0 → 7 ≤ getD s 0 0 → expression v k s ≡ fault range-fault
+  unfolding expression
+  expression-unknown zero h l = expression-deep zero h refl
+  expression-unknown (suc k) h l = bind-fault _ _ s (such-not _ _ s (ap byte (sym (onward-all s)) ∙ byte-some s 0 (omega arith)) (le-ltb _ _ l))
+
+  expression-after : (k : ℕ) → length s ≢ 0 → k ≢ 0 → getD s 0 0 < 7 → expression v k s ≡ after v (expression v (k - 1)) (getD codes (getD s 0 0) constant-code) (onward s 1)
+  unfolding expression
+  expression-after zero h n l = absurd (n refl)
+  expression-after (suc k) h n l = bind-got _ _ s (such-got _ _ s (ap byte (sym (onward-all s)) ∙ byte-some s 0 (omega arith)) (lt-ltb _ _ l)) ∙ rw sub-one
+
+module _ {A : Type 0} (f : Expr → A) (v k : ℕ) (s : List ℕ) where
+  pub read-empty : length s ≡ 0 → mapped f (expression v k s) ≡ fault length-fault
+  read-empty h = mapped-fault f (expression-empty v s k h)
+
+module _ {A : Type 0} (f : Expr → A) (v k : ℕ) (s : List ℕ) (some : length s ≢ 0) where
+  pub read-deep : k ≡ 0 → mapped f (expression v k s) ≡ fault range-fault
+  read-deep h = mapped-fault f (expression-deep v s k some h)
+
+  pub read-unknown : 7 ≤ getD s 0 0 → mapped f (expression v k s) ≡ fault range-fault
+  read-unknown h = mapped-fault f (expression-unknown v s k some h)
+
+-- where a level is left and the code is known
+module _ {A : Type 0} (f : Expr → A) (v k : ℕ) (s : List ℕ) (some : length s ≢ 0) (left : k ≢ 0) where
+  pub read-constant : getD s 0 0 ≡ 0 → mapped f (expression v k s) ≡ mapped (λ x. f (constant (signed x))) (byte4 (onward s 1))
+  unfolding after codes
+  read-constant h = ap (mapped f) (expression-after v s k some left (omega arith) ∙ rw h) ∙ mapped-yield f _ byte4 (onward s 1)
+
+  pub read-variable : getD s 0 0 ≡ 1 → mapped f (expression v k s) ≡ mapped (λ i. f (variable i)) (such byte (λ i. ltb i v) (onward s 1))
+  unfolding after codes
+  read-variable h = ap (mapped f) (expression-after v s k some left (omega arith) ∙ rw h) ∙ mapped-yield f variable (such byte (λ i. ltb i v)) (onward s 1)
+
+  pub read-two : (h : A → A → A) → ((a b : Expr) → f (operator (getD s 0 0) a b) ≡ h (f a) (f b)) → getD s 0 0 ≢ 0 → getD s 0 0 ≢ 1 → getD s 0 0 < 5 → mapped f (expression v k s) ≡ ((λ t. mapped f (expression v (k - 1) t)) >>= λ x. (λ t. mapped f (expression v (k - 1) t)) >>= λ y. yield (h x y)) (onward s 1)
+  read-two h e n m l = ap (mapped f) (expression-after v s k some left (omega arith) ∙ ap (λ (r : Reader Expr). r (onward s 1)) (after-two v _ _ n m l)) ∙ two-mapped f _ _ _ h e
+
+  pub read-by : (h : A → ℕ → A) → ((a : Expr) (d : ℕ) → f (division (getD s 0 0) a d) ≡ h (f a) d) → 5 ≤ getD s 0 0 → getD s 0 0 < 7 → mapped f (expression v k s) ≡ ((λ t. mapped f (expression v (k - 1) t)) >>= λ x t. mapped (h x) (divisor t)) (onward s 1)
+  read-by h e n l = ap (mapped f) (expression-after v s k some left l ∙ ap (λ (r : Reader Expr). r (onward s 1)) (after-by v _ _ n l)) ∙ by-mapped f _ _ _ h e

@@ -1,0 +1,277 @@
+use mathlib.Core.Path.{_≡_, refl, sym, ap, _∙_}
+use mathlib.Core.List.{List}
+use Prim.Native.Nat.{_+_, _-_, _≤_}
+use native.Mathlib.Omega.{arith}
+use lib.IntN.{ℤ}
+use lib.ListN.{length, getD}
+use Rattle.expr.specs.Reading.{Reader, got, fault, yield, _>>=_, mapped}
+use Rattle.expr.specs.Expression.{divisor, expression, value, combined, divided}
+use Rattle.expr.specs.Places.{onward, faultOf, valueOf, valueEnd}
+use Rattle.expr.specs.declared.field.Fault.{Fault}
+use Rattle.expr.specs.declared.field.ValueRead.the-variants as Vl
+use Rattle.expr.proofs.Places.{part-got, part-fault, part-length, bind-got, bind-fault, answered}
+use Rattle.expr.proofs.Integers.{read-back}
+use Rattle.expr.proofs.Expressions.{read-empty, read-deep, read-unknown, read-constant, read-variable, read-two, read-by, operator-value, division-value}
+use Prim.Native.Nat.{ℕ, _<_}
+use borrow.Fn.Kinds.{In}
+use borrow.Fn.PlainCycle.{Measures, is, falls, and}
+use Rattle.expr.proofs.expression.evaluate.Reads as evaluate
+use Rattle.expr.proofs.expression.evaluate.Kinds as evaluate-kinds
+use Rattle.expr.proofs.expression.+evaluate.Lts-evaluate as evaluate-lts
+use Rattle.expr.proofs.expression.combine.Reads as combine-reads
+use Rattle.expr.proofs.expression.divide.Reads as divide-reads
+use Rattle.expr.proofs.expression.evaluate_variable.Reads as evaluate-variable-reads
+use Rattle.expr.proofs.field.read_signed.Reads as read-signed-reads
+use Rattle.expr.proofs.expression.+evaluate.{statement}
+use Rattle.expr.proofs.expression.+evaluate.Tie.{close}
+
+abbrev μ-evaluate : Measures 2 evaluate-kinds.ps ℕ
+μ-evaluate κs a = a .1 .0
+
+abbrev evaluate-at : ℕ → In 2 evaluate-kinds.ps
+evaluate-at t = and 2 evaluate-kinds.ps (is 2 evaluate-kinds.ps μ-evaluate t) evaluate.Pre
+
+abbrev evaluate-below : ℕ → In 2 evaluate-kinds.ps
+evaluate-below t =
+    and 2 evaluate-kinds.ps (falls 2 evaluate-kinds.ps _<_ μ-evaluate t) evaluate.Pre
+
+abbrev evaluate-cs : ℕ → evaluate-lts.Claims
+evaluate-cs t = (read-signed-reads.Asked, read-signed-reads.Learnt, evaluate-variable-reads.Asked, evaluate-variable-reads.Learnt, evaluate-below t, evaluate.Post, combine-reads.Asked, combine-reads.Learnt, divide-reads.Asked, divide-reads.Learnt)
+
+-- the value of an expression and where it ends, or its fault
+abbrev values : List ℤ → ℕ → ℕ → Reader ℤ
+values vars v k s = mapped (value vars) (expression v k s)
+
+-- a sum, difference or product: its arguments, one after the other
+operands : (t : ℕ) (c : evaluate-lts.After-evaluate (evaluate-cs t) (evaluate-at t) evaluate.Post) →
+    let a = c .before .before .before .before .before .before .before .before .args in
+    let r = values (a .values .now) (a .variables) (a .levels - 1) in
+    values (a .values .now) (a .variables) (a .levels) (a .s .now) ≡ (r >>= λ x. r >>= λ y. yield (combined (getD (a .s .now) 0 0) x y)) (onward (a .s .now) 1)
+operands t c =
+    let n = c .before .before .before .match .rest .0 .1 in
+    let m = c .before .before .before .match .rest .1 in
+    let l = c .before .before .if3 .taken in
+    read-two _ _ _ _ (c .before .before .before .before .before .before .if1 .left) (c .before .before .before .before .before .if2 .left) _ (operator-value _ _ n m l) n m l
+
+-- the first argument
+first-got : (t : ℕ) (c : evaluate-lts.After-evaluate (evaluate-cs t) (evaluate-at t) evaluate.Post) {z : ℤ} (n : ℕ) → c .evaluate .result ≡ Vl.Value z n →
+    let a = c .before .before .before .before .before .before .before .before .args in
+    values (a .values .now) (a .variables) (a .levels - 1) (onward (a .s .now) (1)) ≡ got z (onward (a .s .now) (1 + n))
+first-got t c n q = part-got (values _ _ _) _ _ n (answered (valueOf _) (c .evaluate .ensures .0) q)
+
+first-fault : (t : ℕ) (c : evaluate-lts.After-evaluate (evaluate-cs t) (evaluate-at t) evaluate.Post) {f : Fault} → c .evaluate .result ≡ Vl.Fault f →
+    let a = c .before .before .before .before .before .before .before .before .args in
+    values (a .values .now) (a .variables) (a .levels - 1) (onward (a .s .now) (1)) ≡ fault (faultOf f)
+first-fault t c q = part-fault (values _ _ _) _ _ (answered (valueOf _) (c .evaluate .ensures .0) q)
+
+first-in : (t : ℕ) (c : evaluate-lts.After-evaluate (evaluate-cs t) (evaluate-at t) evaluate.Post) {z : ℤ} (n : ℕ) → c .evaluate .result ≡ Vl.Value z n → 1 + n ≤ length (c .before .before .before .before .before .before .before .before .args .s .now)
+first-in t c n q = omega (arith, ap valueEnd q, c .evaluate .ensures .1, part-length (c .before .before .before .before .before .before .before .before .args .s .now) 1 (length (c .before .before .before .before .before .before .before .before .args .s .now)) (omega arith) (omega arith))
+
+-- and the second
+second-got : (t : ℕ) (c : evaluate-lts.After-evaluate2 (evaluate-cs t) (evaluate-at t) evaluate.Post) {z : ℤ} (n : ℕ) → c .evaluate2 .result ≡ Vl.Value z n →
+    let a = c .before .before .before .before .before .before .before .before .before .before .before .before .before .args in
+    values (a .values .now) (a .variables) (a .levels - 1) (onward (a .s .now) (1 + c .before .before .before .first .given .0 .1 .0)) ≡ got z (onward (a .s .now) (1 + c .before .before .before .first .given .0 .1 .0 + n))
+second-got t c n q = part-got (values _ _ _) _ _ n (answered (valueOf _) (c .evaluate2 .ensures .0) q)
+
+second-fault : (t : ℕ) (c : evaluate-lts.After-evaluate2 (evaluate-cs t) (evaluate-at t) evaluate.Post) {f : Fault} → c .evaluate2 .result ≡ Vl.Fault f →
+    let a = c .before .before .before .before .before .before .before .before .before .before .before .before .before .args in
+    values (a .values .now) (a .variables) (a .levels - 1) (onward (a .s .now) (1 + c .before .before .before .first .given .0 .1 .0)) ≡ fault (faultOf f)
+second-fault t c q = part-fault (values _ _ _) _ _ (answered (valueOf _) (c .evaluate2 .ensures .0) q)
+
+second-in : (t : ℕ) (c : evaluate-lts.After-evaluate2 (evaluate-cs t) (evaluate-at t) evaluate.Post) {z : ℤ} (n : ℕ) → c .evaluate2 .result ≡ Vl.Value z n → 1 + c .before .before .before .first .given .0 .1 .0 + n ≤ length (c .before .before .before .before .before .before .before .before .before .before .before .before .before .args .s .now)
+second-in t c n q =
+    let l = first-in t (c .before .before .before .before .before) _ (c .before .before .before .first .given .1) in
+    omega (arith, ap valueEnd q, c .evaluate2 .ensures .1, part-length (c .before .before .before .before .before .before .before .before .before .before .before .before .before .args .s .now) (1 + c .before .before .before .first .given .0 .1 .0) (length (c .before .before .before .before .before .before .before .before .before .before .before .before .before .args .s .now)) l (omega arith))
+
+-- a quotient or remainder: its argument, then the divisor
+dividend : (t : ℕ) (c : evaluate-lts.After-evaluate3 (evaluate-cs t) (evaluate-at t) evaluate.Post) →
+    let a = c .before .before .before .before .before .before .before .before .before .args in
+    values (a .values .now) (a .variables) (a .levels) (a .s .now) ≡ (values (a .values .now) (a .variables) (a .levels - 1) >>= λ x t. mapped (divided (getD (a .s .now) 0 0) x) (divisor t)) (onward (a .s .now) 1)
+dividend t c =
+    let n = c .before .before .before .if3 .left in
+    let l = c .before .before .if4 .taken in
+    read-by _ _ _ _ (c .before .before .before .before .before .before .before .if1 .left) (c .before .before .before .before .before .before .if2 .left) _ (division-value _ _ n l) n l
+
+dividend-got : (t : ℕ) (c : evaluate-lts.After-evaluate3 (evaluate-cs t) (evaluate-at t) evaluate.Post) {z : ℤ} (n : ℕ) → c .evaluate3 .result ≡ Vl.Value z n →
+    let a = c .before .before .before .before .before .before .before .before .before .args in
+    values (a .values .now) (a .variables) (a .levels - 1) (onward (a .s .now) (1)) ≡ got z (onward (a .s .now) (1 + n))
+dividend-got t c n q = part-got (values _ _ _) _ _ n (answered (valueOf _) (c .evaluate3 .ensures .0) q)
+
+dividend-fault : (t : ℕ) (c : evaluate-lts.After-evaluate3 (evaluate-cs t) (evaluate-at t) evaluate.Post) {f : Fault} → c .evaluate3 .result ≡ Vl.Fault f →
+    let a = c .before .before .before .before .before .before .before .before .before .args in
+    values (a .values .now) (a .variables) (a .levels - 1) (onward (a .s .now) (1)) ≡ fault (faultOf f)
+dividend-fault t c q = part-fault (values _ _ _) _ _ (answered (valueOf _) (c .evaluate3 .ensures .0) q)
+
+dividend-in : (t : ℕ) (c : evaluate-lts.After-evaluate3 (evaluate-cs t) (evaluate-at t) evaluate.Post) {z : ℤ} (n : ℕ) → c .evaluate3 .result ≡ Vl.Value z n → 1 + n ≤ length (c .before .before .before .before .before .before .before .before .before .args .s .now)
+dividend-in t c n q = omega (arith, ap valueEnd q, c .evaluate3 .ensures .1, part-length (c .before .before .before .before .before .before .before .before .before .args .s .now) 1 (length (c .before .before .before .before .before .before .before .before .before .args .s .now)) (omega arith) (omega arith))
+
+evaluate-returns : (t : ℕ) → evaluate-lts.Need-returns (evaluate-cs t) (evaluate-at t) evaluate.Post
+evaluate-returns t c = (sym (read-empty _ _ _ _ (c .if1 .taken)), omega arith)
+
+evaluate-returns-2 : (t : ℕ) → evaluate-lts.Need-returns-2 (evaluate-cs t) (evaluate-at t) evaluate.Post
+evaluate-returns-2 t c = (sym (read-deep _ _ _ _ (c .before .if1 .left) (c .if2 .taken)), omega arith)
+
+evaluate-shared-slice-read-code : (t : ℕ) → evaluate-lts.Need-shared-slice-read-code (evaluate-cs t) (evaluate-at t) evaluate.Post
+evaluate-shared-slice-read-code t c = omega arith
+
+evaluate-read-signed-requires : (t : ℕ) → evaluate-lts.Need-read-signed-requires (evaluate-cs t) (evaluate-at t) evaluate.Post
+evaluate-read-signed-requires t c κs = tt
+
+evaluate-evaluate-variable-requires : (t : ℕ) → evaluate-lts.Need-evaluate-variable-requires (evaluate-cs t) (evaluate-at t) evaluate.Post
+evaluate-evaluate-variable-requires t c κs = tt
+
+evaluate-sub-evaluate : (t : ℕ) → evaluate-lts.Need-sub-evaluate (evaluate-cs t) (evaluate-at t) evaluate.Post
+evaluate-sub-evaluate t c = omega arith
+
+evaluate-part-evaluate-start : (t : ℕ) → evaluate-lts.Need-part-evaluate-start (evaluate-cs t) (evaluate-at t) evaluate.Post
+evaluate-part-evaluate-start t c = omega arith
+
+evaluate-part-evaluate-end : (t : ℕ) → evaluate-lts.Need-part-evaluate-end (evaluate-cs t) (evaluate-at t) evaluate.Post
+evaluate-part-evaluate-end t c = omega arith
+
+evaluate-sub-evaluate-2 : (t : ℕ) → evaluate-lts.Need-sub-evaluate-2 (evaluate-cs t) (evaluate-at t) evaluate.Post
+evaluate-sub-evaluate-2 t c = omega arith
+
+evaluate-evaluate-requires : (t : ℕ) → evaluate-lts.Need-evaluate-requires (evaluate-cs t) (evaluate-at t) evaluate.Post
+evaluate-evaluate-requires t c κs = (omega arith, tt)
+
+evaluate-enum-known-first : (t : ℕ) → evaluate-lts.Need-enum-known-first (evaluate-cs t) (evaluate-at t) evaluate.Post
+evaluate-enum-known-first t c = c .match2 .keys1
+
+evaluate-enum-told : (t : ℕ) → evaluate-lts.Need-enum-told (evaluate-cs t) (evaluate-at t) evaluate.Post
+evaluate-enum-told t c = c .match2 .keys2
+
+evaluate-returns-3 : (t : ℕ) → evaluate-lts.Need-returns-3 (evaluate-cs t) (evaluate-at t) evaluate.Post
+evaluate-returns-3 t c = (ap (valueOf _) (c .enum-told .given .1) ∙ sym (operands t (c .before .before) ∙ bind-fault _ _ _ (first-fault t (c .before .before) (c .enum-told .given .1))), omega (arith, ap valueEnd (c .enum-told .given .1)))
+
+evaluate-add-evaluate : (t : ℕ) → evaluate-lts.Need-add-evaluate (evaluate-cs t) (evaluate-at t) evaluate.Post
+evaluate-add-evaluate t c = omega (arith, first-in t (c .before .before .before) _ (c .before .first .given .1))
+
+evaluate-sub-evaluate-3 : (t : ℕ) → evaluate-lts.Need-sub-evaluate-3 (evaluate-cs t) (evaluate-at t) evaluate.Post
+evaluate-sub-evaluate-3 t c = omega (arith, first-in t (c .before .before .before) _ (c .before .first .given .1))
+
+evaluate-part-evaluate-start-2 : (t : ℕ) → evaluate-lts.Need-part-evaluate-start-2 (evaluate-cs t) (evaluate-at t) evaluate.Post
+evaluate-part-evaluate-start-2 t c = omega (arith, first-in t (c .before .before .before) _ (c .before .first .given .1))
+
+evaluate-part-evaluate-end-2 : (t : ℕ) → evaluate-lts.Need-part-evaluate-end-2 (evaluate-cs t) (evaluate-at t) evaluate.Post
+evaluate-part-evaluate-end-2 t c = omega arith
+
+evaluate-sub-evaluate-4 : (t : ℕ) → evaluate-lts.Need-sub-evaluate-4 (evaluate-cs t) (evaluate-at t) evaluate.Post
+evaluate-sub-evaluate-4 t c = omega arith
+
+evaluate-evaluate-requires-2 : (t : ℕ) → evaluate-lts.Need-evaluate-requires-2 (evaluate-cs t) (evaluate-at t) evaluate.Post
+evaluate-evaluate-requires-2 t c κs = (omega arith, tt)
+
+evaluate-enum-known-second : (t : ℕ) → evaluate-lts.Need-enum-known-second (evaluate-cs t) (evaluate-at t) evaluate.Post
+evaluate-enum-known-second t c = c .match3 .keys1
+
+evaluate-enum-told-2 : (t : ℕ) → evaluate-lts.Need-enum-told-2 (evaluate-cs t) (evaluate-at t) evaluate.Post
+evaluate-enum-told-2 t c = c .match3 .keys2
+
+evaluate-returns-4 : (t : ℕ) → evaluate-lts.Need-returns-4 (evaluate-cs t) (evaluate-at t) evaluate.Post
+evaluate-returns-4 t c = (ap (valueOf _) (c .enum-told2 .given .1) ∙ sym (operands t (c .before .before .before .before .before .before .before) ∙ bind-got _ _ _ (first-got t (c .before .before .before .before .before .before .before) _ (c .before .before .before .before .before .first .given .1)) ∙ bind-fault _ _ _ (second-fault t (c .before .before) (c .enum-told2 .given .1))), omega (arith, ap valueEnd (c .enum-told2 .given .1)))
+
+evaluate-combine-requires : (t : ℕ) → evaluate-lts.Need-combine-requires (evaluate-cs t) (evaluate-at t) evaluate.Post
+evaluate-combine-requires t c κs = tt
+
+evaluate-add-t24 : (t : ℕ) → evaluate-lts.Need-add-t24 (evaluate-cs t) (evaluate-at t) evaluate.Post
+evaluate-add-t24 t c = omega (arith, second-in t (c .before .before .before .before) _ (c .before .before .second .given .1), c .before .before .before .before .before .before .before .before .before .before .before .before .before .before .before .before .before .good .0 .0)
+
+evaluate-add-t29 : (t : ℕ) → evaluate-lts.Need-add-t29 (evaluate-cs t) (evaluate-at t) evaluate.Post
+evaluate-add-t29 t c = omega (arith, second-in t (c .before .before .before .before) _ (c .before .before .second .given .1), c .before .before .before .before .before .before .before .before .before .before .before .before .before .before .before .before .before .good .0 .0)
+
+evaluate-sub-evaluate-5 : (t : ℕ) → evaluate-lts.Need-sub-evaluate-5 (evaluate-cs t) (evaluate-at t) evaluate.Post
+evaluate-sub-evaluate-5 t c = omega arith
+
+evaluate-part-evaluate-start-3 : (t : ℕ) → evaluate-lts.Need-part-evaluate-start-3 (evaluate-cs t) (evaluate-at t) evaluate.Post
+evaluate-part-evaluate-start-3 t c = omega arith
+
+evaluate-part-evaluate-end-3 : (t : ℕ) → evaluate-lts.Need-part-evaluate-end-3 (evaluate-cs t) (evaluate-at t) evaluate.Post
+evaluate-part-evaluate-end-3 t c = omega arith
+
+evaluate-sub-evaluate-6 : (t : ℕ) → evaluate-lts.Need-sub-evaluate-6 (evaluate-cs t) (evaluate-at t) evaluate.Post
+evaluate-sub-evaluate-6 t c = omega arith
+
+evaluate-evaluate-requires-3 : (t : ℕ) → evaluate-lts.Need-evaluate-requires-3 (evaluate-cs t) (evaluate-at t) evaluate.Post
+evaluate-evaluate-requires-3 t c κs = (omega arith, tt)
+
+evaluate-enum-known-first-2 : (t : ℕ) → evaluate-lts.Need-enum-known-first-2 (evaluate-cs t) (evaluate-at t) evaluate.Post
+evaluate-enum-known-first-2 t c = c .match4 .keys1
+
+evaluate-enum-told-3 : (t : ℕ) → evaluate-lts.Need-enum-told-3 (evaluate-cs t) (evaluate-at t) evaluate.Post
+evaluate-enum-told-3 t c = c .match4 .keys2
+
+evaluate-returns-5 : (t : ℕ) → evaluate-lts.Need-returns-5 (evaluate-cs t) (evaluate-at t) evaluate.Post
+evaluate-returns-5 t c = (ap (valueOf _) (c .enum-told3 .given .1) ∙ sym (dividend t (c .before .before) ∙ bind-fault _ _ _ (dividend-fault t (c .before .before) (c .enum-told3 .given .1))), omega (arith, ap valueEnd (c .enum-told3 .given .1)))
+
+evaluate-add-divide : (t : ℕ) → evaluate-lts.Need-add-divide (evaluate-cs t) (evaluate-at t) evaluate.Post
+evaluate-add-divide t c = omega (arith, dividend-in t (c .before .before .before) _ (c .before .first2 .given .1), c .before .before .before .before .before .before .before .before .before .before .before .before .good .0 .0)
+
+evaluate-divide-requires : (t : ℕ) → evaluate-lts.Need-divide-requires (evaluate-cs t) (evaluate-at t) evaluate.Post
+evaluate-divide-requires t c κs = tt
+
+evaluate-returns-6 : (t : ℕ) → evaluate-lts.Need-returns-6 (evaluate-cs t) (evaluate-at t) evaluate.Post
+unfolding value
+evaluate-returns-6 t c = (c .read-signed .ensures .0 ∙ sym (read-constant _ _ _ _ (c .before .before .before .before .if1 .left) (c .before .before .before .if2 .left) (c .before .match .keys1)), c .read-signed .ensures .1)
+
+evaluate-returns-7 : (t : ℕ) → evaluate-lts.Need-returns-7 (evaluate-cs t) (evaluate-at t) evaluate.Post
+unfolding value
+evaluate-returns-7 t c = (c .evaluate-variable .ensures .0 ∙ sym (read-variable _ _ _ _ (c .before .before .before .before .if1 .left) (c .before .before .before .if2 .left) (c .before .match .keys2)), c .evaluate-variable .ensures .1)
+
+evaluate-returns-8 : (t : ℕ) → evaluate-lts.Need-returns-8 (evaluate-cs t) (evaluate-at t) evaluate.Post
+unfolding yield
+evaluate-returns-8 t c = 
+    (rw (read-back (c .combine .result) (c .combine .ok), c .combine .ensures, read-back (c .before .before .before .before .before .before .before .first .given .0 .0) (c .before .before .before .before .before .before .known-told .given .0 .1), read-back (c .before .before .second .given .0 .0) (c .before .known-told2 .given .0 .1))
+    (sym (operands t (c .before .before .before .before .before .before .before .before .before) ∙ bind-got _ _ _ (first-got t (c .before .before .before .before .before .before .before .before .before) _ (c .before .before .before .before .before .before .before .first .given .1)) ∙ bind-got _ _ _ (second-got t (c .before .before .before .before) _ (c .before .before .second .given .1)))), second-in t (c .before .before .before .before) _ (c .before .before .second .given .1))
+
+evaluate-returns-9 : (t : ℕ) → evaluate-lts.Need-returns-9 (evaluate-cs t) (evaluate-at t) evaluate.Post
+evaluate-returns-9 t c = 
+    ((rw (read-back (c .before .before .first2 .given .0 .0) (c .before .known-told3 .given .0 .1)) at (c .divide .ensures .0)) ∙ sym (dividend t (c .before .before .before .before) ∙ bind-got _ _ _ (dividend-got t (c .before .before .before .before) _ (c .before .before .first2 .given .1))), c .divide .ensures .1)
+
+evaluate-returns-10 : (t : ℕ) → evaluate-lts.Need-returns-10 (evaluate-cs t) (evaluate-at t) evaluate.Post
+evaluate-returns-10 t c = (sym (read-unknown _ _ _ _ (c .before .before .before .before .before .if1 .left) (c .if4 .left)), omega arith)
+
+pub +evaluate-spec : {M : Type 1} → statement M
++evaluate-spec = close μ-evaluate λ t. evaluate-lts.spec (evaluate-cs t)
+    (evaluate-at t)
+    evaluate.Post
+    (evaluate-returns t)
+    (evaluate-returns-2 t)
+    (evaluate-shared-slice-read-code t)
+    (evaluate-read-signed-requires t)
+    (evaluate-evaluate-variable-requires t)
+    (evaluate-sub-evaluate t)
+    (evaluate-part-evaluate-start t)
+    (evaluate-part-evaluate-end t)
+    (evaluate-sub-evaluate-2 t)
+    (evaluate-evaluate-requires t)
+    (evaluate-enum-known-first t)
+    (evaluate-enum-told t)
+    (evaluate-returns-3 t)
+    (evaluate-add-evaluate t)
+    (evaluate-sub-evaluate-3 t)
+    (evaluate-part-evaluate-start-2 t)
+    (evaluate-part-evaluate-end-2 t)
+    (evaluate-sub-evaluate-4 t)
+    (evaluate-evaluate-requires-2 t)
+    (evaluate-enum-known-second t)
+    (evaluate-enum-told-2 t)
+    (evaluate-returns-4 t)
+    (evaluate-combine-requires t)
+    (evaluate-add-t24 t)
+    (evaluate-add-t29 t)
+    (evaluate-sub-evaluate-5 t)
+    (evaluate-part-evaluate-start-3 t)
+    (evaluate-part-evaluate-end-3 t)
+    (evaluate-sub-evaluate-6 t)
+    (evaluate-evaluate-requires-3 t)
+    (evaluate-enum-known-first-2 t)
+    (evaluate-enum-told-3 t)
+    (evaluate-returns-5 t)
+    (evaluate-add-divide t)
+    (evaluate-divide-requires t)
+    (evaluate-returns-6 t)
+    (evaluate-returns-7 t)
+    (evaluate-returns-8 t)
+    (evaluate-returns-9 t)
+    (evaluate-returns-10 t)

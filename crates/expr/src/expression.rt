@@ -1,0 +1,209 @@
+// Expressions: prefix codes, read and evaluated from the front of a part of a record.
+ghost use mathlib.Core.Path.{_≡_};
+ghost use Prim.Native.Nat.{_≤_, _<_, _^_};
+ghost use lib.IntN.{pos};
+ghost use lib.ListN.{length, getD};
+ghost use mathlib.Core.Bool.{_&&_};
+ghost use lib.Dec.{leb, ltb};
+ghost use Rattle.expr.specs.Reading.{byte, byte4, such, mapped, skipped};
+ghost use Rattle.expr.specs.Expression.{divisor, expression, value, combined, divided};
+ghost use Rattle.expr.specs.Places.{onward, byteOf, byteEnd, wordOf, wordEnd, valueOf, valueEnd, reached, reachedEnd, byteReached, wordReached};
+use crate::field::ByteRead;
+use crate::field::Fault;
+use crate::field::Reached;
+use crate::field::ValueRead;
+use crate::field::WordRead;
+use crate::field::byte_fault;
+use crate::field::read_byte;
+use crate::field::read_signed;
+use crate::field::read_word;
+use crate::field::word_fault;
+use crate::signed::difference;
+use crate::signed::product;
+use crate::signed::quotient;
+use crate::signed::remainder;
+use crate::signed::sum;
+
+fn byte_reached(b: ByteRead) -> Reached
+    ensures { λ r. ⌜ r ≡ byteReached b ⌝ }
+{
+    match b {
+        ByteRead::Value(_, next) => Reached::At(next),
+        ByteRead::Fault(f) => Reached::Fault(f),
+    }
+}
+
+fn word_reached(w: WordRead) -> Reached
+    ensures { λ r. ⌜ r ≡ wordReached w ⌝ }
+{
+    match w {
+        WordRead::Value(_, next) => Reached::At(next),
+        WordRead::Fault(f) => Reached::Fault(f),
+    }
+}
+
+// A constant of four bytes.
+fn read_constant(s: &[u8], at: usize) -> Reached
+    ensures means { λ r. ⌜ reached (now (s .entry)) tt r ≡ skipped (byte4 (onward (now (s .entry)) at)) ⌝ }
+    ensures within { λ r. ⌜ reachedEnd r ≤ length (now (s .entry)) ⌝ }
+{
+    word_reached(read_word(s, at))
+}
+
+// The number of a variable that is declared.
+fn read_variable(s: &[u8], at: usize, variables: u8) -> ByteRead
+    ensures means { λ r. ⌜ byteOf (now (s .entry)) r ≡ such byte (λ i. ltb i variables) (onward (now (s .entry)) at) ⌝ }
+    ensures within { λ r. ⌜ byteEnd r ≤ length (now (s .entry)) ⌝ }
+{
+    let b = read_byte(s, at);
+    let ByteRead::Value(i, _) = b else {
+        return b;
+    };
+    if i < variables {
+        b
+    } else {
+        ByteRead::Fault(Fault::Range)
+    }
+}
+
+fn is_divisor(d: u32) -> bool
+    ensures { λ r. ⌜ r ≡ (leb 1 d && ltb d (2 ^ 31)) ⌝ }
+{
+    1 <= d && d < 2147483648
+}
+
+// The divisor of a quotient or remainder.
+fn read_divisor(s: &[u8], at: usize) -> WordRead
+    ensures means { λ r. ⌜ wordOf (now (s .entry)) r ≡ divisor (onward (now (s .entry)) at) ⌝ }
+    ensures within { λ r. ⌜ wordEnd r ≤ length (now (s .entry)) ⌝ }
+{
+    let w = read_word(s, at);
+    let WordRead::Value(d, _) = w else {
+        return w;
+    };
+    if is_divisor(d) {
+        w
+    } else {
+        WordRead::Fault(Fault::Range)
+    }
+}
+
+// An expression in front of s, nested at most so many levels, over so many variables.
+pub fn read_expression(s: &[u8], levels: u8, variables: u8) -> Reached
+    ensures means { λ r. ⌜ reached (now (s .entry)) tt r ≡ skipped (expression variables levels (now (s .entry))) ⌝ }
+    ensures within { λ r. ⌜ reachedEnd r ≤ length (now (s .entry)) ⌝ }
+{
+    if s.len() == 0 {
+        return Reached::Fault(Fault::Length);
+    }
+    if levels == 0 {
+        return Reached::Fault(Fault::Range);
+    }
+    let code = s[0];
+    match code {
+        0 => read_constant(s, 1),
+        1 => byte_reached(read_variable(s, 1, variables)),
+        2 | 3 | 4 => {
+            let first = read_expression(&s[1..], levels - 1, variables);
+            let Reached::At(n) = first else {
+                return first;
+            };
+            let second = read_expression(&s[1 + n..], levels - 1, variables);
+            let Reached::At(m) = second else {
+                return second;
+            };
+            Reached::At(1 + n + m)
+        }
+        5 | 6 => {
+            let first = read_expression(&s[1..], levels - 1, variables);
+            let Reached::At(n) = first else {
+                return first;
+            };
+            word_reached(read_divisor(s, 1 + n))
+        }
+        _ => Reached::Fault(Fault::Range),
+    }
+}
+
+// The value of a variable; 0 past those that the array has.
+fn variable_value(i: u8, values: [i32; 16]) -> i32
+    ensures { λ r. ⌜ r ≡ getD values i (pos 0) ⌝ }
+{
+    if i < 16 { values[i as usize] } else { 0 }
+}
+
+// The value of the variable whose number stands at a place.
+fn evaluate_variable(s: &[u8], at: usize, variables: u8, values: &[i32; 16]) -> ValueRead
+    ensures means { λ r. ⌜ valueOf (now (s .entry)) r ≡ mapped (λ i. getD (now (values .entry)) i (pos 0)) (such byte (λ i. ltb i variables) (onward (now (s .entry)) at)) ⌝ }
+    ensures within { λ r. ⌜ valueEnd r ≤ length (now (s .entry)) ⌝ }
+{
+    let b = read_variable(s, at, variables);
+    let ByteRead::Value(i, next) = b else {
+        return ValueRead::Fault(byte_fault(b));
+    };
+    ValueRead::Value(variable_value(i, *values), next)
+}
+
+// The sum, difference or product, by the code.
+fn combine(code: u8, x: i32, y: i32) -> i32
+    ensures { λ r. ⌜ r ≡ combined code x y ⌝ }
+{
+    match code {
+        2 => sum(x, y),
+        3 => difference(x, y),
+        _ => product(x, y),
+    }
+}
+
+// The quotient or remainder, by the code, with the divisor that stands at a place.
+fn divide(s: &[u8], at: usize, code: u8, x: i32) -> ValueRead
+    ensures means { λ r. ⌜ valueOf (now (s .entry)) r ≡ mapped (divided code x) (divisor (onward (now (s .entry)) at)) ⌝ }
+    ensures within { λ r. ⌜ valueEnd r ≤ length (now (s .entry)) ⌝ }
+{
+    let w = read_divisor(s, at);
+    let WordRead::Value(d, next) = w else {
+        return ValueRead::Fault(word_fault(w));
+    };
+    if code == 5 {
+        ValueRead::Value(quotient(x, d), next)
+    } else {
+        ValueRead::Value(remainder(x, d), next)
+    }
+}
+
+// The value of the expression in front of s.
+pub fn evaluate(s: &[u8], levels: u8, variables: u8, values: &[i32; 16]) -> ValueRead
+    ensures means { λ r. ⌜ valueOf (now (s .entry)) r ≡ mapped (value (now (values .entry))) (expression variables levels (now (s .entry))) ⌝ }
+    ensures within { λ r. ⌜ valueEnd r ≤ length (now (s .entry)) ⌝ }
+{
+    if s.len() == 0 {
+        return ValueRead::Fault(Fault::Length);
+    }
+    if levels == 0 {
+        return ValueRead::Fault(Fault::Range);
+    }
+    let code = s[0];
+    match code {
+        0 => read_signed(s, 1),
+        1 => evaluate_variable(s, 1, variables, values),
+        2 | 3 | 4 => {
+            let first = evaluate(&s[1..], levels - 1, variables, values);
+            let ValueRead::Value(x, n) = first else {
+                return first;
+            };
+            let second = evaluate(&s[1 + n..], levels - 1, variables, values);
+            let ValueRead::Value(y, m) = second else {
+                return second;
+            };
+            ValueRead::Value(combine(code, x, y), 1 + n + m)
+        }
+        5 | 6 => {
+            let first = evaluate(&s[1..], levels - 1, variables, values);
+            let ValueRead::Value(x, n) = first else {
+                return first;
+            };
+            divide(s, 1 + n, code, x)
+        }
+        _ => ValueRead::Fault(Fault::Range),
+    }
+}

@@ -1,0 +1,136 @@
+// Guards and assignments: read as a file is checked, and evaluated on variables and clocks.
+ghost use mathlib.Core.Path.{_≡_};
+ghost use Prim.Native.Nat.{_+_, _^_, _<_};
+ghost use lib.ListN.{getD};
+ghost use Rattle.expr.specs.Reading.{mapped, skipped};
+ghost use Rattle.expr.specs.Expression.{expression, value};
+ghost use Rattle.expr.specs.Guard.{limits, ticks, dataGuard, clockGuard, differenceGuard, guard, update, holds};
+ghost use Rattle.expr.specs.Places.{onward, byteOf, wordOf, testOf, reached, testReached};
+use crate::expression;
+use crate::field;
+use crate::field::ByteRead;
+use crate::field::Fault;
+use crate::field::Reached;
+use crate::field::TestRead;
+use crate::field::WordRead;
+use crate::signed;
+
+// How deep an expression may nest, a constant or a variable being one level.
+pub const LEVELS: u8 = 8;
+
+// The expression at a place.
+fn expression_at(s: &[u8], at: usize, variables: u8) -> Reached
+    ensures { λ r. ⌜ reached (now (s .entry)) tt r ≡ skipped (expression variables 8 (onward (now (s .entry)) at)) ⌝ }
+{
+    if s.len() < at {
+        return Reached::Fault(Fault::Length);
+    }
+    let q = expression::read_expression(&s[at..], LEVELS, variables);
+    let Reached::At(n) = q else {
+        return q;
+    };
+    Reached::At(at + n)
+}
+
+// A constant that a clock is compared with.
+fn read_ticks(s: &[u8], at: usize) -> WordRead
+    ensures { λ r. ⌜ wordOf (now (s .entry)) r ≡ ticks (onward (now (s .entry)) at) ⌝ }
+{
+    let w = field::read_word(s, at);
+    let WordRead::Value(n, _) = w else {
+        return w;
+    };
+    if n < 2147483648 {
+        w
+    } else {
+        WordRead::Fault(Fault::Range)
+    }
+}
+
+fn wide(x: u32) -> u64
+    ensures { λ r. ⌜ (r ≡ x) × (r < 2 ^ 32) ⌝ }
+{
+    x as u64
+}
+
+fn time_of(times: [u32; 8], clock: u8) -> u64
+    ensures means { λ r. ⌜ r ≡ getD (times) clock 0 ⌝ }
+    ensures within { λ r. ⌜ r < 2 ^ 32 ⌝ }
+{
+    let i = clock as usize;
+    if i < 8 { wide(times[i]) } else { 0 }
+}
+
+// A clock and a constant, added exactly.
+fn sum_of(time: u64, n: u32) -> u64
+    requires { ⌜ time < 2 ^ 32 ⌝ }
+    ensures { λ r. ⌜ r ≡ time + n ⌝ }
+{
+    time + n as u64
+}
+
+fn test_reached(t: TestRead) -> Reached
+    ensures { λ r. ⌜ r ≡ testReached t ⌝ }
+{
+    match t {
+        TestRead::Value(_, next) => Reached::At(next),
+        TestRead::Fault(f) => Reached::Fault(f),
+    }
+}
+
+// What follows the kind of a guard on variables.
+fn read_data_guard(s: &[u8], at: usize, variables: u8) -> Reached
+    ensures { λ r. ⌜ ((c : _) → reached (now (s .entry)) tt r ≡ skipped (dataGuard (limits c variables) (onward (now (s .entry)) at))) ⌝ }
+{
+    let k = field::read_byte_below(s, at, 6);
+    let ByteRead::Value(_, at1) = k else {
+        return Reached::Fault(field::byte_fault(k));
+    };
+    let a = expression_at(s, at1, variables);
+    let Reached::At(at2) = a else {
+        return a;
+    };
+    expression_at(s, at2, variables)
+}
+
+// What follows the kind of a guard on one clock.
+fn clock_guard_holds(s: &[u8], at: usize, clocks: u8, times: [u32; 8]) -> TestRead
+    ensures { λ r. ⌜ ((v : _) (vars : _) → testOf (now (s .entry)) r ≡ mapped (holds vars (times)) (clockGuard (limits clocks v) (onward (now (s .entry)) at))) ⌝ }
+{
+    let c = field::read_byte_below(s, at, clocks);
+    let ByteRead::Value(clock, at1) = c else {
+        return TestRead::Fault(field::byte_fault(c));
+    };
+    let k = field::read_byte_below(s, at1, 6);
+    let ByteRead::Value(relation, at2) = k else {
+        return TestRead::Fault(field::byte_fault(k));
+    };
+    let w = read_ticks(s, at2);
+    let WordRead::Value(n, at3) = w else {
+        return TestRead::Fault(field::word_fault(w));
+    };
+    TestRead::Value(signed::compare_clocks(relation, time_of(times, clock), n as u64), at3)
+}
+
+// What follows the kind of a guard on the difference of two clocks.
+fn difference_guard_holds(s: &[u8], at: usize, clocks: u8, times: [u32; 8]) -> TestRead
+    ensures { λ r. ⌜ ((v : _) (vars : _) → testOf (now (s .entry)) r ≡ mapped (holds vars (times)) (differenceGuard (limits clocks v) (onward (now (s .entry)) at))) ⌝ }
+{
+    let c = field::read_byte_below(s, at, clocks);
+    let ByteRead::Value(first, at1) = c else {
+        return TestRead::Fault(field::byte_fault(c));
+    };
+    let d = field::read_byte_below(s, at1, clocks);
+    let ByteRead::Value(second, at2) = d else {
+        return TestRead::Fault(field::byte_fault(d));
+    };
+    let k = field::read_byte_below(s, at2, 6);
+    let ByteRead::Value(relation, at3) = k else {
+        return TestRead::Fault(field::byte_fault(k));
+    };
+    let w = read_ticks(s, at3);
+    let WordRead::Value(n, at4) = w else {
+        return TestRead::Fault(field::word_fault(w));
+    };
+    TestRead::Value(signed::compare_clocks(relation, time_of(times, first), sum_of(time_of(times, second), n)), at4)
+}

@@ -1,0 +1,128 @@
+// Signed 32-bit numbers: sums, differences and products that wrap, the floored quotient and remainder, and the relations.
+// A signed operation is hard to reason about and an unsigned one easy, so a number is taken apart once
+// (`below_zero`, `magnitude`) and put together once (`signed`, `with_sign`).
+ghost use mathlib.Core.Path.{_≡_};
+ghost use mathlib.Core.Bool.{cond, _&&_};
+ghost use Prim.Native.Nat.{_<_, _^_};
+ghost use lib.IntN.{pos, negsuc, _+ℤ_, _-ℤ_, _*ℤ_};
+ghost use lib.Signed.{mag, ltZ, leZ};
+ghost use lib.ListN.{getD};
+ghost use Rattle.expr.specs.Integer.{signed, wrap, floorDiv, floorMod};
+ghost use Rattle.expr.specs.Guard.{lt, relations, compareℕ, compareℤ};
+
+fn below_zero(x: i64) -> bool
+    ensures { λ r. ⌜ r ≡ ltZ x (pos 0) ⌝ }
+{
+    x < 0
+}
+
+// n for n and for -(n + 1).
+fn magnitude(x: i64) -> u64
+    ensures { λ r. ⌜ r ≡ mag x ⌝ }
+{
+    if x < 0 { (-1 - x) as u64 } else { x as u64 }
+}
+
+// m, or -(m + 1).
+fn with_sign(negative: bool, m: u32) -> i32
+    requires { ⌜ m < 2 ^ 31 ⌝ }
+    ensures { λ r. ⌜ r ≡ cond negative (negsuc m) (pos m) ⌝ }
+{
+    if negative { -1 - (m as i32) } else { m as i32 }
+}
+
+// The number that 32 bits mean in two's complement.
+pub fn signed(u: u32) -> i32
+    ensures { λ r. ⌜ r ≡ signed u ⌝ }
+{
+    if u < 2147483648 {
+        with_sign(false, u)
+    } else {
+        with_sign(true, 4294967295 - u)
+    }
+}
+
+// The low 32 bits of x, read as signed.
+pub fn wrap(x: i64) -> i32
+    ensures { λ r. ⌜ r ≡ wrap x ⌝ }
+{
+    let m = magnitude(x) % 4294967296;
+    if below_zero(x) {
+        signed((4294967295 - m) as u32)
+    } else {
+        signed(m as u32)
+    }
+}
+
+pub fn sum(x: i32, y: i32) -> i32
+    ensures { λ r. ⌜ r ≡ wrap (x +ℤ y) ⌝ }
+{
+    wrap((x as i64) + (y as i64))
+}
+
+pub fn difference(x: i32, y: i32) -> i32
+    ensures { λ r. ⌜ r ≡ wrap (x -ℤ y) ⌝ }
+{
+    wrap((x as i64) - (y as i64))
+}
+
+pub fn product(x: i32, y: i32) -> i32
+    ensures { λ r. ⌜ r ≡ wrap (x *ℤ y) ⌝ }
+{
+    wrap((x as i64) * (y as i64))
+}
+
+pub fn quotient(x: i32, d: u32) -> i32
+    requires { ⌜ 0 < d ⌝ }
+    ensures { λ r. ⌜ r ≡ floorDiv x d ⌝ }
+{
+    let z = x as i64;
+    let q = magnitude(z) / (d as u64);
+    with_sign(below_zero(z), q as u32)
+}
+
+pub fn remainder(x: i32, d: u32) -> i32
+    requires { ⌜ (0 < d) × (d < 2 ^ 31) ⌝ }
+    ensures { λ r. ⌜ r ≡ floorMod x d ⌝ }
+{
+    let z = x as i64;
+    let m = magnitude(z) % (d as u64);
+    if below_zero(z) {
+        with_sign(false, d - 1 - (m as u32))
+    } else {
+        with_sign(false, m as u32)
+    }
+}
+
+fn equal(x: i32, y: i32) -> bool
+    ensures { λ r. ⌜ r ≡ (leZ x y && leZ y x) ⌝ }
+{
+    if x <= y { y <= x } else { false }
+}
+
+// Whether two numbers stand in the relation of this number; a number that stands for none is taken as 0.
+pub fn compare(relation: u8, x: i32, y: i32) -> bool
+    ensures { λ r. ⌜ r ≡ compareℤ (getD relations relation lt) x y ⌝ }
+{
+    match relation {
+        1 => x <= y, // le
+        2 => y < x, // gt
+        3 => y <= x, // ge
+        4 => equal(x, y), // eq
+        5 => !equal(x, y), // ne
+        _ => x < y, // lt
+    }
+}
+
+pub fn compare_clocks(relation: u8, x: u64, y: u64) -> bool
+    ensures { λ r. ⌜ r ≡ compareℕ (getD relations relation lt) x y ⌝ }
+{
+    match relation {
+        1 => x <= y,
+        2 => y < x,
+        3 => y <= x,
+        4 => x == y,
+        5 => x != y,
+        _ => x < y,
+    }
+}
