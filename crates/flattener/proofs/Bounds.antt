@@ -9,7 +9,7 @@
 use mathlib.Core.Path.{_≡_, refl, sym, ap, _∙_, subst}
 use mathlib.Core.Bool.{Bool, true, false, cond, not, _&&_}
 use mathlib.Core.Logic.{⊎-elim, _≢_}
-use mathlib.Core.List.{List, [], _∷_, map, List·Memᴰ as Mem, List·Memᴰ·head as here, List·Memᴰ·tail as there, List·Memᴰ·append-cases as append-cases, List·Memᴰ·cases-cons as cases-cons}
+use mathlib.Core.List.{List, [], _∷_, map, List·Memᴰ as Mem, List·Memᴰ·head as here, List·Memᴰ·tail as there}
 use Prim.Native.Nat.{ℕ, zero, suc, _+_, _≤_, _<_}
 use native.Mathlib.Omega.{arith}
 use native.Mathlib.Decide.{ℕ-discrete, decLt}
@@ -20,7 +20,7 @@ use Rattle.expr.specs.Lists.{all, keep, implies}
 use Rattle.expr.specs.Clocks.{free, join, keeps}
 use Rattle.expr.specs.Moves.{clocksAfter}
 use Rattle.expr.proofs.Bools.{clash, decided, and-l, and-r, both, implies-at, implies-by, same}
-use Rattle.expr.proofs.Lists.{all-at, all-by, all-same, all-map, all-keep, keep-at, map-at, map-by, below-at, getD-mem}
+use Rattle.expr.proofs.Lists.{all-at, all-by, all-same, all-map, all-keep, keep-at, map-at, map-by, getD-mem}
 use Rattle.expr.proofs.Clocks.{keeps-join}
 use Rattle.expr.proofs.Rows.{ClockValues, IsRow, free-row, join-row, keeps-free, keeps-clocks-after, values-clocks-after}
 use Rattle.chart.specs.Chart.{Chart, Transition, transitionAt, states, parentOf, basic, sequential, parallel, home}
@@ -34,9 +34,10 @@ use Rattle.chart.proofs.Rules.{Passed, kinds-left}
 use Rattle.chart.proofs.Ranges.{Ranges, kinds-of}
 use Rattle.chart.proofs.After.{Fires, after-clocks, after-cases, after-entered}
 use Rattle.chart.proofs.Step.{Together, together-fires, together-tree, transition-mem}
-use Rattle.flattener.specs.Flatten.{Pair, Place, idle, child, pre, post, pairs, entersBy, transitions, hasExit, hasEntry, places, own, carriedFrom, joined, joinAll, preBounds, arrival, arrivalBounds, boundsOf, departure}
+use Rattle.flattener.specs.Flatten.{Pair, Place, idle, child, pre, post, hasExit, hasEntry, places, own, carriedFrom, joined, joinAll, preBounds, arrival, arrivalBounds, boundsOf, departure}
 use Rattle.flattener.specs.Picture.{pictured}
 use Rattle.flattener.proofs.Automata.{sequentials-at, sequentials-by}
+use Rattle.flattener.proofs.Numbers.{Stands, places-at}
 
 -- rows: the bounds of states and places have a bound for each of eight clocks
 
@@ -100,20 +101,15 @@ module _ (c : Chart) (ranges : Ranges c) where
       go false = joined-row _ h
 
   -- of every place of an automaton
-  pub places-row : (q : ℕ) (p : Place) → Mem p (places c q) → IsRow (boundsOf c p)
-  unfolding places boundsOf transitions
-  places-row q p m =
-      ⊎-elim (λ e. at-place e free-row)
-      (λ m. ⊎-elim (λ k. let r = map-at child _ k in at-place (r .2) (joined-row (r .0) (children-at c q (r .1) .known)))
-      (λ m. ⊎-elim (λ k. let r = map-at pre entries k in at-place (r .2) (pre-row (r .0)))
-      (λ k. let r = map-at post _ k in at-place (r .2) (arrival-row (r .0) (ranges .of-transition _ (transition-mem c (r .0) (below-at _ (keep-at _ _ (r .1) .0))) .destination-known)))
-      (append-cases (map pre entries) m)) (append-cases (map child (children c q)) m)) (cases-cons m)
-    where
-      at-place : {p r : Place} → p ≡ r → IsRow (boundsOf c r) → IsRow (boundsOf c p)
-      at-place e k = ap (λ (x : Place). length (boundsOf c x)) e ∙ k
+  place-row : (p : Place) → Stands c p → IsRow (boundsOf c p)
+  unfolding boundsOf
+  place-row (idle q) k = free-row
+  place-row (child s) k = joined-row s (k .known)
+  place-row (pre p) k = pre-row p
+  place-row (post t) k = arrival-row t (ranges .of-transition _ (transition-mem c t (k .0)) .destination-known)
 
-      entries : List Pair
-      entries = pairs (entersBy c) (c .entries) (children c q)
+  pub places-row : (q : ℕ) (p : Place) → Mem p (places c q) → IsRow (boundsOf c p)
+  places-row q p m = place-row p (places-at c q m .1)
 
 -- what the children of a state carry of the bounds above them
 unfoldable pub carriedBy : Chart → ℕ → List ℕ
