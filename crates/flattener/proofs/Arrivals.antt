@@ -11,7 +11,7 @@ use lib.ListN.{length}
 use Rattle.expr.proofs.Lists.{all-at}
 use Rattle.chart.specs.Chart.{Chart, transitionAt, home}
 use Rattle.chart.specs.Tree.{entered}
-use Rattle.chart.proofs.Tree.{Child}
+use Rattle.chart.proofs.Tree.{Child, own-child}
 use Rattle.chart.proofs.Entered.{entered-marked}
 use Rattle.chart.proofs.Rules.{Passed}
 use Rattle.chart.proofs.Ranges.{Ranges}
@@ -68,7 +68,7 @@ module _ (c : Chart) (passed : Passed c) (ranges : Ranges c) where
   pre-place t h e =
       let k = ends t h .to in
       record {
-        is-place = record { region = subst (Region c) (sym (k .parent-is)) (ends t h .region); stands = (record { known = k .known; below-root = k .below-root; parent-is = refl }, entry-lt t h e, enters-by c t h) };
+        is-place = record { region = subst (Region c) (sym (k .parent-is)) (ends t h .region); stands = (own-child c (k .known) (k .below-root), entry-lt t h e, enters-by c t h) };
         home-is = k .parent-is;
       }
 

@@ -8,14 +8,15 @@ use Prim.Native.Nat.{ℕ, _+_, _≤_, _<_}
 use native.Mathlib.Omega.{arith}
 use borrow.Author.Tests.{eqb-true, eq-eqb}
 use lib.ListN.{length}
-use Rattle.expr.specs.Lists.{position}
-use Rattle.expr.proofs.Bools.{parts, both}
-use Rattle.expr.proofs.Lists.{any-below, below-any, Once, once-below, index-lt, index-injective}
+use Rattle.expr.specs.Lists.{has, position}
+use Rattle.expr.proofs.Bools.{parts, and-l, and-r, both}
+use Rattle.expr.proofs.Lists.{keep-at, keep-by, any-below, below-any, Once, once-below, index-lt, index-injective}
 use Rattle.expr.proofs.Pairwise.{Pairwise, pairwise-by, index-ascends}
-use Rattle.chart.specs.Chart.{Chart, transitionAt, states}
+use Rattle.chart.specs.Chart.{Chart, stateAt, transitionAt, states, parentOf}
+use Rattle.chart.specs.Tree.{under, entered}
 use Rattle.chart.proofs.Tree.{size, states-at, states-by}
-use Rattle.flattener.specs.Flatten.{Pair, samePair, transitions, entersBy, leavesBy, enterPairs, exitPairs, enterChannel, exitChannel, flatten}
-use Rattle.flattener.proofs.Numbers.{same-pair-at, same-pair-by, pairs-at, pairs-by, pairs-once}
+use Rattle.flattener.specs.Flatten.{Pair, pre, samePair, transitions, entersBy, leavesBy, enterPairs, exitPairs, enterChannel, exitChannel, marksBelow, heardExits, heardEntries, flatten}
+use Rattle.flattener.proofs.Numbers.{IsPlace, same-pair-at, same-pair-by, pairs-at, pairs-by, pairs-once}
 
 -- the transition that uses a pair
 pub enters-at : (c : Chart) (d e : ℕ) → entersBy c d e ≡ true → (t : ℕ) × (t < length (c .transitions)) × (transitionAt c t .destination ≡ d) × (transitionAt c t .entry ≡ e)
@@ -110,3 +111,24 @@ module _ (c : Chart) where
   unfolding exitChannel
   exit-channels-ascend = pairwise-by (λ p r. position (samePair p) (exitPairs c) < position (samePair r) (exitPairs c)) (λ p r. exitChannel c p < exitChannel c r) (exitPairs c) (λ p r m n l. omega arith)
       (index-ascends samePair same-pair-at same-pair-by (exitPairs c) exit-pairs-once)
+
+  -- the pairs that a child hears
+  pub heard-entries-at : (s : ℕ) {p : Pair} → Mem p (heardEntries c s) → Mem p (enterPairs c) × (entered c (p .state) (p .mark) (parentOf c s) ≡ true) × (has (stateAt c s .entries) (p .mark) ≡ true)
+  unfolding heardEntries
+  heard-entries-at s {p} m = let k = keep-at _ (enterPairs c) m in let h = k .1 in (k .0, and-l (entered c (p .state) (p .mark) (parentOf c s)) _ h, and-r (entered c (p .state) (p .mark) (parentOf c s)) _ h)
+
+  pub heard-entries-by : (s : ℕ) {p : Pair} → Mem p (enterPairs c) → entered c (p .state) (p .mark) (parentOf c s) ≡ true → has (stateAt c s .entries) (p .mark) ≡ true → Mem p (heardEntries c s)
+  unfolding heardEntries
+  heard-entries-by s m e h = keep-by _ (enterPairs c) m (both e h)
+
+  pub heard-exits-at : (s : ℕ) {p : Pair} → Mem p (heardExits c s) → Mem p (exitPairs c) × (under c (p .state) (parentOf c s) ≡ true) × (marksBelow c (p .mark) s ≡ true)
+  unfolding heardExits
+  heard-exits-at s {p} m = let k = keep-at _ (exitPairs c) m in let h = k .1 in (k .0, and-l (under c (p .state) (parentOf c s)) _ h, and-r (under c (p .state) (parentOf c s)) _ h)
+
+  pub heard-exits-by : (s : ℕ) {p : Pair} → Mem p (exitPairs c) → under c (p .state) (parentOf c s) ≡ true → marksBelow c (p .mark) s ≡ true → Mem p (heardExits c s)
+  unfolding heardExits
+  heard-exits-by s m u h = keep-by _ (exitPairs c) m (both u h)
+
+  -- a pre is of an enter pair
+  pub pre-enters : {p : Pair} → IsPlace c (pre p) → Mem p (enterPairs c)
+  pre-enters {p} k = let z = k .stands in enter-pairs-by p (z .0 .known) (z .1) (z .2)

@@ -18,7 +18,7 @@ use Rattle.expr.proofs.Lists.{keep-at, keep-by, map-at, map-by, concat-at, conc
 use Rattle.expr.proofs.Pairwise.{Pairwise, pairwise-in, pairwise-between, pairwise-order, ascending-pairwise, map-once, append-once, concat-once, index-ascends}
 use Rattle.chart.specs.Chart.{Chart, parentOf, home}
 use Rattle.chart.specs.Tree.{children, sequentials}
-use Rattle.chart.proofs.Tree.{Child, children-at, children-by, children-once}
+use Rattle.chart.proofs.Tree.{Child, children-at, children-by, children-once, own-child}
 use Rattle.network.specs.Network.{Location, locationAt}
 use Rattle.flattener.specs.Flatten.{Pair, Place, idle, child, pre, post, samePair, samePlace, pairs, entersBy, hasExit, transitions, places, allPlaces, number, automaton, placeHome, urgentPlace, boundsOf, locationOf, flatten}
 use Rattle.flattener.proofs.Automata.{Region, sequentials-at, sequentials-by, sequentials-once, sequentials-ascending, regionAt, region-at, automaton-of-region, automaton-injective}
@@ -113,7 +113,7 @@ idle-place c g = record { is-place = record { region = g; stands = tt }; home-is
 pub child-place : (c : Chart) {q s : ℕ} → Region c q → Child c q s → PlaceOf c q (child s)
 unfolding placeHome
 child-place c g k = record {
-  is-place = record { region = subst (Region c) (sym (k .parent-is)) g; stands = record { known = k .known; below-root = k .below-root; parent-is = refl } };
+  is-place = record { region = subst (Region c) (sym (k .parent-is)) g; stands = own-child c (k .known) (k .below-root) };
   home-is = k .parent-is;
 }
 
@@ -127,10 +127,11 @@ sort (post t) = 3
 sort-of : {A : Type 0} (f : A → Place) (k : ℕ) → ((a : A) → sort (f a) ≡ k) → (xs : List A) {p : Place} → Mem p (map f xs) → sort p ≡ k
 sort-of f k g xs m = let r = map-at f xs m in ap sort (r .2) ∙ g (r .0)
 
-module _ (c : Chart) where
-  own : {q s : ℕ} → Child c q s → Child c (parentOf c s) s
-  own k = record { known = k .known; below-root = k .below-root; parent-is = refl }
+other-sort : {A : Type 0} (p : Place) (f : A → Place) (k : ℕ) → ((a : A) → sort (f a) ≡ k) → (xs : List A) → sort p ≢ k → any (samePlace p) (map f xs) ≡ false
+other-sort p f k g xs d = none-any (samePlace p) (map f xs) (λ x m. fails (samePlace p x) (λ e. d (ap sort (same-place-at p x e) ∙ sort-of f k g xs m)))
 
+module _ (c : Chart) where
+  -- a child of its home
   under-home : {q s : ℕ} → parentOf c s ≡ q → Child c (parentOf c s) s → Child c q s
   under-home e k = record { known = k .known; below-root = k .below-root; parent-is = e }
 
@@ -143,14 +144,14 @@ module _ (c : Chart) where
       is r e h = subst (λ (x : Place). (placeHome c x ≡ q) × Stands c x) (sym e) h
 
       of-child : Mem p (map child (children c q)) → (placeHome c p ≡ q) × Stands c p
-      of-child n = let r = map-at child (children c q) n in let k = children-at c q (r .1) in is (child (r .0)) (r .2) (k .parent-is, own k)
+      of-child n = let r = map-at child (children c q) n in let k = children-at c q (r .1) in is (child (r .0)) (r .2) (k .parent-is, own-child c (k .known) (k .below-root))
 
       of-pre : Mem p (map pre (prePairs c q)) → (placeHome c p ≡ q) × Stands c p
       of-pre n =
           let r = map-at pre (prePairs c q) n in
           let j = pairs-at (entersBy c) (c .entries) (children c q) (r .1) in
           let k = children-at c q (j .0) in
-          is (pre (r .0)) (r .2) (k .parent-is, (own k, j .1, j .2))
+          is (pre (r .0)) (r .2) (k .parent-is, (own-child c (k .known) (k .below-root), j .1, j .2))
 
       of-post : Mem p (map post (postTransitions c q)) → (placeHome c p ≡ q) × Stands c p
       of-post n =
@@ -294,23 +295,17 @@ module _ (c : Chart) where
   unfolding places position samePlace
   child-position q s k = ap suc (position-left (samePlace (child s)) (map child (children c q)) _ (any-by _ (map-by child (children-by c k)) (same-place-by (child s))) ∙ position-map (samePlace (child s)) child (children c q))
 
-  no-child : (p : Place) (ss : List ℕ) → sort p ≢ 1 → any (samePlace p) (map child ss) ≡ false
-  no-child p ss d = none-any (samePlace p) (map child ss) (λ x m. fails (samePlace p x) (λ e. d (ap sort (same-place-at p x e) ∙ sort-of child 1 (λ a. refl) ss m)))
-
-  no-pre : (p : Place) (ps : List Pair) → sort p ≢ 2 → any (samePlace p) (map pre ps) ≡ false
-  no-pre p ps d = none-any (samePlace p) (map pre ps) (λ x m. fails (samePlace p x) (λ e. d (ap sort (same-place-at p x e) ∙ sort-of pre 2 (λ a. refl) ps m)))
-
   pre-position : (q : ℕ) (p : Pair) → Mem p (prePairs c q) → position (samePlace (pre p)) (places c q) ≡ suc (length (children c q) + position (samePair p) (prePairs c q))
   unfolding places position samePlace
-  pre-position q p m = ap suc (position-right (samePlace (pre p)) (map child (children c q)) _ (no-child (pre p) (children c q) (omega arith))
+  pre-position q p m = ap suc (position-right (samePlace (pre p)) (map child (children c q)) _ (other-sort (pre p) child 1 (λ a. refl) (children c q) (omega arith))
       ∙ ap₂ (λ (x y : ℕ). x + y) (length-map (children c q) child)
       (position-left (samePlace (pre p)) (map pre (prePairs c q)) _ (any-by _ (map-by pre m) (same-place-by (pre p))) ∙ position-map (samePlace (pre p)) pre (prePairs c q)))
 
   post-position : (q t : ℕ) → position (samePlace (post t)) (places c q) ≡ suc (length (children c q) + (length (prePairs c q) + position (eqb t) (postTransitions c q)))
   unfolding places position samePlace
-  post-position q t = ap suc (position-right (samePlace (post t)) (map child (children c q)) _ (no-child (post t) (children c q) (omega arith))
+  post-position q t = ap suc (position-right (samePlace (post t)) (map child (children c q)) _ (other-sort (post t) child 1 (λ a. refl) (children c q) (omega arith))
       ∙ ap₂ (λ (x y : ℕ). x + y) (length-map (children c q) child)
-      (position-right (samePlace (post t)) (map pre (prePairs c q)) _ (no-pre (post t) (prePairs c q) (omega arith))
+      (position-right (samePlace (post t)) (map pre (prePairs c q)) _ (other-sort (post t) pre 2 (λ a. refl) (prePairs c q) (omega arith))
       ∙ ap₂ (λ (x y : ℕ). x + y) (length-map (prePairs c q) pre) (position-map (samePlace (post t)) post (postTransitions c q))))
 
   pub idle-number : {q : ℕ} → Region c q → number c (idle q) ≡ length (concat (places c) (keep (λ r. ltb r q) (sequentials c)))
