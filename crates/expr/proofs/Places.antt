@@ -8,12 +8,14 @@ use borrow.Author.Tests.{le-leb, lt-leb, eq-eqb, ne-eqb, ltb-true, ltb-false}
 use lib.Dec.{ltb}
 use lib.ListN.{length, getD, take, drop, length-take, length-drop}
 use lib.Seq.{getD-drop, drop-drop, take-all}
-use Rattle.expr.specs.Places.{onward, faultOf, byteOf, byteEnd, wordOf, wordEnd, FrameFits, reached, reachedEnd, byteReached, wordReached, wholly}
+use Rattle.expr.specs.Places.{onward, faultOf, byteOf, byteEnd, wordOf, wordEnd, FrameFits, reached, reachedEnd, byteReached, wordReached, wholly, testOf, testReached}
 use Rattle.expr.specs.declared.field.Fault.the-variants as Fl
 use Rattle.expr.specs.declared.field.ByteRead.{ByteRead}
 use Rattle.expr.specs.declared.field.ByteRead.the-variants as Bt
 use Rattle.expr.specs.declared.field.WordRead.{WordRead}
 use Rattle.expr.specs.declared.field.WordRead.the-variants as Wd
+use Rattle.expr.specs.declared.field.TestRead.{TestRead}
+use Rattle.expr.specs.declared.field.TestRead.the-variants as Te
 use Rattle.expr.specs.declared.field.Frame.{Frame}
 use Rattle.expr.specs.declared.field.Frame.the-variants as Fr
 use Rattle.expr.specs.declared.field.Reached.{Reached}
@@ -144,6 +146,11 @@ word-skipped s (Wd.Fault f) e h = rw (e, ← h)
 pub word-skipped-end : (w : WordRead) {q : Reached} (l : ℕ) → q ≡ wordReached w → wordEnd w ≤ l → reachedEnd q ≤ l
 word-skipped-end (Wd.Value x n) l e h = rw e h
 word-skipped-end (Wd.Fault f) l e h = rw e h
+
+pub test-skipped : (s : List ℕ) (t : TestRead) {q : Reached} {d : Read Bool} → q ≡ testReached t → testOf s t ≡ d → reached s tt q ≡ skipped d
+unfolding skipped mapped
+test-skipped s (Te.Value b n) e h = rw (e, ← h)
+test-skipped s (Te.Fault f) e h = rw (e, ← h)
 
 pub frame-fits : (s : List ℕ) {q : Frame} {from to : ℕ} → FrameFits s q → q ≡ Fr.Part from to → (from ≤ to) × (to ≤ length s)
 frame-fits s h e = subst (FrameFits s) e h

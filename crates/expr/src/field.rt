@@ -1,10 +1,10 @@
 // Fields of a record, read from left to right: one, two and four bytes, and the frame of a record.
 ghost use mathlib.Core.Path.{_≡_};
 ghost use Prim.Native.Nat.{_+_, _*_, _-_, _≤_, _^_};
-ghost use lib.ListN.{length};
+ghost use lib.ListN.{length, getD};
 ghost use mathlib.Core.Bool.{_||_};
 ghost use lib.Dec.{ltb, eqb};
-ghost use Rattle.expr.specs.Reading.{byte, byte2, byte4, such, framed, mapped};
+ghost use Rattle.expr.specs.Reading.{got, byte, byte2, byte4, such, framed, mapped};
 ghost use Rattle.expr.specs.Integer.{signed};
 ghost use Rattle.expr.specs.Places.{onward, byteOf, byteEnd, shortOf, shortEnd, wordOf, wordEnd, valueOf, valueEnd, frameOf, FrameFits, wholly, byteFault, shortFault, wordFault, valueFault, testFault, frameFault, reachedFault};
 use crate::signed::signed;
@@ -125,6 +125,13 @@ pub fn left(s: &[u8], at: usize) -> usize
     if at < s.len() { s.len() - at } else { 0 }
 }
 
+// The byte at a place, 0 past the end.
+pub fn byte_at(s: &[u8], at: usize) -> u8
+    ensures { λ r. ⌜ r ≡ getD (now (s .entry)) at 0 ⌝ }
+{
+    if at < s.len() { s[at] } else { 0 }
+}
+
 pub fn read_byte(s: &[u8], at: usize) -> ByteRead
     ensures means { λ r. ⌜ byteOf (now (s .entry)) r ≡ byte (onward (now (s .entry)) at) ⌝ }
     ensures within { λ r. ⌜ byteEnd r ≤ length (now (s .entry)) ⌝ }
@@ -215,6 +222,17 @@ pub fn read_short(s: &[u8], at: usize) -> ShortRead
     }
 }
 
+// The two bytes at a place that has them, else 0.
+pub fn short_at(s: &[u8], at: usize) -> u16
+    ensures { λ r. ⌜ ((x : _) (t : _) → byte2 (onward (now (s .entry)) at) ≡ got x t → r ≡ x) ⌝ }
+{
+    let h = read_short(s, at);
+    let ShortRead::Value(x, _) = h else {
+        return 0;
+    };
+    x
+}
+
 // A set of marks in two bytes, of which only the first `width` are in use.
 pub fn read_long_marks(s: &[u8], at: usize, width: u8) -> ShortRead
     ensures { λ r. ⌜ shortOf (now (s .entry)) r ≡ such byte2 (λ x. ltb x (2 ^ width)) (onward (now (s .entry)) at) ⌝ }
@@ -246,6 +264,17 @@ pub fn read_word(s: &[u8], at: usize) -> WordRead
     } else {
         WordRead::Value(word_of(s[at], s[at + 1], s[at + 2], s[at + 3]), at + 4)
     }
+}
+
+// The four bytes at a place that has them, else 0.
+pub fn word_at(s: &[u8], at: usize) -> u32
+    ensures { λ r. ⌜ ((x : _) (t : _) → byte4 (onward (now (s .entry)) at) ≡ got x t → r ≡ x) ⌝ }
+{
+    let w = read_word(s, at);
+    let WordRead::Value(x, _) = w else {
+        return 0;
+    };
+    x
 }
 
 // The signed number whose bits are the four bytes.
