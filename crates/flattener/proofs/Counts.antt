@@ -16,7 +16,7 @@ use Rattle.chart.proofs.Ranges.{Ranges, kinds-of}
 use Rattle.flattener.specs.Flatten.{Pair, Place, idle, child, pre, post, enterPairs, exitPairs, allPlaces, placeHome}
 use Rattle.flattener.proofs.Automata.{Region, sequentials-by}
 use Rattle.flattener.proofs.Numbers.{IsPlace, idle-place, all-places-at, all-places-by, all-places-once}
-use Rattle.flattener.proofs.Channels.{enters-at, leaves-at, enter-pairs-at, enter-pairs-by, enter-pairs-once, exit-pairs-at, exit-pairs-once}
+use Rattle.flattener.proofs.Channels.{enters-at, leaves-at, enter-pairs-at, enter-pairs-once, exit-pairs-at, exit-pairs-once, pre-enters}
 
 -- a transition names a pair: by what it has of a state and of a mark
 abbrev Names : (ℕ → ℕ) → (ℕ → ℕ) → Pair → ℕ → Type 0
@@ -55,7 +55,7 @@ candidate : (c : Chart) (p : Place) → IsPlace c p → Mem p (candidates c)
 unfolding candidates placeHome
 candidate c (idle q) k = append-left _ (map-by idle (sequentials-by c (k .region)))
 candidate c (child s) k = let j = k .stands in append-right (map idle (sequentials c)) (append-left _ (map-by child (range-by 1 (size c - 1) s (omega (arith, j .below-root)) (omega (arith, j .known)))))
-candidate c (pre p) k = let j = k .stands in append-right (map idle (sequentials c)) (append-right (map child (range 1 (size c - 1))) (append-left _ (map-by pre (enter-pairs-by c p (j .0 .known) (j .1) (j .2)))))
+candidate c (pre p) k = append-right (map idle (sequentials c)) (append-right (map child (range 1 (size c - 1))) (append-left _ (map-by pre (pre-enters c k))))
 candidate c (post t) k = append-right (map idle (sequentials c)) (append-right (map child (range 1 (size c - 1))) (append-right (map pre (enterPairs c)) (map-by post (below-by (k .stands .0)))))
 
 candidates-length : (c : Chart) → length (candidates c) ≡ length (sequentials c) + ((size c - 1) + (length (enterPairs c) + length (c .transitions)))

@@ -16,7 +16,7 @@ use Rattle.expr.specs.Reading.{yield, many}
 use Rattle.expr.specs.Guard.{Limits, limits}
 use Rattle.expr.specs.Label.{Label, body, channelFits}
 use Rattle.expr.proofs.Bools.{clash, fails, and-l, and-r}
-use Rattle.expr.proofs.Lists.{all-at, map-at, keep-at}
+use Rattle.expr.proofs.Lists.{all-at, map-at}
 use Rattle.expr.proofs.Bits.{has-bits, has-zero, bits-lt, has-low-lt, subset-by}
 use Rattle.expr.proofs.Answer.{unless-at, unless-by, then-at}
 use Rattle.expr.proofs.Places.{bind-got}
@@ -30,13 +30,13 @@ use Rattle.chart.proofs.Tree.{size}
 use Rattle.chart.proofs.Rules.{Passed, kinds-left}
 use Rattle.chart.proofs.Ranges.{Ranges, kinds-of, chart-at}
 use Rattle.chart.proofs.Step.{transition-mem}
-use Rattle.flattener.specs.Flatten.{Pair, Place, idle, child, pre, post, samePlace, hasExit, own, boundsOf, atExit, initialPlace, flagAt, writtenBy, valuesBy, placeHome, allPlaces, alternatives, onValues, enterPairs, exitPairs, signalling, edge, ownEdge, departure, heardExits, heardEntries, urgentPlace, locationOf, flatten}
+use Rattle.flattener.specs.Flatten.{Place, idle, child, pre, post, samePlace, hasExit, own, boundsOf, atExit, initialPlace, flagAt, writtenBy, valuesBy, placeHome, allPlaces, alternatives, onValues, signalling, edge, ownEdge, departure, urgentPlace, locationOf, flatten}
 use Rattle.flattener.specs.File.{edgeBytes, out2, networkBytes, flattenOf, fitted}
 use Rattle.flattener.proofs.Automata.{automaton-lt}
 use Rattle.flattener.proofs.Sums.{sorted-at}
 use Rattle.flattener.proofs.Alternatives.{drawn}
 use Rattle.flattener.proofs.Numbers.{IsPlace, idle-place, child-place, all-places-at, number-lt, locations-length}
-use Rattle.flattener.proofs.Channels.{enter-channel-known, exit-channel-known, enter-pairs-by}
+use Rattle.flattener.proofs.Channels.{enter-channel-known, exit-channel-known, heard-entries-at, heard-exits-at, pre-enters}
 use Rattle.flattener.proofs.Arrivals.{ends, exit-lt, exit-pair, arrival-place, departure-place, source-place}
 use Rattle.flattener.proofs.Edges.{Tests, Leaves, edges-at}
 use Rattle.flattener.proofs.Sound.{sound-flatten}
@@ -105,7 +105,7 @@ module _ (c : Chart) (passed : Passed c) (ranges : Ranges c) where
   abbrev FitsLabel : Label → Type 0
   FitsLabel l = LabelRange (limits (c .clocks) (c .variables)) (flatten c .rendezvous + flatten c .broadcasts) l
 
-  -- edges
+  -- an edge between two places
   edge-fits : {p r : Place} → IsPlace c p → IsPlace c r → (transition exit set : ℕ) (l : Label) → ((transition < 64) ⊎ (transition ≡ 255)) → ((exit < 8) ⊎ (exit ≡ 255)) → (exit ≡ 255 → set ≡ 0)
       → set < 2 ^ length (sequentials c) → FitsLabel l → length (l .bytes) ≤ 65516 → Fits (edge c p r transition exit set l)
   unfolding edge edgeBytes out2 valuesBy writtenBy
@@ -125,6 +125,7 @@ module _ (c : Chart) (passed : Passed c) (ranges : Ranges c) where
     record-short = omega arith;
   }
 
+  -- .. that only signals
   own-edge-fits : {p r : Place} → IsPlace c p → IsPlace c r → (signal channel : ℕ) → 1 ≤ signal → signal < 3 → channel < flatten c .rendezvous + flatten c .broadcasts → Fits (ownEdge c p r (signalling signal channel))
   unfolding ownEdge signalling
   own-edge-fits j k signal channel some few h =
@@ -136,17 +137,18 @@ module _ (c : Chart) (passed : Passed c) (ranges : Ranges c) where
   label-fits t h = label-range-more _ (c .rendezvous + c .broadcasts) _ _ (omega arith) (ranges .of-transition _ (transition-mem c t h) .label-known)
 
   -- rule 11: an exit has a composite source
-  exit-composite : (t : ℕ) → t < length (c .transitions) → hasExit c t ≡ true → basic c (transitionAt c t .source) ≡ false
+  pub exit-composite : (t : ℕ) → t < length (c .transitions) → hasExit c t ≡ true → basic c (transitionAt c t .source) ≡ false
   unfolding hasExit exits
   exit-composite t h e = fails _ (λ b. clash (ap (λ (x : Bool). Bool·beq x (eqb (transitionAt c t .exit) 255)) (sym b) ∙ all-at (exits c) _ (passed .leave) (transition-mem c t h)) (ap (Bool·beq true) (not-true (eqb (transitionAt c t .exit) 255) e)))
 
   -- an alternative is a set of automata
-  alternative-lt : (t : ℕ) → t < length (c .transitions) → hasExit c t ≡ true → {x : ℕ} → Mem x (alternatives c (transitionAt c t .source) (transitionAt c t .exit)) → x < 2 ^ length (sequentials c)
+  pub alternative-lt : (t : ℕ) → t < length (c .transitions) → hasExit c t ≡ true → {x : ℕ} → Mem x (alternatives c (transitionAt c t .source) (transitionAt c t .exit)) → x < 2 ^ length (sequentials c)
   unfolding alternatives
   alternative-lt t h e {x} m =
       let d = drawn c (passed .tree) (kinds-left c (kinds-of ranges)) (transitionAt c t .exit) (passed .no-basic) (size c) (transitionAt c t .source) x (ends c passed ranges t h .from .known) (exit-composite t h e) (sorted-at _ m) in
       has-low-lt (length (sequentials c)) x (λ a k. let w = d .within a k in subst (λ (i : ℕ). i < length (sequentials c)) (w .2) (automaton-lt c (w .1)))
 
+  -- the edges that bear a transition
   bearing-fits : (t : ℕ) → t < length (c .transitions) → (exit set : ℕ) → Tests c t exit set → Fits (edge c (child (transitionAt c t .source)) (departure c t) t exit set (transitionAt c t .label))
   bearing-fits t h exit set k = ⊎-elim
       (λ j. let l = exit-lt c passed ranges t h (j .0) in fits (inl (omega (arith, j .1, ranges .exits-few))) (λ e. absurd (omega (arith, j .1, ranges .exits-few))) (alternative-lt t h (j .0) (j .2)))
@@ -157,22 +159,15 @@ module _ (c : Chart) (passed : Passed c) (ranges : Ranges c) where
       fits x n s = edge-fits (source-place c passed ranges t h .is-place) (departure-place c passed ranges t h .is-place) t exit set (transitionAt c t .label) (inl (omega (arith, ranges .transitions-few))) x n s (label-fits t h)
           (omega (arith, ranges .of-transition _ (transition-mem c t h) .label-short))
 
-  heard-entry : (s : ℕ) {p : Pair} → Mem p (heardEntries c s) → Mem p (enterPairs c)
-  unfolding heardEntries
-  heard-entry s m = keep-at _ (enterPairs c) m .0
-
-  heard-exit : (s : ℕ) {p : Pair} → Mem p (heardExits c s) → Mem p (exitPairs c)
-  unfolding heardExits
-  heard-exit s m = keep-at _ (exitPairs c) m .0
-
+  -- whatever leaves a place
   leaving-fits : (p : Place) (e : Edge) → IsPlace c p → Leaves c p e → Fits e
   unfolding placeHome
-  leaving-fits (idle q) e k l = subst Fits (sym (l .edge-is)) (own-edge-fits k (child-place c (k .region) (l .is-child) .is-place) 2 _ (omega arith) (omega arith) (enter-channel-known c (heard-entry (l .to) (l .heard))))
+  leaving-fits (idle q) e k l = subst Fits (sym (l .edge-is)) (own-edge-fits k (child-place c (k .region) (l .is-child) .is-place) 2 _ (omega arith) (omega arith) (enter-channel-known c (heard-entries-at c (l .to) (l .heard) .0)))
   leaving-fits (child s) e k l = ⊎-elim
-      (λ j. subst Fits (sym (j .edge-is)) (own-edge-fits k (idle-place c (k .region) .is-place) 2 _ (omega arith) (omega arith) (exit-channel-known c (heard-exit s (j .heard)))))
+      (λ j. subst Fits (sym (j .edge-is)) (own-edge-fits k (idle-place c (k .region) .is-place) 2 _ (omega arith) (omega arith) (exit-channel-known c (heard-exits-at c s (j .heard) .0))))
       (λ j. subst Fits (sym (j .bears .edge-is)) (bearing-fits (j .transition) (j .known) (j .bears .exit) (j .bears .set) (j .bears .tests)))
       l
-  leaving-fits (pre p) e k l = subst Fits (sym l) (own-edge-fits k (child-place c (k .region) (k .stands .0) .is-place) 1 _ (omega arith) (omega arith) (enter-channel-known c (enter-pairs-by c p (k .stands .0 .known) (k .stands .1) (k .stands .2))))
+  leaving-fits (pre p) e k l = subst Fits (sym l) (own-edge-fits k (child-place c (k .region) (k .stands .0) .is-place) 1 _ (omega arith) (omega arith) (enter-channel-known c (pre-enters c k)))
   leaving-fits (post t) e k l = subst Fits (sym l) (own-edge-fits k (arrival-place c passed ranges t (k .stands .0) .is-place) 1 _ (omega arith) (omega arith) (exit-channel-known c (exit-pair c passed ranges t (k .stands .0) (k .stands .1))))
 
   -- the network
@@ -201,7 +196,15 @@ unfolding networkOf answer._>>=_
 network-of-flattened file {c} h k = let r = chart-at file h in rw (read-flattened file h k) (unless-by 25 (done (flatten c)) (sound-flatten c (r .0) (r .1)))
 
 -- what flattening answers is the file of the chart's network
-pub flattened-at : (file : List ℕ) (room : ℕ) {s : List ℕ} → flattenOf file room ≡ done s → (c : Chart) × (chartOf file ≡ done c) × (length (flatten c .edges) ≤ 1024) × (length s ≤ room) × (s ≡ networkBytes (flatten c)) × (networkOf s ≡ done (flatten c))
+pub record Flattened (file : List ℕ) (room : ℕ) (s : List ℕ) : Type 0 where
+  pub chart : Chart
+  pub chart-is : chartOf file ≡ done chart
+  pub edges-few : length (flatten chart .edges) ≤ 1024
+  pub room-enough : length s ≤ room
+  pub file-is : s ≡ networkBytes (flatten chart)
+  pub network-is : networkOf s ≡ done (flatten chart)
+
+pub flattened-at : (file : List ℕ) (room : ℕ) {s : List ℕ} → flattenOf file room ≡ done s → Flattened file room s
 unfolding flattenOf fitted
 flattened-at file room {s} h =
     let a = then-at (chartOf file) _ h in
@@ -209,7 +212,14 @@ flattened-at file room {s} h =
     let f = unless-at 16 _ _ (n .1) in
     let few = leb-true (length (flatten (a .0) .edges)) 1024 (n .0) in
     let e : networkBytes (flatten (a .0)) ≡ s = same (f .1) in
-    (a .0, a .1, few, subst (λ (x : List ℕ). length x ≤ room) e (leb-true _ room (f .0)), sym e, subst (λ (x : List ℕ). networkOf x ≡ done (flatten (a .0))) e (network-of-flattened file (a .1) few))
+    record {
+      chart = a .0;
+      chart-is = a .1;
+      edges-few = few;
+      room-enough = subst (λ (x : List ℕ). length x ≤ room) e (leb-true _ room (f .0));
+      file-is = sym e;
+      network-is = ap networkOf (sym e) ∙ network-of-flattened file (a .1) few;
+    }
   where
     same : {x y : List ℕ} → done x ≡ done y → x ≡ y
     same e = cc
