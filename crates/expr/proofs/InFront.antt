@@ -1,14 +1,14 @@
 -- Readers that take some bytes in front: they leave the rest, and what they read does not depend on it.
 use mathlib.Core.Path.{_≡_, refl, sym, ap, _∙_}
 use mathlib.Core.Bool.{Bool, true, false, cond}
-use mathlib.Core.List.{List, _++_}
-use Prim.Native.Nat.{ℕ, _+_, _-_, _≤_}
+use mathlib.Core.List.{List, [], _∷_, _++_}
+use Prim.Native.Nat.{ℕ, zero, suc, _+_, _-_, _≤_}
 use native.Mathlib.Omega.{arith}
 use borrow.Author.Tests.{le-leb, leb-true}
 use lib.Dec.{leb}
 use lib.ListN.{length, drop, length-append, List·getD-append}
 use lib.Seq.{drop-append-le}
-use Rattle.expr.specs.Reading.{Fault, got, fault, length-fault, Reader, yield, _>>=_, field, byte, byte4, such, mapped}
+use Rattle.expr.specs.Reading.{Fault, got, fault, length-fault, Reader, yield, _>>=_, field, byte, byte4, such, many, mapped}
 use Rattle.expr.specs.Places.{onward}
 use Rattle.expr.proofs.Reading.{no-answer, bind-at, such-at, mapped-got, mapped-at}
 use Rattle.expr.proofs.Places.{onward-all, onward-onward, length-onward, bind-got, such-got}
@@ -53,7 +53,7 @@ mapped-front f r p = record {
 
 -- a field whose value its own bytes decide
 module _ (n : ℕ) (value : List ℕ → ℕ) where
-  field-at : (s : List ℕ) {a : ℕ} {t : List ℕ} → field n value s ≡ got a t → (n ≤ length s) × (a ≡ value s) × (t ≡ drop n s)
+  pub field-at : (s : List ℕ) {a : ℕ} {t : List ℕ} → field n value s ≡ got a t → (n ≤ length s) × (a ≡ value s) × (t ≡ drop n s)
   unfolding field
   field-at s {a} {t} e = go (leb n (length s)) refl e
     where
@@ -78,3 +78,8 @@ byte-front = field-front 1 _ (λ s u h. List·getD-append s u 0 0 h)
 pub byte4-front : InFront byte4
 unfolding byte4
 byte4-front = field-front 4 _ (λ s u h. rw (List·getD-append s u 0 0 (omega arith), List·getD-append s u 0 1 (omega arith), List·getD-append s u 0 2 (omega arith), List·getD-append s u 0 3 (omega arith)))
+
+pub many-front : {A : Type 0} (n : ℕ) (r : Reader A) → InFront r → InFront (many n r)
+unfolding many
+many-front zero r p = yield-front []
+many-front (suc n) r p = bind-front r _ p (λ x. bind-front (many n r) _ (many-front n r p) (λ xs. yield-front (x ∷ xs)))

@@ -11,7 +11,7 @@ use lib.ListN.{length, take, drop, length-take, length-drop}
 use Rattle.expr.specs.Reading.{Fault, got, fault, Reader, field, byte, byte2, such, many, end, framed, whole, recorded}
 use Rattle.expr.specs.Places.{onward}
 use Rattle.expr.proofs.Reading.{no-answer, next-at, bind-at, yield-at, yield-rest, such-at}
-use Rattle.expr.proofs.Suffixes.{field-at}
+use Rattle.expr.proofs.InFront.{field-at}
 
 -- a reader that takes n bytes in front, and one that leaves at most what it is given
 abbrev pub Takes : {A : Type 0} → ℕ → Reader A → Type 0
@@ -22,7 +22,7 @@ Shrinks {A} r = (s : List ℕ) (a : A) (t : List ℕ) → r s ≡ got a t → le
 
 field-takes : (n : ℕ) (value : List ℕ → ℕ) → Takes n (field n value)
 unfolding onward
-field-takes n value s x t h = let k = field-at n value s x t h in omega (arith, k .0, ap length (k .2), length-drop n s)
+field-takes n value s x t h = let k = field-at n value s h in omega (arith, k .0, ap length (k .2), length-drop n s)
 
 pub byte-takes : Takes 1 byte
 unfolding byte
