@@ -1,0 +1,24 @@
+//! Hierarchical timed charts, their flat networks, and the machines that run both.
+//!
+//! This is the second implementation, written from the papers alone. It is the yardstick that the
+//! other implementation is compared with, so it is written to be read: plain data, one concept to
+//! a file.
+
+pub mod alternatives;
+pub mod chart;
+pub mod chart_machine;
+pub mod check;
+pub mod expression;
+pub mod flatten;
+pub mod guard;
+pub mod label;
+pub mod layout;
+pub mod limits;
+pub mod moves;
+pub mod network;
+pub mod network_machine;
+pub mod picture;
+pub mod reader;
+pub mod refusal;
+pub mod request;
+pub mod values;
