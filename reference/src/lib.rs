@@ -5,11 +5,15 @@
 //! a file.
 
 pub mod alternatives;
+pub mod binary_form;
+pub mod candidates;
 pub mod chart;
 pub mod chart_machine;
 pub mod check;
+pub mod damage;
 pub mod expression;
 pub mod flatten;
+pub mod generate;
 pub mod guard;
 pub mod label;
 pub mod layout;
@@ -18,7 +22,11 @@ pub mod moves;
 pub mod network;
 pub mod network_machine;
 pub mod picture;
+pub mod random;
 pub mod reader;
 pub mod refusal;
 pub mod request;
+pub mod side_by_side;
+pub mod special;
+pub mod text_form;
 pub mod values;

@@ -21,7 +21,7 @@ impl<'a> Reader<'a> {
     }
 
     /// The next `count` bytes. A field that passes the end is a fault of the length.
-    fn take(&mut self, count: usize) -> Result<&'a [u8], Fault> {
+    pub fn take(&mut self, count: usize) -> Result<&'a [u8], Fault> {
         if count > self.rest.len() {
             return Err(Fault::Length);
         }

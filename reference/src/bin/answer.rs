@@ -5,7 +5,7 @@ use std::io::{self, BufRead, BufWriter, Write};
 fn main() -> io::Result<()> {
     let mut output = BufWriter::new(io::stdout().lock());
     for line in io::stdin().lock().lines() {
-        writeln!(output, "{}", reference::request::answer(&line?))?;
+        writeln!(output, "{}", reference::text_form::answer_line(&line?))?;
     }
     output.flush()
 }
