@@ -223,3 +223,31 @@ fn full_sum(levels: usize) -> Expression {
     }
     Expression::Sum(Box::new(full_sum(levels - 1)), Box::new(full_sum(levels - 1)))
 }
+
+/// Sample S3 with a transition that has every kind of guard, a quotient and a broadcast: a short
+/// file with every kind of field.
+pub fn dense() -> Chart {
+    let chart = sample_3();
+    let mut transitions = chart.transitions;
+    transitions[0].label = Rc::new(Label {
+        signal: Signal::Send(0),
+        resets: 1,
+        guards: vec![
+            Guard::Data {
+                relation: Relation::Less,
+                left: Expression::Variable(0),
+                right: Expression::Constant(5),
+            },
+            Guard::Clock { clock: 0, relation: Relation::AtMost, constant: 9 },
+            Guard::Difference { first: 0, second: 0, relation: Relation::AtMost, constant: 3 },
+        ],
+        assignments: vec![Assignment {
+            variable: 0,
+            expression: Expression::Quotient(Box::new(Expression::Variable(0)), 2),
+        }],
+    });
+    let mut states = chart.states;
+    states[2].bounds.0[0] = 7;
+    let declared = Declared { clocks: 1, variables: 1, rendezvous: 0, broadcast: 1 };
+    Chart::new(declared, 2, 1, states, transitions)
+}
