@@ -169,7 +169,7 @@ pub fn chart_from_seed(seed: u64) -> Chart {
     chart_from_wish(&Wish::from_seed(seed), seed)
 }
 
-/// A chart as wished. It may have fewer states and transitions than wished where none fit.
+/// A chart as wished. It may have fewer transitions than wished where none fit.
 pub fn chart_from_wish(wish: &Wish, seed: u64) -> Chart {
     let mut random = Random::new(seed);
     let declared = Declared {
@@ -233,6 +233,12 @@ fn tree(wish: &Wish, random: &mut Random) -> Vec<State> {
         if kind != Kind::Basic {
             open_children(wish, random, number, kind, size - 1, &mut sequential_left, &mut open);
         }
+    }
+    // What basic states did not use becomes further basic states.
+    let sequential: Vec<usize> =
+        (0..states.len()).filter(|&number| states[number].kind == Kind::Sequential).collect();
+    while states.len() < wish.states {
+        states.push(plain(random.pick(&sequential) as u8, Kind::Basic));
     }
     states
 }
