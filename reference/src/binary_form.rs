@@ -86,7 +86,9 @@ pub fn answer_to_line(answer: &Result<Success, Refusal>) -> String {
         Ok(Success::Flattened(network)) => {
             format!("ok {} {:08x}", network.len(), checksum(network))
         }
-        Ok(Success::Chart(new)) => format!("ok {}", hexadecimal(&chart_configuration_to_bytes(new))),
+        Ok(Success::Chart(new)) => {
+            format!("ok {}", hexadecimal(&chart_configuration_to_bytes(new)))
+        }
         Ok(Success::Network(new)) => {
             format!("ok {}", hexadecimal(&network_configuration_to_bytes(new)))
         }

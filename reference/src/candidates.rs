@@ -72,7 +72,8 @@ fn one_of_each(
     let mut sets = vec![vec![sender]];
     for list in choices {
         let longer = |set: Vec<u16>| {
-            list.iter().map(move |&number| set.iter().copied().chain([number]).collect::<Vec<u16>>())
+            list.iter()
+                .map(move |&number| set.iter().copied().chain([number]).collect::<Vec<u16>>())
         };
         sets = sets.into_iter().flat_map(longer).collect();
     }

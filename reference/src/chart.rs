@@ -144,10 +144,7 @@ impl Chart {
 
     /// The one child of a sequential state that has the entry mark.
     pub fn marked_child(&self, sequential: usize, entry: usize) -> Option<usize> {
-        self.children[sequential]
-            .iter()
-            .copied()
-            .find(|&child| self.states[child].has_entry(entry))
+        self.children[sequential].iter().copied().find(|&child| self.states[child].has_entry(entry))
     }
 
     /// Reads a file: refusals 1 to 4.
@@ -158,58 +155,29 @@ impl Chart {
         if usize::from(u16::from_be_bytes([file[1], file[2]])) != file.len() - 3 {
             return Err(Refusal::ChartHeader);
         }
-        let count = |place: usize| usize::from(file[place]);
-        let states = count(3);
-        let declared = Declared {
-            clocks: count(4),
-            variables: count(5),
-            rendezvous: count(6),
-            broadcast: count(7),
-        };
-        let entries = count(8);
-        let exits = count(9);
-        let transitions = count(10);
-        let counts_in_range = (FEWEST_STATES..=STATES).contains(&states)
-            && declared.clocks <= CLOCKS
-            && declared.variables <= VARIABLES
-            && declared.channels() <= CHANNELS
-            && (1..=ENTRIES).contains(&entries)
-            && exits <= EXITS
-            && transitions <= TRANSITIONS;
-        if !counts_in_range {
-            return Err(Refusal::ChartCount);
-        }
+        let counts = Counts::from_header(file).ok_or(Refusal::ChartCount)?;
         let mut reader = Reader::new(&file[CHART_HEADER..]);
-        Chart::read_records(&mut reader, declared, entries, exits, states, transitions).map_err(
-            |fault| match fault {
-                Fault::Length => Refusal::ChartLength,
-                Fault::Field => Refusal::ChartField,
-            },
-        )
+        Chart::read_records(&mut reader, &counts).map_err(|fault| match fault {
+            Fault::Length => Refusal::ChartLength,
+            Fault::Field => Refusal::ChartField,
+        })
     }
 
-    fn read_records(
-        reader: &mut Reader,
-        declared: Declared,
-        entries: usize,
-        exits: usize,
-        state_count: usize,
-        transition_count: usize,
-    ) -> Result<Chart, Fault> {
-        let mut states = Vec::with_capacity(state_count);
-        for _ in 0..state_count {
+    fn read_records(reader: &mut Reader, counts: &Counts) -> Result<Chart, Fault> {
+        let mut states = Vec::with_capacity(counts.states);
+        for _ in 0..counts.states {
             let mut record = reader.short_record()?;
-            states.push(State::read(&mut record, &declared, entries, exits)?);
+            states.push(State::read(&mut record, counts)?);
             record.end()?;
         }
-        let mut transitions = Vec::with_capacity(transition_count);
-        for _ in 0..transition_count {
+        let mut transitions = Vec::with_capacity(counts.transitions);
+        for _ in 0..counts.transitions {
             let mut record = reader.long_record()?;
-            transitions.push(Transition::read(&mut record, &declared, entries, exits, state_count)?);
+            transitions.push(Transition::read(&mut record, counts)?);
             record.end()?;
         }
         reader.end()?;
-        Ok(Chart::new(declared, entries, exits, states, transitions))
+        Ok(Chart::new(counts.declared, counts.entries, counts.exits, states, transitions))
     }
 
     /// The file of this chart.
@@ -253,39 +221,64 @@ impl Chart {
     }
 }
 
+/// The counts of a chart's header.
+struct Counts {
+    states: usize,
+    declared: Declared,
+    entries: usize,
+    exits: usize,
+    transitions: usize,
+}
+
+impl Counts {
+    /// None if a count is outside its range. The file has a whole header.
+    fn from_header(file: &[u8]) -> Option<Counts> {
+        let count = |place: usize| usize::from(file[place]);
+        let counts = Counts {
+            states: count(3),
+            declared: Declared {
+                clocks: count(4),
+                variables: count(5),
+                rendezvous: count(6),
+                broadcast: count(7),
+            },
+            entries: count(8),
+            exits: count(9),
+            transitions: count(10),
+        };
+        let in_range = (FEWEST_STATES..=STATES).contains(&counts.states)
+            && counts.declared.clocks <= CLOCKS
+            && counts.declared.variables <= VARIABLES
+            && counts.declared.channels() <= CHANNELS
+            && (1..=ENTRIES).contains(&counts.entries)
+            && counts.exits <= EXITS
+            && counts.transitions <= TRANSITIONS;
+        in_range.then_some(counts)
+    }
+}
+
 impl State {
-    fn read(
-        record: &mut Reader,
-        declared: &Declared,
-        entries: usize,
-        exits: usize,
-    ) -> Result<State, Fault> {
+    fn read(record: &mut Reader, counts: &Counts) -> Result<State, Fault> {
         // A parent is never out of range here: rule 5 judges it.
         let parent = record.byte()?;
         let kind = Kind::ALL[record.byte_below(Kind::ALL.len())?];
         let entry_marks = record.two_bytes()?;
-        in_range(u32::from(entry_marks) & !lowest_bits(entries) == 0)?;
+        in_range(u32::from(entry_marks) & !lowest_bits(counts.entries) == 0)?;
         let exit_marks = record.byte()?;
-        in_range(u32::from(exit_marks) & !lowest_bits(exits) == 0)?;
-        let bounds = Bounds::read(record, declared.clocks)?;
+        in_range(u32::from(exit_marks) & !lowest_bits(counts.exits) == 0)?;
+        let bounds = Bounds::read(record, counts.declared.clocks)?;
         Ok(State { parent, kind, entry_marks, exit_marks, bounds })
     }
 }
 
 impl Transition {
-    fn read(
-        record: &mut Reader,
-        declared: &Declared,
-        entries: usize,
-        exits: usize,
-        states: usize,
-    ) -> Result<Transition, Fault> {
+    fn read(record: &mut Reader, counts: &Counts) -> Result<Transition, Fault> {
         Ok(Transition {
-            source: record.byte_below(states)?,
-            destination: record.byte_below(states)?,
-            exit: record.optional_byte_below(exits)?,
-            entry: record.optional_byte_below(entries)?,
-            label: Rc::new(Label::read(record, declared)?),
+            source: record.byte_below(counts.states)?,
+            destination: record.byte_below(counts.states)?,
+            exit: record.optional_byte_below(counts.exits)?,
+            entry: record.optional_byte_below(counts.entries)?,
+            label: Rc::new(Label::read(record, &counts.declared)?),
         })
     }
 }

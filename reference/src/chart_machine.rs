@@ -70,10 +70,8 @@ pub fn wait(
     if !is_configuration(chart, configuration) {
         return Err(Refusal::ChartConfiguration);
     }
-    let values = configuration
-        .values
-        .after_ticks(chart.declared.clocks, ticks)
-        .ok_or(Refusal::Ticks)?;
+    let values =
+        configuration.values.after_ticks(chart.declared.clocks, ticks).ok_or(Refusal::Ticks)?;
     keeping_bounds(chart, ChartConfiguration { active: configuration.active, values })
 }
 
@@ -96,7 +94,12 @@ pub fn member(chart: &Chart, number: usize) -> Member {
     }
 }
 
-fn can_complete(chart: &Chart, configuration: &ChartConfiguration, state: usize, exit: usize) -> bool {
+fn can_complete(
+    chart: &Chart,
+    configuration: &ChartConfiguration,
+    state: usize,
+    exit: usize,
+) -> bool {
     chart.at_or_below(state).into_iter().all(|below| {
         let counts = configuration.active[below] && !chart.states[below].is_composite();
         !counts || chart.states[below].has_exit(exit)
@@ -104,7 +107,11 @@ fn can_complete(chart: &Chart, configuration: &ChartConfiguration, state: usize,
 }
 
 /// The groups of the active receivers on a channel.
-fn active_receivers(chart: &Chart, configuration: &ChartConfiguration, channel: usize) -> Vec<usize> {
+fn active_receivers(
+    chart: &Chart,
+    configuration: &ChartConfiguration,
+    channel: usize,
+) -> Vec<usize> {
     (0..chart.transitions.len())
         .filter(|&number| chart.transitions[number].label.signal == Signal::Receive(channel))
         .filter(|&number| is_active(chart, configuration, number))

@@ -62,9 +62,7 @@ fn entry_marks_fit(chart: &Chart) -> bool {
     let marks = |number: usize| chart.states[number].entry_marks;
     let marks_of_children_fit = |number: usize| match chart.states[number].kind {
         Kind::Basic => true,
-        Kind::Parallel => {
-            chart.children[number].iter().all(|&child| marks(child) == marks(number))
-        }
+        Kind::Parallel => chart.children[number].iter().all(|&child| marks(child) == marks(number)),
         Kind::Sequential => {
             let mut on_children = 0;
             for &child in &chart.children[number] {

@@ -187,7 +187,9 @@ fn set_kind(labels: &[&Label], rendezvous: usize) -> String {
     match channel {
         None => "set without signal".to_string(),
         Some(channel) if channel < rendezvous => "set on a rendezvous channel".to_string(),
-        Some(_) => format!("set on a broadcast channel, {} receivers", at_most(labels.len() - 1, 3)),
+        Some(_) => {
+            format!("set on a broadcast channel, {} receivers", at_most(labels.len() - 1, 3))
+        }
     }
 }
 

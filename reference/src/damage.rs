@@ -4,8 +4,8 @@ use std::rc::Rc;
 
 use crate::chart::{Chart, Kind};
 use crate::chart_machine::ChartConfiguration;
-use crate::label::{Assignment, Label, Signal};
 use crate::expression::Expression;
+use crate::label::{Assignment, Label, Signal};
 use crate::limits::{AUTOMATA, CHART_HEADER, LARGEST, LIST, NETWORK_HEADER, STATES};
 use crate::network_machine::NetworkConfiguration;
 use crate::random::Random;
@@ -57,7 +57,9 @@ pub struct LengthField {
 pub fn length_fields(form: Form, file: &[u8]) -> Vec<LengthField> {
     let (short, long) = match form {
         Form::Chart => (usize::from(file[3]), usize::from(file[10])),
-        Form::Network => (usize::from(file[6]), usize::from(u16::from_be_bytes([file[7], file[8]]))),
+        Form::Network => {
+            (usize::from(file[6]), usize::from(u16::from_be_bytes([file[7], file[8]])))
+        }
     };
     let mut fields = Vec::new();
     let mut place = form.header();
@@ -247,7 +249,7 @@ pub fn damage_network_configuration(
 fn damage_values(values: &Values, random: &mut Random) -> Values {
     let mut damaged = *values;
     if random.chance(40) {
-        damaged.variables[random.below(damaged.variables.len())] = random.next() as i32;
+        damaged.variables[random.below(damaged.variables.len())] = random.bits() as i32;
     } else {
         let clock = random.below(damaged.clocks.len());
         damaged.clocks[clock] = match random.below(4) {

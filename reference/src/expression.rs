@@ -108,6 +108,6 @@ impl Expression {
 /// A divisor runs from 1 to 2,147,483,647.
 fn divisor(reader: &mut Reader) -> Result<i32, Fault> {
     let value = reader.four_bytes()?;
-    in_range(1 <= value && value <= LARGEST)?;
+    in_range((1..=LARGEST).contains(&value))?;
     Ok(value as i32)
 }

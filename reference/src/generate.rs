@@ -13,6 +13,9 @@ use crate::values::Bounds;
 /// What kind of chart is wanted. Percentages are chances.
 #[derive(Clone, Copy, Debug)]
 pub struct Wish {
+    /// If not 0, a parallel root with this many sequential children, each with two sequential
+    /// children and a basic one; otherwise a random tree.
+    pub regions: usize,
     pub states: usize,
     pub sequential: usize,
     /// That a child large enough to be composite is composite.
@@ -30,8 +33,10 @@ pub struct Wish {
     pub variables: usize,
     pub rendezvous: usize,
     pub broadcast: usize,
-    /// That a transition has a signal.
+    /// That a transition with a composite end has a signal.
     pub signals: usize,
+    /// That another transition has a signal.
+    pub basic_signals: usize,
     /// That a signal is received rather than sent.
     pub receivers: usize,
     /// That a state has a bound on a clock.
@@ -49,6 +54,7 @@ pub struct Wish {
 impl Wish {
     /// A wish of middle size.
     pub const ORDINARY: Wish = Wish {
+        regions: 0,
         states: 20,
         sequential: 8,
         composite: 50,
@@ -63,6 +69,7 @@ impl Wish {
         rendezvous: 2,
         broadcast: 2,
         signals: 40,
+        basic_signals: 40,
         receivers: 65,
         bounds: 15,
         guards: 30,
@@ -105,16 +112,36 @@ impl Wish {
                 states: random.between(24, STATES),
                 sequential: AUTOMATA,
                 composite: 90,
-                parallel: 80,
-                children: 12,
+                parallel: random.between(40, 80),
+                children: random.between(4, 12),
                 transitions: TRANSITIONS,
+                entries: 2,
+                exits: 1,
                 rendezvous: 0,
                 broadcast: 1,
-                signals: 85,
-                receivers: 80,
+                signals: 90,
+                basic_signals: 85,
+                receivers: 75,
+                bounds: 5,
                 guards: 10,
                 exit_marks: 90,
-                composite_ends: 80,
+                composite_ends: 90,
+                ..ordinary
+            },
+            // Broadcasts on which many composite states are left and entered at once.
+            4 if random.chance(50) => Wish {
+                regions: random.between(2, 5),
+                transitions: TRANSITIONS,
+                entries: 2,
+                exits: 1,
+                rendezvous: 0,
+                broadcast: 1,
+                signals: 95,
+                basic_signals: 0,
+                bounds: 3,
+                guards: 10,
+                exit_marks: 95,
+                composite_ends: 90,
                 ..ordinary
             },
             // Exits with several alternatives.
@@ -125,6 +152,7 @@ impl Wish {
                 exits: 1,
                 exit_marks: 90,
                 signals: 15,
+                basic_signals: 15,
                 self_loops: 40,
                 ..ordinary
             },
@@ -143,6 +171,7 @@ impl Wish {
                 guards: 60,
                 assignments: 90,
                 signals: 20,
+                basic_signals: 20,
                 ..ordinary
             },
             // The largest sizes.
@@ -178,13 +207,37 @@ pub fn chart_from_wish(wish: &Wish, seed: u64) -> Chart {
         rendezvous: wish.rendezvous,
         broadcast: wish.broadcast,
     };
-    let mut states = tree(wish, &mut random);
+    let mut states = match wish.regions {
+        0 => tree(wish, &mut random),
+        count => regions(count),
+    };
     mark_entries(wish, &mut random, &mut states);
     mark_exits(wish, &mut random, &mut states);
     set_bounds(wish, &mut random, &mut states);
     let mut chart = Chart::new(declared, wish.entries, wish.exits, states, Vec::new());
     add_transitions(wish, &mut random, &mut chart);
     chart
+}
+
+/// A state without marks and bounds.
+fn plain(parent: u8, kind: Kind) -> State {
+    State { parent, kind, entry_marks: 0, exit_marks: 0, bounds: Bounds::NONE }
+}
+
+/// The states of a chart with regions.
+fn regions(count: usize) -> Vec<State> {
+    let mut states = vec![plain(NONE, Kind::Parallel)];
+    for _ in 0..count {
+        let region = states.len() as u8;
+        states.push(plain(0, Kind::Sequential));
+        states.push(plain(region, Kind::Basic));
+        for _ in 0..2 {
+            let inner = states.len() as u8;
+            states.push(plain(region, Kind::Sequential));
+            states.extend([plain(inner, Kind::Basic), plain(inner, Kind::Basic)]);
+        }
+    }
+    states
 }
 
 /// A state that may still become composite, with the number of states it may hold, itself included.
@@ -197,13 +250,6 @@ struct Open {
 /// The states with parents and kinds. A parent has a smaller number than its children; apart from
 /// that the order is random.
 fn tree(wish: &Wish, random: &mut Random) -> Vec<State> {
-    let plain = |parent: u8, kind: Kind| State {
-        parent,
-        kind,
-        entry_marks: 0,
-        exit_marks: 0,
-        bounds: Bounds::NONE,
-    };
     let mut sequential_left = wish.sequential.clamp(1, AUTOMATA);
     let mut states = Vec::new();
     let mut open = Vec::new();
@@ -380,7 +426,9 @@ fn one_transition(
         }
         false => None,
     };
-    let signal = one_signal(wish, random, chart, parent);
+    let chance = if exit.or(entry).is_some() { wish.signals } else { wish.basic_signals };
+    let signal =
+        if random.chance(chance) { one_signal(wish, random, chart, parent) } else { Signal::None };
     let label = Rc::new(one_label(wish, random, signal));
     Some(Transition { source, destination, exit, entry, label })
 }
@@ -388,7 +436,7 @@ fn one_transition(
 /// A signal on a channel that no transition above or below `parent` uses, or none.
 fn one_signal(wish: &Wish, random: &mut Random, chart: &Chart, parent: usize) -> Signal {
     let channels = chart.declared.channels();
-    if channels == 0 || !random.chance(wish.signals) {
+    if channels == 0 {
         return Signal::None;
     }
     let channel = random.below(channels);

@@ -173,7 +173,10 @@ fn added_channels(chart: &Chart) -> (PairChannels, PairChannels) {
         .collect();
     let first_enter = chart.declared.channels();
     let first_exit = first_enter + enter_pairs.len();
-    (enter_pairs.into_iter().zip(first_enter..).collect(), exit_pairs.into_iter().zip(first_exit..).collect())
+    (
+        enter_pairs.into_iter().zip(first_enter..).collect(),
+        exit_pairs.into_iter().zip(first_exit..).collect(),
+    )
 }
 
 /// A state's bounds, joined with those of each state above it for as long as that one is the
@@ -183,7 +186,8 @@ fn carried(chart: &Chart, state: usize) -> Bounds {
     let mut next = chart.parent(state);
     while let Some(above) = next {
         next = chart.parent(above);
-        let child_of_parallel = next.is_some_and(|parent| chart.states[parent].kind == Kind::Parallel);
+        let child_of_parallel =
+            next.is_some_and(|parent| chart.states[parent].kind == Kind::Parallel);
         if above != ROOT && !child_of_parallel {
             break;
         }

@@ -15,7 +15,7 @@ pub struct Member {
 
 /// Refusal 18: a list holds 1 to 16 known numbers, strictly ascending.
 pub fn known_and_ascending(list: &[u16], known: usize) -> Result<(), Refusal> {
-    let right_length = 1 <= list.len() && list.len() <= LIST;
+    let right_length = (1..=LIST).contains(&list.len());
     let all_known = list.iter().all(|&number| usize::from(number) < known);
     let ascending = list.windows(2).all(|pair| pair[0] < pair[1]);
     if right_length && all_known && ascending {

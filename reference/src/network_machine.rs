@@ -70,10 +70,8 @@ pub fn wait(
     if !is_configuration(network, configuration) {
         return Err(Refusal::NetworkConfiguration);
     }
-    let values = configuration
-        .values
-        .after_ticks(network.declared.clocks, ticks)
-        .ok_or(Refusal::Ticks)?;
+    let values =
+        configuration.values.after_ticks(network.declared.clocks, ticks).ok_or(Refusal::Ticks)?;
     if urgent_is_occupied(network, configuration) {
         return Err(Refusal::Urgency);
     }
@@ -92,11 +90,13 @@ fn flag_tests_hold(configuration: &NetworkConfiguration, edge: &Edge) -> bool {
     let Some(exit) = edge.exit_tested else {
         return true;
     };
-    (0..AUTOMATA).filter(|automaton| edge.automata_tested & (1 << automaton) != 0).all(|automaton| {
-        let flag = configuration.flags[automaton] & (1 << exit) != 0;
-        let needed = edge.values_needed & (1 << automaton) != 0;
-        flag == needed
-    })
+    (0..AUTOMATA).filter(|automaton| edge.automata_tested & (1 << automaton) != 0).all(
+        |automaton| {
+            let flag = configuration.flags[automaton] & (1 << exit) != 0;
+            let needed = edge.values_needed & (1 << automaton) != 0;
+            flag == needed
+        },
+    )
 }
 
 /// What the rules of allowed sets look at in an edge.
@@ -142,9 +142,9 @@ pub fn is_configuration(network: &Network, configuration: &NetworkConfiguration)
 }
 
 fn bounds_hold(network: &Network, configuration: &NetworkConfiguration) -> bool {
-    configuration.locations[..network.automata]
-        .iter()
-        .all(|&location| network.locations[usize::from(location)].bounds.hold(&configuration.values))
+    configuration.locations[..network.automata].iter().all(|&location| {
+        network.locations[usize::from(location)].bounds.hold(&configuration.values)
+    })
 }
 
 fn keeping_bounds(

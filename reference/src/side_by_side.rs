@@ -17,7 +17,7 @@ use crate::random::Random;
 use crate::refusal::Refusal;
 
 /// How many sets with one broadcast sender are tried at a time.
-const MOST_BROADCAST_SETS: usize = 12;
+const MOST_BROADCAST_SETS: usize = 4;
 
 /// A chart and the network that flattening writes for it.
 pub struct Machines {
@@ -232,9 +232,7 @@ impl<'a> Moment<'a> {
         let mut configuration = chart_machine::start(&self.machines.chart);
         for call in &self.chart_list {
             let answer = match call {
-                Call::Step(list) => {
-                    chart_machine::step(&self.machines.chart, &configuration, list)
-                }
+                Call::Step(list) => chart_machine::step(&self.machines.chart, &configuration, list),
                 Call::Wait(ticks) => {
                     chart_machine::wait(&self.machines.chart, &configuration, *ticks)
                 }
@@ -280,7 +278,7 @@ impl<'a> Moment<'a> {
         for list in self.chart_candidates(random) {
             self.test_chart_call(&Call::Step(list))?;
         }
-        for ticks in [0, 1, random.between(1, 12) as u32, random.next() as u32] {
+        for ticks in [0, 1, random.between(1, 12) as u32, random.bits() as u32] {
             self.test_chart_call(&Call::Wait(ticks))?;
         }
         Ok(())
@@ -289,10 +287,13 @@ impl<'a> Moment<'a> {
     fn test_while_owed(&self, moves: &[Vec<u16>], random: &mut Random) -> Result<(), Failure> {
         demand(!moves.is_empty(), "an urgent move is owed and none is allowed")?;
         for list in moves {
-            demand(self.is_urgent(list), "a move that is not urgent is allowed while some are owed")?;
+            demand(
+                self.is_urgent(list),
+                "a move that is not urgent is allowed while some are owed",
+            )?;
             demand(self.carried(list).is_empty(), "an urgent move carries transitions")?;
         }
-        for ticks in [1, random.between(1, 12) as u32, random.next() as u32] {
+        for ticks in [1, random.between(1, 12) as u32, random.bits() as u32] {
             demand(self.network_wait(ticks).is_err(), "a wait is allowed while some are owed")?;
         }
         Ok(())
@@ -308,7 +309,9 @@ impl<'a> Moment<'a> {
                 let found = self.network_moves_carrying(list).len();
                 demand(
                     found == expected,
-                    &format!("{found} moves carry {list:?}, for which the chart expects {expected}"),
+                    &format!(
+                        "{found} moves carry {list:?}, for which the chart expects {expected}"
+                    ),
                 )
             }
             Call::Wait(ticks) => {
@@ -456,7 +459,7 @@ fn random_step(
 fn random_ticks(random: &mut Random) -> u32 {
     match random.below(10) {
         0 => 0,
-        1 => random.next() as u32,
+        1 => random.bits() as u32,
         2 => random.between(5, 40) as u32,
         _ => random.between(1, 4) as u32,
     }

@@ -165,8 +165,7 @@ pub fn rendezvous_with_swap(guard: Guard) -> Chart {
 /// edges, and a file of nearly 65,536 bytes.
 pub fn largest() -> Chart {
     let mut chart = chart_with_edges(1024);
-    chart.declared =
-        Declared { clocks: 8, variables: 16, rendezvous: 8, broadcast: 8 };
+    chart.declared = Declared { clocks: 8, variables: 16, rendezvous: 8, broadcast: 8 };
     let mut states = chart.states;
     while states.len() < STATES {
         states.push(state(0, Kind::Basic, 0, 0));

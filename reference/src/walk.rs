@@ -97,7 +97,7 @@ fn random_list(
 fn random_ticks(random: &mut Random) -> u32 {
     match random.below(8) {
         0 => 0,
-        1 => random.next() as u32,
+        1 => random.bits() as u32,
         2 => random.between(5, 40) as u32,
         _ => random.between(1, 4) as u32,
     }

@@ -95,7 +95,9 @@ fn damage_that_decides_the_number_of_a_chart() {
             changed[place] ^= 1 << random.below(8);
             assert_eq!(refusal(&changed), Refusal::ChartHeader);
         }
-        for (place, wrong) in [(3, 49), (3, 1), (4, 9), (5, 17), (6, 17), (7, 17), (8, 0), (9, 9), (10, 65)] {
+        for (place, wrong) in
+            [(3, 49), (3, 1), (4, 9), (5, 17), (6, 17), (7, 17), (8, 0), (9, 9), (10, 65)]
+        {
             let mut changed = file.clone();
             changed[place] = wrong;
             assert_eq!(refusal(&changed), Refusal::ChartCount);
@@ -118,7 +120,9 @@ fn damage_that_decides_the_number_of_a_network() {
         for damaged in damaged_files {
             assert_eq!(refusal(&damaged), Refusal::NetworkLength, "seed {seed}");
         }
-        for (place, wrong) in [(0, 2), (5, 0), (5, 17), (6, 193), (7, 5), (9, 9), (10, 17), (11, 17), (12, 145)] {
+        for (place, wrong) in
+            [(0, 2), (5, 0), (5, 17), (6, 193), (7, 5), (9, 9), (10, 17), (11, 17), (12, 145)]
+        {
             let mut changed = file.clone();
             changed[place] = wrong;
             assert_eq!(refusal(&changed), Refusal::NetworkLength);

@@ -2,12 +2,12 @@
 
 use reference::chart::{Chart, Kind};
 use reference::check::check;
+use reference::expression::Expression;
 use reference::flatten::network_of;
 use reference::generate::chart_from_seed;
 use reference::label::Signal;
 use reference::limits::{CLOCKS, STATES, VARIABLES};
 use reference::network::Network;
-use reference::expression::Expression;
 
 const CHARTS: u64 = 4_000;
 
@@ -125,7 +125,9 @@ fn seeded_charts_pass_and_have_the_promised_features() {
         bounds_on_every_level += u64::from(deepest_here >= 3 && (0..=deepest_here).all(bounded));
         assert!(chart.declared.clocks <= CLOCKS && chart.declared.variables <= VARIABLES);
     }
-    println!("{flattened} of {CHARTS} flattened; deepest {deepest}; most sequential {most_sequential}");
+    println!(
+        "{flattened} of {CHARTS} flattened; deepest {deepest}; most sequential {most_sequential}"
+    );
     println!("receivers of one broadcast: {receivers:?}");
     println!("several alternatives {several_alternatives}, at most {highest_alternatives}");
     println!("parallel in parallel {parallel_in_parallel}, parallel roots {parallel_roots}");

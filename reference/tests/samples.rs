@@ -37,8 +37,13 @@ const S1_NETWORK: [u8; 42] = [
 /// A chart of one sequential state with one basic child, which has a transition to itself.
 fn one_loop(declared: Declared, label: Label) -> Chart {
     let states = vec![state(NONE, Kind::Sequential, 1, 0), state(0, Kind::Basic, 1, 0)];
-    let transitions =
-        vec![Transition { source: 1, destination: 1, exit: None, entry: None, label: Rc::new(label) }];
+    let transitions = vec![Transition {
+        source: 1,
+        destination: 1,
+        exit: None,
+        entry: None,
+        label: Rc::new(label),
+    }];
     Chart::new(declared, 1, 0, states, transitions)
 }
 
@@ -119,12 +124,10 @@ fn s7_and_s9() {
 #[test]
 fn s8() {
     let nested = |levels: usize| {
-        let left = (1..levels).fold(Expression::Constant(0), |inner, _| {
-            Expression::Remainder(Box::new(inner), 3)
-        });
+        let left = (1..levels)
+            .fold(Expression::Constant(0), |inner, _| Expression::Remainder(Box::new(inner), 3));
         assert_eq!(left.levels(), levels);
-        let guard =
-            Guard::Data { relation: Relation::Equal, left, right: Expression::Constant(0) };
+        let guard = Guard::Data { relation: Relation::Equal, left, right: Expression::Constant(0) };
         let label = Label { guards: vec![guard], ..Label::of_signal(Signal::None) };
         check(&one_loop(Declared::default(), label).write()).map(|_| ())
     };

@@ -47,6 +47,7 @@ fn every_clause_holds_on_random_runs() {
         assert!(tally.network_refusals[number] > 100, "network refusal {number}");
     }
     assert!(tally.network_refusals[27] > 100);
+    assert!(tally.most_owed >= 6);
 }
 
 #[test]
@@ -118,7 +119,8 @@ fn unwritten_flags_are_noticed() {
 #[test]
 fn dropped_bounds_of_parallel_parents_are_noticed() {
     let shown = seeds_that_show(|machines| {
-        for (location, place) in machines.network.locations.iter_mut().zip(&machines.layout.places) {
+        for (location, place) in machines.network.locations.iter_mut().zip(&machines.layout.places)
+        {
             if let Place::Child(child) = place {
                 location.bounds = machines.chart.states[*child].bounds;
             }
@@ -150,10 +152,11 @@ fn locations_that_are_not_urgent_are_noticed() {
 #[test]
 fn lost_receivers_are_noticed() {
     let shown = seeds_that_show(|machines| {
-        let first = machines.chart.declared.rendezvous;
-        let last = machines.chart.declared.channels();
-        machines.network.edges.retain(|edge| {
-            !matches!(edge.label.signal, Signal::Receive(channel) if first <= channel && channel < last)
+        let declared = machines.chart.declared;
+        let broadcast = declared.rendezvous..declared.channels();
+        machines.network.edges.retain(|edge| match edge.label.signal {
+            Signal::Receive(channel) => !broadcast.contains(&channel),
+            _ => true,
         });
     });
     assert!(shown > 5, "{shown}");

@@ -21,7 +21,8 @@ fn every_operation_and_refusal_is_there() {
     let operations: BTreeSet<&str> =
         REQUESTS.lines().filter_map(|line| line.split(' ').next()).collect();
     assert_eq!(operations.len(), 8);
-    let answers: BTreeSet<&str> = ANSWERS.lines().filter_map(|line| line.split(' ').next()).collect();
+    let answers: BTreeSet<&str> =
+        ANSWERS.lines().filter_map(|line| line.split(' ').next()).collect();
     assert!(answers.contains("0") && answers.contains("ok"));
     for refusal in Refusal::ALL {
         assert!(answers.contains(refusal.number().to_string().as_str()), "{refusal:?}");

@@ -124,8 +124,13 @@ fn the_flatten_file_covers_everything() {
     assert_covered(counts, parts("flatten", &LABEL_PARTS));
     assert_covered(counts, guards().iter().map(|guard| format!("flatten: guard {guard}")));
     assert_covered(counts, parts("flatten", &["has idle", "has child", "has pre", "has post"]));
-    let alternatives =
-        ["0 alternatives", "1 alternatives", "2 alternatives", "3 alternatives", "4 or more alternatives"];
+    let alternatives = [
+        "0 alternatives",
+        "1 alternatives",
+        "2 alternatives",
+        "3 alternatives",
+        "4 or more alternatives",
+    ];
     assert_covered(counts, parts("flatten", &alternatives));
     let flags = [
         "flag test of 0: true, of 1: false",
