@@ -22,7 +22,11 @@ pub fn request_from_text(line: &str) -> Option<Request> {
     let fields: Vec<&str> = line.split(' ').collect();
     Some(match fields[..] {
         ["check", file] => Request::Check(file_from_text(file)?),
-        ["flatten", file, room] => Request::Flatten(file_from_text(file)?, room.parse().ok()?),
+        ["flatten", file, room] => {
+            // No network is longer than the greatest 32-bit number.
+            let room: u64 = room.parse().ok()?;
+            Request::Flatten(file_from_text(file)?, room.min(u64::from(u32::MAX)) as u32)
+        }
         ["cstart", file] => Request::ChartStart(file_from_text(file)?),
         ["cstep", file, configuration, list] => Request::ChartStep(
             file_from_text(file)?,
@@ -117,7 +121,12 @@ fn list_from_text(text: &str) -> Option<Vec<u16>> {
     if text == "-" {
         return Some(Vec::new());
     }
-    text.split(',').map(|number| number.parse().ok()).collect()
+    // A number past 16 bits is as unknown as the greatest of 16 bits.
+    let number = |text: &str| -> Option<u16> {
+        let number: u64 = text.parse().ok()?;
+        Some(number.min(u64::from(u16::MAX)) as u16)
+    };
+    text.split(',').map(number).collect()
 }
 
 fn chart_configuration_to_text(configuration: &ChartConfiguration) -> String {

@@ -43,3 +43,24 @@ fn other_lines_are_malformed() {
         assert_eq!(answer_line(line), MALFORMED, "{line:?}");
     }
 }
+
+#[test]
+fn great_numbers_are_unknown_numbers_and_long_buffers() {
+    let with_list = |list: &str| {
+        let line = REQUESTS
+            .lines()
+            .zip(ANSWERS.lines())
+            .find(|(request, answer)| request.starts_with("cstep") && answer.starts_with("ok"))
+            .map(|(request, _)| request)
+            .expect("an accepted step");
+        let (start, _) = line.rsplit_once(' ').expect("a list at the end");
+        answer_line(&format!("{start} {list}"))
+    };
+    assert_eq!(with_list("70000"), "18");
+    assert_eq!(with_list("0,99999999999"), "18");
+    let chart = "0100250300000000010001\
+                 05ff0100010005000000010005000000000000090102ffff00ff000000";
+    let chart = chart.replace(' ', "");
+    assert!(answer_line(&format!("flatten {chart} 99999999999")).starts_with("ok 01"));
+    assert_eq!(answer_line(&format!("flatten {chart} 41")), "16");
+}
