@@ -102,14 +102,14 @@ fn add_transition_edges(
             edges.push(plain);
             continue;
         };
+        let values_at = (0..layout.sequential.len())
+            .filter(|&automaton| layout.one_means_at(automaton, exit))
+            .fold(0, |values, automaton| values | (1 << automaton));
         for automata_tested in by_exit[exit].list(transition.source) {
-            let values_needed = (0..layout.sequential.len())
-                .filter(|&automaton| layout.one_means_at(automaton, exit))
-                .fold(0, |values, automaton| values | (1 << automaton));
             edges.push(Edge {
                 exit_tested: Some(exit),
                 automata_tested,
-                values_needed: values_needed & automata_tested,
+                values_needed: values_at & automata_tested,
                 ..plain.clone()
             });
         }

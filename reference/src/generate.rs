@@ -314,10 +314,10 @@ fn open_children(
     let mut sizes = vec![least; count];
     let mut left = size - least * count;
     while left > 0 {
-        // In lumps, so that some children are large.
-        let lump = random.between(1, left);
-        sizes[random.below(count)] += lump;
-        left -= lump;
+        // Several at a time, so that some children are large.
+        let part = random.between(1, left);
+        sizes[random.below(count)] += part;
+        left -= part;
     }
     open.extend(sizes.into_iter().map(|size| Open { parent, size, must_be_composite }));
 }

@@ -1,8 +1,7 @@
 //! Hierarchical timed charts, their flat networks, and the machines that run both.
 //!
-//! This is the second implementation, written from the papers alone. It is the yardstick that the
-//! other implementation is compared with, so it is written to be read: plain data, one concept to
-//! a file.
+//! This is the second implementation, written from the papers alone, with which the other one is
+//! compared. It uses plain data types and has one concept to a file.
 
 pub mod alternatives;
 pub mod binary_form;

@@ -207,7 +207,7 @@ impl<'a> Moment<'a> {
         if let Err(refusal) = self.chart_answer(call) {
             self.tally.chart_calls += 1;
             self.tally.chart_refusals[usize::from(refusal.number())] += 1;
-            // No network call does what the chart refuses; `test_chart_call` says which number.
+            // No network move carries a list that the chart refuses; a wait is refused alike.
             return self.test_chart_call(call);
         }
         match call {
@@ -216,11 +216,13 @@ impl<'a> Moment<'a> {
                 let found = self.network_moves_carrying(list);
                 demand(found.len() == 1, "not exactly one network move carries an accepted list")?;
                 self.call_network(&Call::Step(found[0].clone()))?;
+                self.test(random)?;
                 while self.owed > 0 {
                     let urgent = self.allowed_network_moves(random);
                     demand(!urgent.is_empty(), "an urgent move is owed and none is allowed")?;
                     let chosen = urgent[random.below(urgent.len())].clone();
                     self.call_network(&Call::Step(chosen))?;
+                    self.test(random)?;
                 }
             }
         }

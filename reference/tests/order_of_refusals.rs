@@ -127,7 +127,7 @@ fn a_network_step() {
     let mut both = vec![leaving, edges[1]];
     both.sort();
     assert_eq!(step(&at_pre, &both), Err(Refusal::NotAllowed));
-    // The broadcast "enter" must take the idle automaton along.
+    // The set of the broadcast "enter" must include the receiver, which is active.
     assert_eq!(step(&at_pre, &[leaving]), Err(Refusal::NotAllowed));
     // 21: pre has the bound of what is entered.
     let mut late = start;

@@ -140,7 +140,7 @@ fn s10() {
     let declared = Declared { broadcast: 1, ..Declared::default() };
     let chart = one_loop(declared, Label::of_signal(Signal::Send(0)));
     assert!(chart_machine::step(&chart, &chart_machine::start(&chart), &[0]).is_ok());
-    // A receiver in another sequential state, once active, must come along.
+    // Active receivers in other sequential states must be in the set.
     let chart = broadcast_of_self_loops();
     let start = chart_machine::start(&chart);
     assert_eq!(chart_machine::step(&chart, &start, &[0]), Err(Refusal::NotAllowed));
@@ -195,4 +195,34 @@ fn the_largest_chart_passes() {
     let length = flatten(&file, &mut buffer).unwrap();
     let network = reference::network::Network::read(&buffer[..length]).unwrap();
     assert_eq!(network.edges.len(), 1024);
+}
+
+/// Every alternative has the whole label, so a network can be far longer than its chart.
+#[test]
+fn a_long_network() {
+    let mut chart = chart_with_edges(1001);
+    let guard = Guard::Data {
+        relation: Relation::Equal,
+        left: full_sum(8),
+        right: Expression::Constant(0),
+    };
+    let label = Label { guards: vec![guard; 20], ..Label::of_signal(Signal::None) };
+    for transition in &mut chart.transitions[..4] {
+        transition.label = Rc::new(label.clone());
+    }
+    let file = chart.write();
+    let mut buffer = vec![0; 16_000_000];
+    let length = flatten(&file, &mut buffer).unwrap();
+    assert!(length > 15_000_000, "{length}");
+    assert_eq!(flatten(&file, &mut buffer[..length - 1]), Err(Refusal::BufferLength));
+    // The length in the header is that of the file.
+    assert_eq!(buffer[1..5], ((length - 5) as u32).to_be_bytes());
+}
+
+/// A sum of this many levels with constants only.
+fn full_sum(levels: usize) -> Expression {
+    if levels == 1 {
+        return Expression::Constant(0);
+    }
+    Expression::Sum(Box::new(full_sum(levels - 1)), Box::new(full_sum(levels - 1)))
 }
