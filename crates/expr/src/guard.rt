@@ -195,7 +195,14 @@ pub fn read_guard(s: &[u8], at: usize, clocks: u8, variables: u8) -> Reached
 }
 
 // Whether a guard holds of variables and clocks.
-pub fn guard_holds(s: &[u8], at: usize, clocks: u8, variables: u8, values: &[i32; 16], times: [u32; 8]) -> TestRead
+pub fn guard_holds(
+    s: &[u8],
+    at: usize,
+    clocks: u8,
+    variables: u8,
+    values: &[i32; 16],
+    times: [u32; 8],
+) -> TestRead
     ensures { λ r. ⌜ testOf (now (s .entry)) r ≡ mapped (holds (now (values .entry)) times) (guard (limits clocks variables) (onward (now (s .entry)) at)) ⌝ }
 {
     let b = field::read_byte_below(s, at, 3);

@@ -62,7 +62,15 @@ fn read_updates(s: &[u8], at: usize, count: u8, variables: u8) -> TestRead
 }
 
 // Whether so many guards from a place on, which are known to be there, hold.
-fn all_hold(s: &[u8], at: usize, count: u8, clocks: u8, variables: u8, values: &[i32; 16], times: [u32; 8]) -> bool
+fn all_hold(
+    s: &[u8],
+    at: usize,
+    count: u8,
+    clocks: u8,
+    variables: u8,
+    values: &[i32; 16],
+    times: [u32; 8],
+) -> bool
     ensures { λ r. ⌜ ((gs : _) (t : _) → many count (guard (limits clocks variables)) (onward (now (s .entry)) at) ≡ got gs t → r ≡ all (holds (now (values .entry)) times) gs) ⌝ }
 {
     let mut place = at;
@@ -82,7 +90,14 @@ fn all_hold(s: &[u8], at: usize, count: u8, clocks: u8, variables: u8, values: &
 }
 
 // The variables after so many assignments from a place on, which are known to be there. All of them read `old`.
-fn all_assigned(s: &[u8], at: usize, count: u8, variables: u8, old: &[i32; 16], new: [i32; 16]) -> [i32; 16]
+fn all_assigned(
+    s: &[u8],
+    at: usize,
+    count: u8,
+    variables: u8,
+    old: &[i32; 16],
+    new: [i32; 16],
+) -> [i32; 16]
     requires { ⌜ variables ≤ 16 ⌝ }
     ensures { λ r. ⌜ ((us : _) (t : _) → many count (update (limits 0 variables)) (onward (now (s .entry)) at) ≡ got us t → r ≡ assign (now (old .entry)) us new) ⌝ }
 {
