@@ -5,9 +5,10 @@ ghost use mathlib.Core.Bool.{_&&_, _||_, not};
 ghost use lib.Dec.{eqb};
 ghost use Rattle.expr.specs.Lists.{all};
 ghost use Rattle.expr.specs.Reading.{got, byte, such, many, mapped, skipped};
+ghost use Rattle.expr.specs.Expression.{expression, value};
 ghost use Rattle.expr.specs.Guard.{limits, guard, update, holds, assign};
 ghost use Rattle.expr.specs.Label.{targets, distinct, bodyOnce, body, channelFits, label, heading};
-ghost use Rattle.expr.specs.Places.{onward, byteOf, testOf, reached};
+ghost use Rattle.expr.specs.Places.{onward, byteOf, valueOf, testOf, reached};
 ghost use Rattle.expr.specs.Headings.{labelOf, labelFault};
 use crate::field;
 use crate::field::ByteRead;
@@ -91,17 +92,24 @@ fn all_hold(
     true
 }
 
+// The value of an expression. The variables pass by value, so that old and new ones are told apart by their names alone.
+fn value_from(s: &[u8], at: usize, variables: u8, values: [i32; 16]) -> ValueRead
+    ensures { λ r. ⌜ valueOf (now (s .entry)) r ≡ mapped (value values) (expression variables 8 (onward (now (s .entry)) at)) ⌝ }
+{
+    guard::value_at(s, at, variables, &values)
+}
+
 // The variables after so many assignments from a place on, which are known to be there. All of them read `old`.
 fn all_assigned(
     s: &[u8],
     at: usize,
     count: u8,
     variables: u8,
-    old: &[i32; 16],
+    old: [i32; 16],
     new: [i32; 16],
 ) -> [i32; 16]
     requires { ⌜ variables ≤ 16 ⌝ }
-    ensures { λ r. ⌜ ((us : _) (t : _) → many count (update (limits 0 variables)) (onward (now (s .entry)) at) ≡ got us t → r ≡ assign (now (old .entry)) us new) ⌝ }
+    ensures { λ r. ⌜ ((us : _) (t : _) → many count (update (limits 0 variables)) (onward (now (s .entry)) at) ≡ got us t → r ≡ assign old us new) ⌝ }
 {
     let mut values = new;
     let mut place = at;
@@ -111,7 +119,7 @@ fn all_assigned(
         let ByteRead::Value(target, from) = b else {
             return values;
         };
-        let v = guard::value_at(s, from, variables, old);
+        let v = value_from(s, from, variables, old);
         let ValueRead::Value(z, next) = v else {
             return values;
         };
@@ -162,7 +170,11 @@ fn read_body(s: &[u8], at: usize, clocks: u8, variables: u8, signal: u8) -> Test
 fn channel_fits(channels: u8, signal: u8, channel: u8) -> bool
     ensures { λ r. ⌜ r ≡ channelFits channels signal channel ⌝ }
 {
-    if signal == 0 { channel == 255 } else { channel < channels }
+    if signal == 0 {
+        channel == 255
+    } else {
+        channel < channels
+    }
 }
 
 fn read_channel(s: &[u8], at: usize, channels: u8, signal: u8) -> ByteRead
@@ -223,11 +235,27 @@ pub fn read_label(s: &[u8], at: usize, clocks: u8, variables: u8, channels: u8) 
     let TestRead::Value(once, next) = u else {
         return LabelRead::Fault(field::test_fault(u));
     };
-    LabelRead::Label(Label { signal, channel, resets, body, once }, next)
+    LabelRead::Label(
+        Label {
+            signal,
+            channel,
+            resets,
+            body,
+            once,
+        },
+        next,
+    )
 }
 
 // Whether the guards of a body, which is known to stand at a place, hold.
-pub fn guards_hold(s: &[u8], at: usize, clocks: u8, variables: u8, values: &[i32; 16], times: [u32; 8]) -> bool
+pub fn guards_hold(
+    s: &[u8],
+    at: usize,
+    clocks: u8,
+    variables: u8,
+    values: &[i32; 16],
+    times: [u32; 8],
+) -> bool
     ensures { λ r. ⌜ ((b : _) (t : _) → body (limits clocks variables) (onward (now (s .entry)) at) ≡ got b t → r ≡ all (holds (now (values .entry)) times) (b .guards)) ⌝ }
 {
     let g = field::read_byte(s, at);
@@ -242,9 +270,16 @@ pub fn guards_hold(s: &[u8], at: usize, clocks: u8, variables: u8, values: &[i32
 }
 
 // The variables after the assignments of a body, which is known to stand at a place. All of them read `old`.
-pub fn assigned(s: &[u8], at: usize, clocks: u8, variables: u8, old: &[i32; 16], new: [i32; 16]) -> [i32; 16]
+pub fn assigned(
+    s: &[u8],
+    at: usize,
+    clocks: u8,
+    variables: u8,
+    old: [i32; 16],
+    new: [i32; 16],
+) -> [i32; 16]
     requires { ⌜ variables ≤ 16 ⌝ }
-    ensures { λ r. ⌜ ((b : _) (t : _) → body (limits clocks variables) (onward (now (s .entry)) at) ≡ got b t → r ≡ assign (now (old .entry)) (b .updates) new) ⌝ }
+    ensures { λ r. ⌜ ((b : _) (t : _) → body (limits clocks variables) (onward (now (s .entry)) at) ≡ got b t → r ≡ assign old (b .updates) new) ⌝ }
 {
     let g = field::read_byte(s, at);
     let ByteRead::Value(guards, at1) = g else {
