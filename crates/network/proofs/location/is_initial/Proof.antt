@@ -1,0 +1,33 @@
+use mathlib.Core.Path.{_≡_, refl, sym, ap, _∙_}
+use Prim.Native.Nat.{ℕ, _<_}
+use lib.Dec.{eqb}
+use lib.ListN.{getD}
+use Rattle.network.specs.Network.{Location}
+use Rattle.network.specs.Machine.{urgentAt}
+use Rattle.network.proofs.Records.{no-location, automaton-byte, urgent-byte, initial-byte}
+use borrow.Author.Needs.{needs}
+use Rattle.network.proofs.location.is_initial.Statement.{statement}
+use Rattle.network.proofs.location.is_initial.Tie as tie
+use Rattle.network.proofs.location.is_initial.Reads as reads
+use Rattle.network.proofs.location.is_initial.Lts as lts
+use Rattle.expr.proofs.field.byte_at.Reads as byte-at-reads
+use Rattle.network.proofs.location.location_place.Reads as location-place-reads
+
+-- src/location.rt:115:36
+location-place-requires : tie.Need-location-place-requires
+location-place-requires c κs = search needs
+
+-- src/location.rt:115:9
+byte-at-requires : tie.Need-byte-at-requires
+byte-at-requires c κs = search needs
+
+-- src/location.rt:111:1
+returns : tie.Need-returns
+returns c = λ n L. ap (λ (x : ℕ). eqb x 1) (c .byte-at .ensures ∙ ap (λ (p : ℕ). getD (c .before .before .before .before .before .args .rest .now) p 0) (c .before .location-place .ensures) ∙ initial-byte L (c .before .before .if1 .taken))
+
+-- src/location.rt:111:1
+returns-2 : tie.Need-returns-2
+returns-2 c = λ n L. ap (λ (l : Location). eqb (l .initial) 1) (sym (no-location L (c .if1 .left)))
+
+pub is-initial-spec : {M : Type 1} → statement M
+is-initial-spec = tie.close (tie.spec location-place-requires byte-at-requires returns returns-2)
