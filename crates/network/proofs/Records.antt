@@ -1,63 +1,64 @@
 -- What stands in the location records of a checked file.
-use mathlib.Core.Path.{_≡_, refl, sym, ap, _∙_}
+use mathlib.Core.Path.{_≡_, refl, sym, ap, _∙_, subst}
 use mathlib.Core.Bool.{true}
 use mathlib.Core.List.{List}
 use Prim.Native.Nat.{ℕ, _+_, _*_, _≤_, _<_}
 use native.Mathlib.Omega.{arith}
-use native.Mathlib.Nat.{mul-comm}
 use borrow.Author.Tests.{leb-true}
 use lib.Dec.{leb}
 use lib.ListN.{length, getD, List·getD-eq-default}
-use Rattle.expr.specs.Reading.{got, byte, byte4, many, recorded}
+use Rattle.expr.specs.Reading.{got, byte, many, recorded}
 use Rattle.expr.specs.Places.{onward}
-use Rattle.expr.specs.Clocks.{no-bound, row}
+use Rattle.expr.specs.Clocks.{row}
 use Rattle.expr.proofs.Bools.{parts}
-use Rattle.expr.proofs.Places.{onward-onward}
-use Rattle.expr.proofs.Reading.{bind-at, then-at, yield-at, yield-rest, many-at}
-use Rattle.expr.proofs.Suffixes.{Looks, bind-looks, yield-looks, such-looks, many-looks, byte-looks, byte4-looks}
+use Rattle.expr.proofs.Places.{onward-all, onward-onward}
+use Rattle.expr.proofs.Reading.{bind-at, then-at, yield-at, yield-rest, such-at, many-at}
+use Rattle.expr.proofs.Suffixes.{Looks, bind-looks, yield-looks, such-looks, byte-looks}
+use Rattle.expr.proofs.Sizes.{Takes, byte-takes, row-takes, row-looks, recorded-looks, onto, byte-value}
 use Rattle.expr.proofs.Many.{many-nth}
-use Rattle.expr.proofs.Rows.{row-long}
 use Rattle.network.specs.Network.{Location, Network, location, records, locationAt, zeroLocation, inRange}
 use Rattle.network.specs.Layout.{locationSize, locationPlace, Located}
 use Rattle.network.specs.declared.header.Counts.{Counts}
-use Rattle.network.proofs.Sizes.{Takes, yield-takes, bind-takes, such-takes, many-takes, byte-takes, byte4-takes, takes-same, recorded-takes, recorded-inside, byte-read, row-declared, row-undeclared}
+
+-- the fields of a location that is read at a place
+record Fields (clocks : ℕ) (s : List ℕ) (at : ℕ) (l : Location) (t : List ℕ) : Type 0 where
+  automaton : byte (onward s at) ≡ got (l .automaton) (onward s (at + 1))
+  urgent : byte (onward s (at + 1)) ≡ got (l .urgent) (onward s (at + 2))
+  initial : byte (onward s (at + 2)) ≡ got (l .initial) (onward s (at + 3))
+  bounds : row clocks (onward s (at + 3)) ≡ got (l .bounds) t
 
 module _ (automata clocks : ℕ) where
-  location-takes : Takes (3 + 4 * clocks) (location automata clocks)
-  unfolding location row
-  location-takes =
-      takes-same _ (let e : 1 + (1 + (1 + (clocks * 4 + 0 + 0))) ≡ 3 + 4 * clocks = omega arith in e)
-      (bind-takes _ _ 1 _ (such-takes 1 byte _ byte-takes) (λ a. bind-takes _ _ 1 _ (such-takes 1 byte _ byte-takes) (λ u. bind-takes _ _ 1 _ (such-takes 1 byte _ byte-takes) (λ i. bind-takes _ _ (clocks * 4 + 0) 0 (bind-takes _ _ (clocks * 4) 0 (many-takes clocks 4 _ (such-takes 4 byte4 _ byte4-takes)) (λ bs. yield-takes _)) (λ r. yield-takes _)))))
-
   location-looks : Looks (location automata clocks)
-  unfolding location row
+  unfolding location
   location-looks =
-      bind-looks _ _ (such-looks byte _ byte-looks) (λ a. bind-looks _ _ (such-looks byte _ byte-looks) (λ u. bind-looks _ _ (such-looks byte _ byte-looks) (λ i. bind-looks _ _ (bind-looks _ _ (many-looks clocks _ (such-looks byte4 _ byte4-looks)) (λ bs. yield-looks _)) (λ r. yield-looks _))))
+      bind-looks _ _ (such-looks _ _ byte-looks) λ a. bind-looks _ _ (such-looks _ _ byte-looks) λ u. bind-looks _ _ (such-looks _ _ byte-looks) λ i.
+      bind-looks _ _ (row-looks clocks) λ r. yield-looks _
 
-  -- a record is as long as locationSize says
-  pub record-takes : Takes (locationSize clocks) (recorded byte (location automata clocks))
-  record-takes = takes-same _ (let e : 1 + (3 + 4 * clocks) ≡ 4 + 4 * clocks = omega arith in e) (recorded-takes (3 + 4 * clocks) (location automata clocks) location-takes)
-
-  -- the bytes of its content
-  fields : (s : List ℕ) (at : ℕ) (l : Location) (t : List ℕ) → location automata clocks (onward s at) ≡ got l t
-      → (l .automaton ≡ getD s at 0) × (l .urgent ≡ getD s (at + 1) 0) × (l .initial ≡ getD s (at + 2) 0) × (v : List ℕ) × (row clocks (onward s (at + 3)) ≡ got (l .bounds) v)
+  fields : (s : List ℕ) (at : ℕ) (l : Location) (t : List ℕ) → location automata clocks (onward s at) ≡ got l t → Fields clocks s at l t
   unfolding location
   fields s at l t h =
       let a = bind-at _ _ (onward s at) h in
-      let b = byte-read _ s at refl (a .2) in
-      let u = bind-at _ _ _ (a .3) in
-      let v = byte-read _ s (at + 1) (b .1) (u .2) in
-      let i = bind-at _ _ _ (u .3) in
-      let j = byte-read _ s (at + 1 + 1) (v .1) (i .2) in
-      let r = bind-at (row clocks) _ _ (i .3) in
-      let e = yield-at (r .1) (r .3) in
-      (
-        ap (λ (x : Location). x .automaton) (sym e) ∙ b .0,
-        ap (λ (x : Location). x .urgent) (sym e) ∙ v .0,
-        ap (λ (x : Location). x .initial) (sym e) ∙ j .0 ∙ ap (λ (p : ℕ). getD s p 0) (let q : at + 1 + 1 ≡ at + 2 = omega arith in q),
-        r .1,
-        ap (λ (p : ℕ). row clocks (onward s p)) (let q : at + 3 ≡ at + 1 + 1 + 1 = omega arith in q) ∙ ap (row clocks) (sym (j .1)) ∙ r .2 ∙ ap (λ (x : Location). got (x .bounds) (r .1)) e
-      )
+      let u = bind-at _ _ (a .1) (a .3) in
+      let i = bind-at _ _ (u .1) (u .3) in
+      let r = bind-at _ _ (i .1) (i .3) in
+      let x = onto s at 1 byte (at + 1) refl byte-takes refl (such-at _ _ (onward s at) (a .2) .1) in
+      let y = onto s (at + 1) 1 byte (at + 2) (x .1) byte-takes (omega arith) (such-at _ _ (a .1) (u .2) .1) in
+      let z = onto s (at + 2) 1 byte (at + 3) (y .1) byte-takes (omega arith) (such-at _ _ (u .1) (i .2) .1) in
+      subst (λ (m : Location). Fields clocks s at m t) (yield-at (r .1) (r .3)) (record {
+        automaton = x .0;
+        urgent = y .0;
+        initial = z .0;
+        bounds = ap (row clocks) (sym (z .1)) ∙ r .2 ∙ ap (got (r .0)) (yield-rest _ (r .1) (r .3));
+      })
+
+  location-takes : Takes (location automata clocks) (3 + 4 * clocks)
+  location-takes s l t h = row-takes clocks _ _ t (fields s 0 l t (ap (location automata clocks) (onward-all s) ∙ h) .bounds) ∙ onward-onward s 3 (4 * clocks)
+
+  -- a record is as long as locationSize says
+  pub record-takes : Takes (recorded byte (location automata clocks)) (locationSize clocks)
+  record-takes s l t h =
+      let w = recorded-looks byte _ location-looks s h in
+      location-takes (w .1) l t (w .3) ∙ ap (λ (b : List ℕ). onward b (3 + 4 * clocks)) (byte-takes s (w .0) (w .1) (w .2)) ∙ onward-onward s 1 (3 + 4 * clocks) ∙ ap (onward s) (omega arith)
 
 -- where the locations are read, they stand at their places
 module _ (rest : List ℕ) (k : Counts) (r : inRange k ≡ true) (n : Network) where
@@ -73,7 +74,7 @@ module _ (rest : List ℕ) (k : Counts) (r : inRange k ≡ true) (n : Network) w
     locations = many-at (k .locations) _ (onward rest 8) h .0;
     here = λ i l.
         ap (recorded byte (location (k .automata) (k .clocks))) (sym (onward-onward rest 8 (i * locationSize (k .clocks))))
-        ∙ many-nth (recorded byte (location (k .automata) (k .clocks))) (locationSize (k .clocks)) zeroLocation (λ s x u e. record-takes (k .automata) (k .clocks) s x u e .1) (k .locations) (onward rest 8) (n .locations) t h i l
+        ∙ many-nth _ (locationSize (k .clocks)) zeroLocation (record-takes (k .automata) (k .clocks)) (k .locations) (onward rest 8) (n .locations) t h i l
         ∙ ap (got (getD (n .locations) i zeroLocation)) (onward-onward rest 8 (i * locationSize (k .clocks) + locationSize (k .clocks)) ∙ ap (onward rest) (let e : 8 + (i * locationSize (k .clocks) + locationSize (k .clocks)) ≡ 8 + i * locationSize (k .clocks) + locationSize (k .clocks) = omega arith in e));
   }
 
@@ -98,38 +99,20 @@ module _ {rest : List ℕ} {k : Counts} {n : Network} (L : Located rest k n) whe
     no-location h = List·getD-eq-default (n .locations) zeroLocation (omega (arith, L .locations))
 
     module _ (h : i < k .locations) where
-      at : ℕ
-      at = locationPlace (k .clocks) i
-
-      content : (v : List ℕ) × (location (k .automata) (k .clocks) (onward rest (at + 1)) ≡ got (locationAt n i) v)
-      unfolding at
-      content =
-          let w = recorded-inside (location (k .automata) (k .clocks)) (location-looks (k .automata) (k .clocks)) (onward rest at) (locationAt n i) _ (L .here i h) in
-          (w .0, ap (location (k .automata) (k .clocks)) (sym (onward-onward rest at 1)) ∙ w .1)
-
-      here : (locationAt n i .automaton ≡ getD rest (at + 1) 0) × (locationAt n i .urgent ≡ getD rest (at + 1 + 1) 0) × (locationAt n i .initial ≡ getD rest (at + 1 + 2) 0) × (v : List ℕ) × (row (k .clocks) (onward rest (at + 1 + 3)) ≡ got (locationAt n i .bounds) v)
-      here = fields (k .automata) (k .clocks) rest (at + 1) (locationAt n i) (content .0) (content .1)
+      there : Fields (k .clocks) rest (locationPlace (k .clocks) i + 1) (locationAt n i) (onward rest (locationPlace (k .clocks) i + locationSize (k .clocks)))
+      there =
+          let w = recorded-looks byte _ (location-looks (k .automata) (k .clocks)) (onward rest (locationPlace (k .clocks) i)) (L .here i h) in
+          let e : w .1 ≡ onward rest (locationPlace (k .clocks) i + 1) = byte-takes _ (w .0) (w .1) (w .2) ∙ onward-onward rest (locationPlace (k .clocks) i) 1 in
+          fields (k .automata) (k .clocks) rest _ (locationAt n i) _ (ap (location (k .automata) (k .clocks)) (sym e) ∙ w .3)
 
       pub automaton-byte : getD rest (locationPlace (k .clocks) i + 1) 0 ≡ locationAt n i .automaton
-      unfolding at
-      automaton-byte = sym (here .0)
+      automaton-byte = byte-value rest (locationPlace (k .clocks) i + 1) (there .automaton)
 
       pub urgent-byte : getD rest (locationPlace (k .clocks) i + 2) 0 ≡ locationAt n i .urgent
-      unfolding at
-      urgent-byte = ap (λ (p : ℕ). getD rest p 0) (let e : locationPlace (k .clocks) i + 2 ≡ at + 1 + 1 = omega arith in e) ∙ sym (here .1)
+      urgent-byte = ap (λ (p : ℕ). getD rest p 0) (omega arith) ∙ byte-value rest (locationPlace (k .clocks) i + 1 + 1) (there .urgent)
 
       pub initial-byte : getD rest (locationPlace (k .clocks) i + 3) 0 ≡ locationAt n i .initial
-      unfolding at
-      initial-byte = ap (λ (p : ℕ). getD rest p 0) (let e : locationPlace (k .clocks) i + 3 ≡ at + 1 + 2 = omega arith in e) ∙ sym (here .2)
+      initial-byte = ap (λ (p : ℕ). getD rest p 0) (omega arith) ∙ byte-value rest (locationPlace (k .clocks) i + 1 + 2) (there .initial)
 
-      pub bounds-long : length (locationAt n i .bounds) ≡ 8
-      bounds-long = row-long (k .clocks) (onward rest (at + 1 + 3)) few-clocks (here .4)
-
-      pub declared-bound : (j : ℕ) → j < k .clocks → (u : List ℕ) × (byte4 (onward rest (locationPlace (k .clocks) i + (4 + j * 4))) ≡ got (getD (locationAt n i .bounds) j 0) u)
-      unfolding at
-      declared-bound j l =
-          let w = row-declared (k .clocks) (onward rest (at + 1 + 3)) (locationAt n i .bounds) (here .3) (here .4) j l in
-          (w .0, ap byte4 (ap (onward rest) (let e : locationPlace (k .clocks) i + (4 + j * 4) ≡ at + 1 + 3 + j * 4 = omega arith in e) ∙ sym (onward-onward rest (at + 1 + 3) (j * 4))) ∙ w .1)
-
-      pub undeclared-bound : (j : ℕ) → k .clocks ≤ j → j < 8 → getD (locationAt n i .bounds) j 0 ≡ no-bound
-      undeclared-bound j l b = row-undeclared (k .clocks) (onward rest (at + 1 + 3)) (locationAt n i .bounds) (here .3) (here .4) j l b
+      pub bounds-row : row (k .clocks) (onward rest (locationPlace (k .clocks) i + 4)) ≡ got (locationAt n i .bounds) (onward rest (locationPlace (k .clocks) i + locationSize (k .clocks)))
+      bounds-row = ap (λ (p : ℕ). row (k .clocks) (onward rest p)) (omega arith) ∙ there .bounds

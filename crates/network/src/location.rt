@@ -2,7 +2,6 @@
 ghost use mathlib.Core.Path.{_≡_};
 ghost use Prim.Native.Nat.{_+_, _<_};
 ghost use lib.Dec.{eqb};
-ghost use lib.ListN.{getD};
 ghost use Rattle.expr.specs.Reading.{byte, many, recorded, skipped};
 ghost use Rattle.expr.specs.Places.{onward, reached};
 ghost use Rattle.expr.specs.Clocks.{row, keeps};
@@ -81,7 +80,7 @@ pub fn read_locations(rest: &[u8], at: usize, counts: Counts) -> Reached
 }
 
 // The place of a byte of location i's record, which is the first at 0.
-fn location_place(clocks: u8, i: u8, byte: u16) -> usize
+fn location_place(clocks: u8, i: u8, byte: u8) -> usize
     ensures { λ r. ⌜ r ≡ locationPlace clocks i + byte ⌝ }
 {
     8 + (i as usize) * (4 + 4 * (clocks as usize)) + (byte as usize)
@@ -118,25 +117,15 @@ pub fn is_initial(rest: &[u8], counts: Counts, i: u8) -> bool
     }
 }
 
-// The bound of one clock.
-fn bound_at(rest: &[u8], counts: Counts, i: u8, clock: u8) -> u32
-    ensures { λ r. ⌜ ((n : Network) → Located (now (rest .entry)) counts n → i < counts .locations → clock < 8 → r ≡ getD (locationAt n i .bounds) clock 0) ⌝ }
-{
-    if clock < counts.clocks {
-        expr::field::word_at(rest, location_place(counts.clocks, i, 4 + (clock as u16) * 4))
-    } else {
-        4294967295
-    }
-}
-
+// The bounds of a location; from the count on none is said.
 pub fn bounds_of(rest: &[u8], counts: Counts, i: u8) -> [u32; 8]
     ensures { λ r. ⌜ ((n : Network) → Located (now (rest .entry)) counts n → i < counts .locations → r ≡ locationAt n i .bounds) ⌝ }
 {
-    let mut row = [0; 8];
-    for clock in 0..8 {
-        row[clock] = bound_at(rest, counts, i, clock as u8);
+    if counts.clocks > 8 {
+        return [4294967295; 8];
     }
-    row
+    let read = expr::clock::read_row(rest, location_place(counts.clocks, i, 4), counts.clocks as usize);
+    read.row
 }
 
 // Whether clocks keep the bounds of location i.

@@ -3,9 +3,8 @@ use Prim.Native.Nat.{ℕ, _-_}
 use lib.ListN.{length, drop}
 use borrow.Author.Tests.{not-true, not-false}
 use Rattle.expr.specs.Lists.{below, any}
-use Rattle.expr.proofs.Lists.{any-next, any-stop}
+use Rattle.expr.proofs.Lists.{any-next, any-stop, below-next, below-end}
 use Rattle.network.specs.Layout.{Located}
-use Rattle.network.proofs.Numbers.{below-next, below-end, below-count, past-count}
 use Rattle.network.specs.Network.{Network}
 use Rattle.network.specs.Machine.{place, urgent, urgentAt}
 use native.Mathlib.Omega.{arith}
@@ -31,7 +30,7 @@ is-urgent-requires c κs = search needs
 
 returns : tie.Need-returns Inv-loop μ-loop
 returns c = λ n L. let l = c .before .before .before in
-    sym (l .before .before .loop .inv n L ∙ any-stop _ (below-next _ _ (below-count _ (L .automata) (l .if1 .taken))) (ap (urgentAt n) (sym (c .before .before .place .ensures)) ∙ sym (c .before .is-urgent .ensures n L) ∙ c .if2 .taken))
+    sym (l .before .before .loop .inv n L ∙ any-stop _ (below-next (L .automata) _ (l .if1 .taken)) (ap (urgentAt n) (sym (c .before .before .place .ensures)) ∙ sym (c .before .is-urgent .ensures n L) ∙ c .if2 .taken))
 
 add-a : tie.Need-add-a Inv-loop μ-loop
 add-a c = omega arith
@@ -41,11 +40,11 @@ loop-less c = omega arith
 
 loop-again : tie.Need-loop-again Inv-loop μ-loop
 loop-again c = λ n L. let l = c .before .before .before in
-    l .before .before .loop .inv n L ∙ any-next _ (below-next _ _ (below-count _ (L .automata) (l .if1 .taken))) (ap (urgentAt n) (sym (c .before .before .place .ensures)) ∙ sym (c .before .is-urgent .ensures n L) ∙ c .if2 .left)
+    l .before .before .loop .inv n L ∙ any-next _ (below-next (L .automata) _ (l .if1 .taken)) (ap (urgentAt n) (sym (c .before .before .place .ensures)) ∙ sym (c .before .is-urgent .ensures n L) ∙ c .if2 .left)
 
 returns-2 : tie.Need-returns-2 Inv-loop μ-loop
 unfolding any
-returns-2 c = λ n L. sym (c .before .before .loop .inv n L ∙ ap (any _) (below-end _ _ (past-count _ (L .automata) (c .if1 .left))))
+returns-2 c = λ n L. sym (c .before .before .loop .inv n L ∙ ap (any _) (below-end (L .automata) _ (c .if1 .left)))
 
 pub urgent-spec : {M : Type 1} → statement M
 urgent-spec =

@@ -5,10 +5,9 @@ use Prim.Native.Nat.{ℕ, _+_, _-_, _≤_}
 use lib.Dec.{eqb}
 use lib.ListN.{length, drop}
 use Rattle.expr.specs.Lists.{below, keep}
-use Rattle.expr.proofs.Lists.{counted-next, counted-left, counted-all}
+use Rattle.expr.proofs.Lists.{counted-next, counted-left, counted-all, below-next, below-end}
 use Rattle.network.specs.Network.{Network, locationAt, initials}
 use Rattle.network.specs.Layout.{Located}
-use Rattle.network.proofs.Numbers.{below-next, below-end, below-count, past-count}
 use native.Mathlib.Omega.{arith}
 use borrow.Author.Needs.{needs}
 use Rattle.network.proofs.initial.count_initials.Statement.{statement}
@@ -40,12 +39,12 @@ loop-again : tie.Need-loop-again Inv-loop μ-loop
 loop-again c = let l = c .before .before in
     let g = l .before .before .loop .inv in
     ⊎-elim
-    (λ w. (omega (arith, w .1), λ n L. counted-next _ (below-next _ _ (below-count _ (L .locations) (l .if1 .taken))) _ (g .1 n L) (sym (c .before .is-initial-of .ensures n L) ∙ w .0 .taken) (w .1)))
-    (λ w. (omega (arith, w .1), λ n L. counted-left _ (below-next _ _ (below-count _ (L .locations) (l .if1 .taken))) _ (g .1 n L) (sym (c .before .is-initial-of .ensures n L) ∙ w .0 .left) (w .1)))
+    (λ w. (omega (arith, w .1), λ n L. counted-next _ (below-next (L .locations) _ (l .if1 .taken)) _ (g .1 n L) (sym (c .before .is-initial-of .ensures n L) ∙ w .0 .taken) (w .1)))
+    (λ w. (omega (arith, w .1), λ n L. counted-left _ (below-next (L .locations) _ (l .if1 .taken)) _ (g .1 n L) (sym (c .before .is-initial-of .ensures n L) ∙ w .0 .left) (w .1)))
     (c .if2 .came)
 
 returns : tie.Need-returns Inv-loop μ-loop
-returns c = λ n L. counted-all _ _ (c .before .before .loop .inv .1 n L) (below-end _ _ (past-count _ (L .locations) (c .if1 .left)))
+returns c = λ n L. counted-all _ _ (c .before .before .loop .inv .1 n L) (below-end (L .locations) _ (c .if1 .left))
 
 pub count-initials-spec : {M : Type 1} → statement M
 count-initials-spec =

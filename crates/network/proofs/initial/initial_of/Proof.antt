@@ -4,10 +4,10 @@ use mathlib.Core.List.{List}
 use Prim.Native.Nat.{ℕ, _-_}
 use lib.Dec.{eqb}
 use lib.ListN.{length, getD, drop}
+use Rattle.expr.proofs.Lists.{below-next, below-end, keep-next, keep-left}
 use Rattle.expr.specs.Lists.{below, keep}
 use Rattle.network.specs.Network.{Network, locationAt, initials}
 use Rattle.network.specs.Layout.{Located}
-use Rattle.network.proofs.Numbers.{below-next, below-end, below-count, past-count, keep-next, keep-left}
 use native.Mathlib.Omega.{arith}
 use borrow.Author.Needs.{needs}
 use Rattle.network.proofs.initial.initial_of.Statement.{statement}
@@ -28,7 +28,7 @@ is-initial-of-requires c κs = search needs
 
 returns : tie.Need-returns Inv-loop μ-loop
 returns c = λ n L. let l = c .before .before in
-    sym (ap (λ (k : List ℕ). getD k 0 0) (l .before .before .loop .inv n L ∙ keep-next _ (below-next _ _ (below-count _ (L .locations) (l .if1 .taken))) (sym (c .before .is-initial-of .ensures n L) ∙ c .if2 .taken)))
+    sym (ap (λ (k : List ℕ). getD k 0 0) (l .before .before .loop .inv n L ∙ keep-next _ (below-next (L .locations) _ (l .if1 .taken)) (sym (c .before .is-initial-of .ensures n L) ∙ c .if2 .taken)))
 
 add-i : tie.Need-add-i Inv-loop μ-loop
 add-i c = omega arith
@@ -38,11 +38,11 @@ loop-less c = omega arith
 
 loop-again : tie.Need-loop-again Inv-loop μ-loop
 loop-again c = λ n L. let l = c .before .before in
-    l .before .before .loop .inv n L ∙ keep-left _ (below-next _ _ (below-count _ (L .locations) (l .if1 .taken))) (sym (c .before .is-initial-of .ensures n L) ∙ c .if2 .left)
+    l .before .before .loop .inv n L ∙ keep-left _ (below-next (L .locations) _ (l .if1 .taken)) (sym (c .before .is-initial-of .ensures n L) ∙ c .if2 .left)
 
 returns-2 : tie.Need-returns-2 Inv-loop μ-loop
 unfolding keep
-returns-2 c = λ n L. sym (ap (λ (k : List ℕ). getD k 0 0) (c .before .before .loop .inv n L ∙ ap (keep _) (below-end _ _ (past-count _ (L .locations) (c .if1 .left)))))
+returns-2 c = λ n L. sym (ap (λ (k : List ℕ). getD k 0 0) (c .before .before .loop .inv n L ∙ ap (keep _) (below-end (L .locations) _ (c .if1 .left))))
 
 pub initial-of-spec : {M : Type 1} → statement M
 initial-of-spec =

@@ -3,9 +3,8 @@ use Prim.Native.Nat.{ℕ, _-_}
 use lib.ListN.{length, drop}
 use borrow.Author.Tests.{eq-eqb, ne-eqb}
 use Rattle.expr.specs.Lists.{below, all}
-use Rattle.expr.proofs.Lists.{all-next, all-stop}
+use Rattle.expr.proofs.Lists.{all-next, all-stop, below-next, below-end}
 use Rattle.network.specs.Layout.{Located}
-use Rattle.network.proofs.Numbers.{below-next, below-end, below-count, past-count}
 use lib.Dec.{eqb}
 use Rattle.network.specs.Network.{Network, initials}
 use native.Mathlib.Omega.{arith}
@@ -27,7 +26,7 @@ count-initials-requires c κs = search needs
 
 returns : tie.Need-returns Inv-loop μ-loop
 returns c = λ n L. let l = c .before .before in
-    sym (l .before .before .loop .inv n L ∙ all-stop _ (below-next _ _ (below-count _ (L .automata) (l .if1 .taken))) (ap (λ (x : ℕ). eqb x 1) (sym (c .before .count-initials .ensures n L)) ∙ ne-eqb _ 1 (c .if2 .taken)))
+    sym (l .before .before .loop .inv n L ∙ all-stop _ (below-next (L .automata) _ (l .if1 .taken)) (ap (λ (x : ℕ). eqb x 1) (sym (c .before .count-initials .ensures n L)) ∙ ne-eqb _ 1 (c .if2 .taken)))
 
 add-a : tie.Need-add-a Inv-loop μ-loop
 add-a c = omega arith
@@ -37,11 +36,11 @@ loop-less c = omega arith
 
 loop-again : tie.Need-loop-again Inv-loop μ-loop
 loop-again c = λ n L. let l = c .before .before in
-    l .before .before .loop .inv n L ∙ all-next _ (below-next _ _ (below-count _ (L .automata) (l .if1 .taken))) (ap (λ (x : ℕ). eqb x 1) (sym (c .before .count-initials .ensures n L)) ∙ eq-eqb _ 1 (c .if2 .left))
+    l .before .before .loop .inv n L ∙ all-next _ (below-next (L .automata) _ (l .if1 .taken)) (ap (λ (x : ℕ). eqb x 1) (sym (c .before .count-initials .ensures n L)) ∙ eq-eqb _ 1 (c .if2 .left))
 
 returns-2 : tie.Need-returns-2 Inv-loop μ-loop
 unfolding all
-returns-2 c = λ n L. sym (c .before .before .loop .inv n L ∙ ap (all _) (below-end _ _ (past-count _ (L .automata) (c .if1 .left))))
+returns-2 c = λ n L. sym (c .before .before .loop .inv n L ∙ ap (all _) (below-end (L .automata) _ (c .if1 .left)))
 
 pub one-initial-each-spec : {M : Type 1} → statement M
 one-initial-each-spec =

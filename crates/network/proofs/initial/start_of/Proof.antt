@@ -1,7 +1,7 @@
-use mathlib.Core.Path.{sym, _∙_}
+use mathlib.Core.Path.{sym, ap, _∙_}
+use lib.Dec.{ltb}
 use borrow.Author.Tests.{lt-ltb, le-ltb}
 use Rattle.expr.proofs.Bools.{cond-yes, cond-no}
-use Rattle.network.proofs.Numbers.{below-count, past-count}
 use borrow.Author.Needs.{needs}
 use Rattle.network.proofs.initial.start_of.Statement.{statement}
 use Rattle.network.proofs.initial.start_of.Tie as tie
@@ -10,10 +10,10 @@ initial-of-requires : tie.Need-initial-of-requires
 initial-of-requires c κs = search needs
 
 returns : tie.Need-returns
-returns c = λ n L. c .initial-of .ensures n L ∙ sym (cond-yes _ _ (lt-ltb _ _ (below-count _ (L .automata) (c .before .if1 .taken))))
+returns c = λ n L. c .initial-of .ensures n L ∙ sym (cond-yes _ _ (ap (ltb _) (L .automata) ∙ lt-ltb _ _ (c .before .if1 .taken)))
 
 returns-2 : tie.Need-returns-2
-returns-2 c = λ n L. sym (cond-no _ _ (le-ltb _ _ (past-count _ (L .automata) (c .if1 .left))))
+returns-2 c = λ n L. sym (cond-no _ _ (ap (ltb _) (L .automata) ∙ le-ltb _ _ (c .if1 .left)))
 
 pub start-of-spec : {M : Type 1} → statement M
 start-of-spec = tie.close (tie.spec initial-of-requires returns returns-2)

@@ -4,9 +4,9 @@ use Prim.Native.Nat.{_≤_}
 use lib.ListN.{length}
 use Rattle.expr.specs.Reading.{skipped}
 use Rattle.expr.specs.Places.{frameFault, frameOf}
-use Rattle.expr.proofs.Places.{recorded-fault, frame-fits, part-length, answered}
+use Rattle.expr.proofs.Places.{recorded-got, recorded-fault, frame-fits, part-length, answered}
 use Rattle.expr.proofs.Reading.{mapped-fault}
-use Rattle.network.proofs.Sizes.{recorded-skipped}
+use Rattle.expr.proofs.Skips.{skipped-recorded}
 use borrow.Author.Needs.{needs}
 use Rattle.network.proofs.location.location_at.Statement.{statement}
 use Rattle.network.proofs.location.location_at.Tie as tie
@@ -54,7 +54,8 @@ returns-2 : tie.Need-returns-2
 returns-2 c = let k = c .before .before .before in
     let l = c .before .read-location in
     rw (c .whole .ensures)
-    (recorded-skipped _ _ _ _ _ _ _ (l .result) (answered (frameOf _) (k .before .before .before .read-frame .ensures .0) (k .before .p .given .1)) (part-length _ _ _ (fits k .0) (fits k .1)) (l .ensures))
+    (recorded-got _ _ _ _ _ _ _ tt (l .result) (answered (frameOf _) (k .before .before .before .read-frame .ensures .0) (k .before .p .given .1)) (part-length _ _ _ (fits k .0) (fits k .1)) (l .ensures)
+    ∙ sym (skipped-recorded _ _ _))
 
 pub location-at-spec : {M : Type 1} → statement M
 location-at-spec =

@@ -1,26 +1,24 @@
 use mathlib.Core.Path.{_≡_, sym, ap, _∙_}
-use mathlib.Core.List.{List, []}
-use Prim.Native.Nat.{ℕ, _-_}
+use Prim.Native.Nat.{_-_}
 use Rattle.expr.specs.Reading.{such, byte4, skipped}
 use Rattle.expr.specs.Clocks.{isBound}
 use Rattle.expr.specs.Places.{onward, wordOf, wordFault}
 use Rattle.expr.proofs.Places.{answered}
 use Rattle.expr.proofs.Reading.{mapped-got, mapped-fault}
-use Rattle.expr.proofs.Many.{Going, going-none, going-more, going-stop, going-all}
-use Rattle.expr.proofs.Rows.{row-got, row-fault}
+use Rattle.expr.proofs.Skips.{Skipping, skipping-none, skipping-more, skipping-stop, skipping-all, skipped-row}
 use native.Mathlib.Omega.{arith}
 use borrow.Author.Needs.{needs}
 use Rattle.network.proofs.location.read_bounds.Statement.{statement}
 use Rattle.network.proofs.location.read_bounds.Tie as tie
 
 abbrev Inv-loop : tie.InvT-loop
-Inv-loop s at clocks place₀ i₀ place i = (seen : List ℕ) × Going (such byte4 isBound) clocks (onward s at) (onward s place) i seen
+Inv-loop s at clocks place₀ i₀ place i = Skipping (such byte4 isBound) clocks (onward s at) (onward s place) i
 
 abbrev μ-loop : tie.MeasureT-loop
 μ-loop s at clocks place₀ i₀ place i = clocks - i
 
 loop-holds : tie.Need-loop-holds Inv-loop μ-loop
-loop-holds c = ([], going-none _ _ _)
+loop-holds c = skipping-none _ _ _
 
 read-bound-requires : tie.Need-read-bound-requires Inv-loop μ-loop
 read-bound-requires c κs = search needs
@@ -36,8 +34,9 @@ word-fault-requires c κs = search needs
 
 returns : tie.Need-returns Inv-loop μ-loop
 unfolding skipped
-returns c = rw (c .word-fault .ensures ∙ ap wordFault (c .before .enum-told .given .1))
-    (sym (mapped-fault _ (row-fault _ _ (going-stop _ _ _ (c .before .before .before .before .before .loop .inv .1) (c .before .before .before .before .loop-test .taken) (answered (wordOf _) (c .before .before .before .read-bound .ensures) (c .before .enum-told .given .1))))))
+returns c = let l = c .before .before .before in
+    rw (c .word-fault .ensures ∙ ap wordFault (c .before .enum-told .given .1))
+    (sym (skipped-row _ _ ∙ skipping-stop _ _ _ (l .before .before .loop .inv) (l .before .loop-test .taken) (mapped-fault _ (answered (wordOf _) (l .read-bound .ensures) (c .before .enum-told .given .1)))))
 
 add-i : tie.Need-add-i Inv-loop μ-loop
 add-i c = omega arith
@@ -46,13 +45,12 @@ loop-less : tie.Need-loop-less Inv-loop μ-loop
 loop-less c = omega arith
 
 loop-again : tie.Need-loop-again Inv-loop μ-loop
-loop-again c = let g = c .before .before .before .before .before .loop .inv in
-    (_, going-more _ _ _ (g .1) (c .before .before .before .before .loop-test .taken) (answered (wordOf _) (c .before .before .before .read-bound .ensures) (c .before .w .given .1)))
+unfolding skipped
+loop-again c = let l = c .before .before .before in
+    skipping-more _ _ _ (l .before .before .loop .inv) (l .before .loop-test .taken) (mapped-got _ (answered (wordOf _) (l .read-bound .ensures) (c .before .w .given .1)))
 
 returns-2 : tie.Need-returns-2 Inv-loop μ-loop
-unfolding skipped
-returns-2 c = let a = going-all _ _ _ (c .before .loop .inv .1) (c .loop-test .left) in
-    sym (mapped-got _ (row-got _ _ _ _ (a .0) (a .1)))
+returns-2 c = sym (skipped-row _ _ ∙ skipping-all _ _ _ (c .before .loop .inv) (c .loop-test .left))
 
 pub read-bounds-spec : {M : Type 1} → statement M
 read-bounds-spec =

@@ -1,25 +1,23 @@
 use mathlib.Core.Path.{_≡_, sym, ap, _∙_}
-use mathlib.Core.List.{List, []}
 use Prim.Native.Nat.{_-_}
-use Rattle.expr.specs.Reading.{byte, recorded, skipped}
+use Rattle.expr.specs.Reading.{byte, recorded}
 use Rattle.expr.specs.Places.{onward, reached}
 use Rattle.expr.proofs.Places.{answered}
-use Rattle.expr.proofs.Reading.{mapped-got, mapped-fault, mapped-at, fault-at}
-use Rattle.expr.proofs.Many.{Going, going-none, going-more, going-stop, going-all}
-use Rattle.network.specs.Network.{Location, location}
+use Rattle.expr.proofs.Skips.{Skipping, skipping-none, skipping-more, skipping-stop, skipping-all}
+use Rattle.network.specs.Network.{location}
 use native.Mathlib.Omega.{arith}
 use borrow.Author.Needs.{needs}
 use Rattle.network.proofs.location.read_locations.Statement.{statement}
 use Rattle.network.proofs.location.read_locations.Tie as tie
 
 abbrev Inv-loop : tie.InvT-loop
-Inv-loop rest at counts place₀ i₀ place i = (seen : List Location) × Going (recorded byte (location (counts .automata) (counts .clocks))) (counts .locations) (onward rest at) (onward rest place) i seen
+Inv-loop rest at counts place₀ i₀ place i = Skipping (recorded byte (location (counts .automata) (counts .clocks))) (counts .locations) (onward rest at) (onward rest place) i
 
 abbrev μ-loop : tie.MeasureT-loop
 μ-loop rest at counts place₀ i₀ place i = counts .locations - i
 
 loop-holds : tie.Need-loop-holds Inv-loop μ-loop
-loop-holds c = ([], going-none _ _ _)
+loop-holds c = skipping-none _ _ _
 
 location-at-requires : tie.Need-location-at-requires Inv-loop μ-loop
 location-at-requires c κs = search needs
@@ -31,10 +29,9 @@ enum-told : tie.Need-enum-told Inv-loop μ-loop
 enum-told c = search needs
 
 returns : tie.Need-returns Inv-loop μ-loop
-unfolding skipped
 returns c = let l = c .before .before in
     ap (reached _ tt) (c .enum-told .given .1)
-    ∙ sym (mapped-fault _ (going-stop _ _ _ (l .before .before .before .loop .inv .1) (l .before .if1 .taken) (fault-at _ _ (answered (reached _ tt) (l .location-at .ensures) (c .enum-told .given .1)))))
+    ∙ sym (skipping-stop _ _ _ (l .before .before .before .loop .inv) (l .before .if1 .taken) (answered (reached _ tt) (l .location-at .ensures) (c .enum-told .given .1)))
 
 add-i : tie.Need-add-i Inv-loop μ-loop
 add-i c = omega arith
@@ -43,13 +40,11 @@ loop-less : tie.Need-loop-less Inv-loop μ-loop
 loop-less c = omega arith
 
 loop-again : tie.Need-loop-again Inv-loop μ-loop
-unfolding skipped
 loop-again c = let l = c .before .before .before in
-    (_, going-more _ _ _ (l .before .before .before .loop .inv .1) (l .before .if1 .taken) (mapped-at _ _ (answered (reached _ tt) (l .location-at .ensures) (c .before .q .given .1)) .1))
+    skipping-more _ _ _ (l .before .before .before .loop .inv) (l .before .if1 .taken) (answered (reached _ tt) (l .location-at .ensures) (c .before .q .given .1))
 
 returns-2 : tie.Need-returns-2 Inv-loop μ-loop
-unfolding skipped
-returns-2 c = sym (mapped-got _ (going-all _ _ _ (c .before .before .loop .inv .1) (c .if1 .left) .0))
+returns-2 c = sym (skipping-all _ _ _ (c .before .before .loop .inv) (c .if1 .left))
 
 pub read-locations-spec : {M : Type 1} → statement M
 read-locations-spec =
