@@ -8,7 +8,7 @@ use native.Mathlib.Nat.{zero-mul, suc-mul}
 use borrow.Author.Tests.{eqb-true}
 use lib.Dec.{leb, eqb}
 use lib.ListN.{length, getD, take, drop, take-append-drop}
-use Rattle.expr.specs.Reading.{Fault, got, fault, Reader, yield, next, _>>=_, field, byte, byte2, byte4, such, many, end, framed, whole, recorded}
+use Rattle.expr.specs.Reading.{Fault, got, fault, Reader, yield, _>>=_, field, byte, byte2, byte4, such, many, end, framed, whole, recorded}
 use Rattle.expr.specs.Clocks.{row, isBound}
 use Rattle.expr.specs.Places.{onward, reached}
 use Rattle.expr.specs.declared.field.Reached.{Reached}
@@ -93,9 +93,11 @@ recorded-looks {A} size r f s {a} {t} h =
     part : {p v : List ℕ} (n : ℕ) (u : List ℕ) (b : Bool) → leb n (length u) ≡ b → cond b (got (take n u) (drop n u)) (fault Fault.length-fault) ≡ got p v → (p ≡ take n u) × (v ≡ drop n u)
     part n u true e k = (cc, cc)
     part n u false e k = no-answer k
+
     none : {x : Unit {0}} {y : List ℕ} (v : List ℕ) (b : Bool) → eqb (length v) 0 ≡ b → cond b (got tt v) (fault Fault.length-fault) ≡ got x y → v ≡ []
     none [] b e k = refl
     none (x ∷ v) true e k = absurd (omega (arith, eqb-true (length (x ∷ v)) 0 e))
     none (x ∷ v) false e k = no-answer k
+
     joined : (n : ℕ) (u p v : List ℕ) (b : A) (q : List ℕ) → p ≡ take n u → v ≡ drop n u → r p ≡ got b q → q ≡ [] → got b v ≡ got a t → r u ≡ got a t
     joined n u p v b q e g k o l = ap r (sym (take-append-drop n u)) ∙ ap (λ (m : List ℕ). r (m ++ drop n u)) (sym e) ∙ f p (drop n u) b q k ∙ ap (λ (m : List ℕ). got b (m ++ drop n u)) o ∙ ap (got b) (sym g) ∙ l

@@ -124,7 +124,11 @@ pub fn bounds_of(rest: &[u8], counts: Counts, i: u8) -> [u32; 8]
     if counts.clocks > 8 {
         return [4294967295; 8];
     }
-    let read = expr::clock::read_row(rest, location_place(counts.clocks, i, 4), counts.clocks as usize);
+    let read = expr::clock::read_row(
+        rest,
+        location_place(counts.clocks, i, 4),
+        counts.clocks as usize,
+    );
     read.row
 }
 

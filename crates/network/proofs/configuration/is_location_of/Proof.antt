@@ -1,9 +1,6 @@
 use borrow.Author.Needs.{needs}
 use Rattle.network.proofs.configuration.is_location_of.Statement.{statement}
 use Rattle.network.proofs.configuration.is_location_of.Tie as tie
-use Rattle.network.proofs.configuration.is_location_of.Reads as reads
-use Rattle.network.proofs.configuration.is_location_of.Lts as lts
-use Rattle.network.proofs.location.automaton_of.Reads as automaton-of-reads
 
 -- src/configuration.rt:86:15
 automaton-of-requires : tie.Need-automaton-of-requires

@@ -5,8 +5,6 @@ use Rattle.network.specs.Machine.{place}
 use borrow.Author.Needs.{needs}
 use Rattle.network.proofs.configuration.place.Statement.{statement}
 use Rattle.network.proofs.configuration.place.Tie as tie
-use Rattle.network.proofs.configuration.place.Reads as reads
-use Rattle.network.proofs.configuration.place.Lts as lts
 
 -- src/configuration.rt:49:17
 array-read-result : tie.Need-array-read-result

@@ -1,7 +1,6 @@
 use mathlib.Core.Path.{_≡_, refl, sym, ap, _∙_}
-use Prim.Native.Nat.{ℕ, _-_}
-use lib.ListN.{length, drop}
-use borrow.Author.Tests.{not-true, not-false}
+use Prim.Native.Nat.{_-_}
+use lib.ListN.{drop}
 use Rattle.expr.specs.Lists.{below, any}
 use Rattle.expr.proofs.Lists.{any-next, any-stop, below-next, below-end}
 use Rattle.network.specs.Layout.{Located}

@@ -1,12 +1,8 @@
-use mathlib.Core.Path.{_≡_, ap₂, _∙_}
+use mathlib.Core.Path.{ap₂, _∙_}
 use Prim.Native.Nat.{ℕ, _+_, _*_}
 use borrow.Author.Needs.{needs}
 use Rattle.network.proofs.header.counts_at.Statement.{statement}
 use Rattle.network.proofs.header.counts_at.Tie as tie
-use Rattle.network.proofs.header.counts_at.Reads as reads
-use Rattle.network.proofs.header.counts_at.Lts as lts
-use Rattle.expr.proofs.field.byte_at.Reads as byte-at-reads
-use Rattle.expr.proofs.field.short_of.Reads as short-of-reads
 
 -- src/header.rt:45:19
 byte-at-requires : tie.Need-byte-at-requires
@@ -47,14 +43,14 @@ byte-at-requires-8 c κs = search needs
 -- src/header.rt:41:1
 returns : tie.Need-returns
 returns c = λ j. record {
-      automata = c .before .before .before .before .before .before .before .before .byte-at .ensures j;
-      locations = c .before .before .before .before .before .before .before .byte-at2 .ensures j;
-      edges = (c .before .before .before .before .short-of .ensures ∙ ap₂ (λ (a b : ℕ). 256 * a + b) (c .before .before .before .before .before .before .byte-at3 .ensures) (c .before .before .before .before .before .byte-at4 .ensures)) j;
-      clocks = c .before .before .before .byte-at5 .ensures j;
-      variables = c .before .before .byte-at6 .ensures j;
-      rendezvous = c .before .byte-at7 .ensures j;
-      broadcasts = c .byte-at8 .ensures j;
-    }
+  automata = c .before .before .before .before .before .before .before .before .byte-at .ensures j;
+  locations = c .before .before .before .before .before .before .before .byte-at2 .ensures j;
+  edges = (c .before .before .before .before .short-of .ensures ∙ ap₂ (λ (a b : ℕ). 256 * a + b) (c .before .before .before .before .before .before .byte-at3 .ensures) (c .before .before .before .before .before .byte-at4 .ensures)) j;
+  clocks = c .before .before .before .byte-at5 .ensures j;
+  variables = c .before .before .byte-at6 .ensures j;
+  rendezvous = c .before .byte-at7 .ensures j;
+  broadcasts = c .byte-at8 .ensures j;
+}
 
 pub counts-at-spec : {M : Type 1} → statement M
 counts-at-spec =

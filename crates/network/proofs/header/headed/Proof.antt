@@ -3,9 +3,6 @@ use Rattle.network.specs.Network.{headed}
 use borrow.Author.Needs.{needs}
 use Rattle.network.proofs.header.headed.Statement.{statement}
 use Rattle.network.proofs.header.headed.Tie as tie
-use Rattle.network.proofs.header.headed.Reads as reads
-use Rattle.network.proofs.header.headed.Lts as lts
-use Rattle.expr.proofs.field.word_of.Reads as word-of-reads
 
 -- src/header.rt:35:9
 returns : tie.Need-returns

@@ -1,17 +1,11 @@
-use mathlib.Core.Path.{_≡_, refl, sym, ap, _∙_}
-use Prim.Native.Nat.{ℕ, _<_}
-use lib.Dec.{eqb}
+use mathlib.Core.Path.{sym, ap, _∙_}
+use Prim.Native.Nat.{ℕ}
 use lib.ListN.{getD}
 use Rattle.network.specs.Network.{Location}
-use Rattle.network.specs.Machine.{urgentAt}
-use Rattle.network.proofs.Records.{no-location, automaton-byte, urgent-byte, initial-byte}
+use Rattle.network.proofs.Records.{no-location, automaton-byte}
 use borrow.Author.Needs.{needs}
 use Rattle.network.proofs.location.automaton_of.Statement.{statement}
 use Rattle.network.proofs.location.automaton_of.Tie as tie
-use Rattle.network.proofs.location.automaton_of.Reads as reads
-use Rattle.network.proofs.location.automaton_of.Lts as lts
-use Rattle.expr.proofs.field.byte_at.Reads as byte-at-reads
-use Rattle.network.proofs.location.location_place.Reads as location-place-reads
 
 -- src/location.rt:95:36
 location-place-requires : tie.Need-location-place-requires

@@ -4,8 +4,6 @@ use native.Mathlib.Nat.{mul-le-mul}
 use borrow.Author.Needs.{needs}
 use Rattle.network.proofs.location.location_place.Statement.{statement}
 use Rattle.network.proofs.location.location_place.Tie as tie
-use Rattle.network.proofs.location.location_place.Reads as reads
-use Rattle.network.proofs.location.location_place.Lts as lts
 
 -- src/location.rt:87:29
 mul-result : tie.Need-mul-result

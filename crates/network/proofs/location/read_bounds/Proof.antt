@@ -1,4 +1,4 @@
-use mathlib.Core.Path.{_≡_, sym, ap, _∙_}
+use mathlib.Core.Path.{sym, ap, _∙_}
 use Prim.Native.Nat.{_-_}
 use Rattle.expr.specs.Reading.{such, byte4, skipped}
 use Rattle.expr.specs.Clocks.{isBound}

@@ -1,4 +1,4 @@
-use mathlib.Core.Path.{_≡_, sym, ap, _∙_}
+use mathlib.Core.Path.{sym, ap, _∙_}
 use Rattle.expr.specs.Reading.{skipped}
 use Rattle.expr.specs.Clocks.{row}
 use Rattle.expr.specs.Places.{byteFault, byteOf}
