@@ -1,3 +1,6 @@
 // The network machine.
 pub mod configuration;
+pub mod header;
+pub mod initial;
 pub mod location;
+pub mod wait;

@@ -1,0 +1,4 @@
+-- Laws of the definitions of this crate.
+pub mod Headers
+pub mod Records
+pub mod Waits
