@@ -15,7 +15,7 @@ use Rattle.expr.specs.declared.field.Reached.{Reached}
 use Rattle.expr.specs.declared.field.Reached.the-variants as Rd
 use Rattle.expr.proofs.Reading.{no-answer, got-value, next-at, bind-at, yield-rest, such-at}
 use Rattle.expr.proofs.Places.{onward-all, onward-onward, getD-here}
-use Rattle.expr.proofs.Suffixes.{Looks, field-at, yield-looks, bind-looks, such-looks, many-looks, byte4-looks}
+use Rattle.expr.proofs.InFront.{InFront, field-at, yield-front, bind-front, such-front, many-front, byte4-front}
 use Rattle.expr.proofs.Rows.{bounds}
 
 -- what follows a value that is read stands so many bytes on
@@ -31,7 +31,8 @@ bind-takes r k n m f g s b t h =
     g (w .0) (w .1) b t (w .3) ∙ ap (λ (l : List ℕ). onward l m) (f s (w .0) (w .1) (w .2)) ∙ onward-onward s n m
 
 pub field-takes : (n : ℕ) (value : List ℕ → ℕ) → Takes (field n value) n
-field-takes n value s x t h = field-at n value s x t h .2
+unfolding onward
+field-takes n value s x t h = field-at n value s h .2
 
 pub byte-takes : Takes byte 1
 unfolding byte
@@ -68,21 +69,21 @@ onto s at n r k {a} {u} {t} e f g h =
 -- the byte that is read at a place
 pub byte-value : (s : List ℕ) (at : ℕ) {x : ℕ} {t : List ℕ} → byte (onward s at) ≡ got x t → getD s at 0 ≡ x
 unfolding byte
-byte-value s at h = sym (field-at 1 _ (onward s at) _ _ h .1 ∙ getD-here s at)
+byte-value s at h = sym (field-at 1 _ (onward s at) h .1 ∙ getD-here s at)
 
 -- the value that is read
 pub reached-value : {A : Type 0} (s : List ℕ) (a : A) (q : Reached) {b : A} {t : List ℕ} → reached s a q ≡ got b t → a ≡ b
 reached-value s a (Rd.At n) h = got-value h
 reached-value s a (Rd.Fault f) h = no-answer h
 
-pub row-looks : (n : ℕ) → Looks (row n)
+pub row-front : (n : ℕ) → InFront (row n)
 unfolding row
-row-looks n = bind-looks (bounds n) _ (many-looks n _ (such-looks byte4 isBound byte4-looks)) (λ bs. yield-looks _)
+row-front n = bind-front (bounds n) _ (many-front n _ (such-front byte4 isBound byte4-front)) (λ bs. yield-front _)
 
 -- a record's bytes, where they stand in the file: the content is read after the length
-pub recorded-looks : {A : Type 0} (size : Reader ℕ) (r : Reader A) → Looks r → (s : List ℕ) {a : A} {t : List ℕ} → recorded size r s ≡ got a t → (n : ℕ) × (u : List ℕ) × (size s ≡ got n u) × (r u ≡ got a t)
+pub recorded-front : {A : Type 0} (size : Reader ℕ) (r : Reader A) → InFront r → (s : List ℕ) {a : A} {t : List ℕ} → recorded size r s ≡ got a t → (n : ℕ) × (u : List ℕ) × (size s ≡ got n u) × (r u ≡ got a t)
 unfolding recorded framed whole end
-recorded-looks {A} size r f s {a} {t} h =
+recorded-front {A} size r f s {a} {t} h =
     let w = bind-at (framed size) _ s h in
     let z = bind-at size _ s (w .2) in
     let x = next-at (r (w .0)) _ (w .3) in
@@ -100,4 +101,4 @@ recorded-looks {A} size r f s {a} {t} h =
     none (x ∷ v) false e k = no-answer k
 
     joined : (n : ℕ) (u p v : List ℕ) (b : A) (q : List ℕ) → p ≡ take n u → v ≡ drop n u → r p ≡ got b q → q ≡ [] → got b v ≡ got a t → r u ≡ got a t
-    joined n u p v b q e g k o l = ap r (sym (take-append-drop n u)) ∙ ap (λ (m : List ℕ). r (m ++ drop n u)) (sym e) ∙ f p (drop n u) b q k ∙ ap (λ (m : List ℕ). got b (m ++ drop n u)) o ∙ ap (got b) (sym g) ∙ l
+    joined n u p v b q e g k o l = ap r (sym (take-append-drop n u)) ∙ ap (λ (m : List ℕ). r (m ++ drop n u)) (sym e) ∙ f .alike p (drop n u) k ∙ ap (λ (m : List ℕ). got b (m ++ drop n u)) o ∙ ap (got b) (sym g) ∙ l

@@ -13,8 +13,8 @@ use Rattle.expr.specs.Clocks.{row}
 use Rattle.expr.proofs.Bools.{parts}
 use Rattle.expr.proofs.Places.{onward-all, onward-onward}
 use Rattle.expr.proofs.Reading.{bind-at, then-at, yield-at, yield-rest, such-at, many-at}
-use Rattle.expr.proofs.Suffixes.{Looks, bind-looks, yield-looks, such-looks, byte-looks}
-use Rattle.expr.proofs.Sizes.{Takes, byte-takes, row-takes, row-looks, recorded-looks, onto, byte-value}
+use Rattle.expr.proofs.InFront.{InFront, bind-front, yield-front, such-front, byte-front}
+use Rattle.expr.proofs.Sizes.{Takes, byte-takes, row-takes, row-front, recorded-front, onto, byte-value}
 use Rattle.expr.proofs.Many.{many-nth}
 use Rattle.network.specs.Network.{Location, Network, location, records, locationAt, zeroLocation, inRange}
 use Rattle.network.specs.Layout.{locationSize, locationPlace, Located}
@@ -28,11 +28,11 @@ record Fields (clocks : ℕ) (s : List ℕ) (at : ℕ) (l : Location) (t : List 
   bounds : row clocks (onward s (at + 3)) ≡ got (l .bounds) t
 
 module _ (automata clocks : ℕ) where
-  location-looks : Looks (location automata clocks)
+  location-front : InFront (location automata clocks)
   unfolding location
-  location-looks =
-      bind-looks _ _ (such-looks _ _ byte-looks) λ a. bind-looks _ _ (such-looks _ _ byte-looks) λ u. bind-looks _ _ (such-looks _ _ byte-looks) λ i.
-      bind-looks _ _ (row-looks clocks) λ r. yield-looks _
+  location-front =
+      bind-front _ _ (such-front _ _ byte-front) λ a. bind-front _ _ (such-front _ _ byte-front) λ u. bind-front _ _ (such-front _ _ byte-front) λ i.
+      bind-front _ _ (row-front clocks) λ r. yield-front _
 
   fields : (s : List ℕ) (at : ℕ) (l : Location) (t : List ℕ) → location automata clocks (onward s at) ≡ got l t → Fields clocks s at l t
   unfolding location
@@ -57,7 +57,7 @@ module _ (automata clocks : ℕ) where
   -- a record is as long as locationSize says
   pub record-takes : Takes (recorded byte (location automata clocks)) (locationSize clocks)
   record-takes s l t h =
-      let w = recorded-looks byte _ location-looks s h in
+      let w = recorded-front byte _ location-front s h in
       location-takes (w .1) l t (w .3) ∙ ap (λ (b : List ℕ). onward b (3 + 4 * clocks)) (byte-takes s (w .0) (w .1) (w .2)) ∙ onward-onward s 1 (3 + 4 * clocks) ∙ ap (onward s) (omega arith)
 
 -- where the locations are read, they stand at their places
@@ -101,7 +101,7 @@ module _ {rest : List ℕ} {k : Counts} {n : Network} (L : Located rest k n) whe
     module _ (h : i < k .locations) where
       there : Fields (k .clocks) rest (locationPlace (k .clocks) i + 1) (locationAt n i) (onward rest (locationPlace (k .clocks) i + locationSize (k .clocks)))
       there =
-          let w = recorded-looks byte _ (location-looks (k .automata) (k .clocks)) (onward rest (locationPlace (k .clocks) i)) (L .here i h) in
+          let w = recorded-front byte _ (location-front (k .automata) (k .clocks)) (onward rest (locationPlace (k .clocks) i)) (L .here i h) in
           let e : w .1 ≡ onward rest (locationPlace (k .clocks) i + 1) = byte-takes _ (w .0) (w .1) (w .2) ∙ onward-onward rest (locationPlace (k .clocks) i) 1 in
           fields (k .automata) (k .clocks) rest _ (locationAt n i) _ (ap (location (k .automata) (k .clocks)) (sym e) ∙ w .3)
 
