@@ -8,7 +8,8 @@ use borrow.Author.Tests.{leb-true, eqb-true}
 use lib.Dec.{leb, eqb}
 use lib.ListN.{length, getD}
 use Rattle.expr.specs.Answer.{done, refused, unless}
-use Rattle.expr.proofs.Bools.{both, parts}
+use Rattle.expr.proofs.Bools.{and-l, and-r, both, parts}
+use Rattle.expr.proofs.Answer.{unless-at}
 use Rattle.network.specs.Network.{headed, countsAt, inRange, countsOf}
 use Rattle.network.specs.declared.header.Counts.{Counts}
 
@@ -34,3 +35,11 @@ module _ (file : List ℕ) where
       let l : leb 13 (length file) ≡ true = search parts in
       let e : eqb (256 * (256 * (256 * getD file 1 0 + getD file 2 0) + getD file 3 0) + getD file 4 0) (length file - 5) ≡ true = search parts in
       (leb-true 13 (length file) l, omega (arith, eqb-true (256 * (256 * (256 * getD file 1 0 + getD file 2 0) + getD file 3 0) + getD file 4 0) (length file - 5) e))
+
+  -- counts that are answered are those that stand in the file, and in range
+  pub counts-at : {k : Counts} → countsOf file ≡ done k → (headed file ≡ true) × (inRange k ≡ true) × (k ≡ countsAt file)
+  unfolding countsOf
+  counts-at {k} h =
+      let w = unless-at 24 (headed file && inRange (countsAt file)) (done (countsAt file)) h in
+      let e : k ≡ countsAt file = let q = w .1 in cc in
+      (and-l (headed file) (inRange (countsAt file)) (w .0), ap inRange e ∙ and-r (headed file) (inRange (countsAt file)) (w .0), e)

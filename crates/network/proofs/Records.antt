@@ -7,18 +7,22 @@ use native.Mathlib.Omega.{arith}
 use borrow.Author.Tests.{leb-true}
 use lib.Dec.{leb}
 use lib.ListN.{getD, List·getD-eq-default}
-use Rattle.expr.specs.Reading.{got, byte, many, recorded}
+use Rattle.expr.specs.Reading.{length-fault, range-fault, Read, got, fault, byte, many, recorded}
+use Rattle.expr.specs.Answer.{done}
 use Rattle.expr.specs.Places.{onward}
 use Rattle.expr.specs.Clocks.{row}
 use Rattle.expr.proofs.Bools.{parts}
+use Rattle.expr.proofs.Answer as answer
+use Rattle.expr.proofs.Answer.{unless-at, refused-not}
 use Rattle.expr.proofs.Places.{onward-all, onward-onward}
 use Rattle.expr.proofs.Reading.{bind-at, then-at, yield-at, yield-rest, such-at, many-at}
 use Rattle.expr.proofs.InFront.{InFront, bind-front, yield-front, such-front, byte-front}
 use Rattle.expr.proofs.Sizes.{Takes, byte-takes, row-takes, row-front, recorded-front, onto, byte-value}
 use Rattle.expr.proofs.Many.{many-nth}
-use Rattle.network.specs.Network.{Location, Network, location, records, locationAt, zeroLocation, inRange}
+use Rattle.network.specs.Network.{Location, Network, location, records, numbered, countsOf, readNetwork, networkOf, sound, locationAt, zeroLocation, inRange}
 use Rattle.network.specs.Layout.{locationSize, locationPlace, Located}
 use Rattle.network.specs.declared.header.Counts.{Counts}
+use Rattle.network.proofs.Headers.{counts-at}
 
 -- the fields of a location that is read at a place
 record Fields (clocks : ℕ) (s : List ℕ) (at : ℕ) (l : Location) (t : List ℕ) : Type 0 where
@@ -87,6 +91,26 @@ module _ (rest : List ℕ) (k : Counts) (r : inRange k ≡ true) (n : Network) w
       let c = then-at _ _ (b .1) (b .3) in
       let e = yield-at (c .1) (c .3) in
       located (ap (λ (m : Network). m .automata) (sym e)) (ap (λ (m : Network). m .clocks) (sym e)) (ap (λ (m : Network). m .variables) (sym e)) (ap (λ (m : Network). m .rendezvous) (sym e)) (a .1) (a .2 ∙ ap (λ (m : Network). got (m .locations) (a .1)) e)
+
+-- the same of a file that is accepted: its bytes after version and length have the locations
+numbered-at : {A : Type 0} (q : Read A) {a : A} → numbered q ≡ done a → (t : List ℕ) × (q ≡ got a t)
+unfolding numbered
+numbered-at (got b t) h = (t, cc)
+numbered-at (fault length-fault) h = refused-not h
+numbered-at (fault range-fault) h = refused-not h
+
+pub network-located : (file : List ℕ) (n : Network) → networkOf file ≡ done n → (k : Counts) × (countsOf file ≡ done k) × Located (onward file 5) k n
+unfolding networkOf readNetwork
+network-located file n h =
+    let a = answer.then-at (readNetwork file) _ h in
+    let b = answer.then-at (countsOf file) _ (a .1) in
+    let k = b .0 in
+    let w = numbered-at (records k (onward file 13)) (b .2) in
+    let same : a .0 ≡ n = let q = unless-at 25 (sound (a .0)) (done (a .0)) (a .2) .1 in cc in (
+      k,
+      b .1,
+      records-located (onward file 5) k (counts-at file (b .1) .1) n (w .0) (ap (records k) (onward-onward file 5 8) ∙ w .1 ∙ ap (λ (m : Network). got m (w .0)) same),
+    )
 
 -- each field of a location, by its place; from the count on there is no location
 module _ {rest : List ℕ} {k : Counts} {n : Network} (L : Located rest k n) where

@@ -7,8 +7,8 @@ use Rattle.network.specs.declared.header.Counts.{Counts}
 use Rattle.network.specs.declared.header.HeaderRead.{HeaderRead}
 use Rattle.network.specs.declared.header.HeaderRead.the-variants as Hd
 use Rattle.network.specs.declared.configuration.Configuration.{Configuration}
-use Rattle.network.specs.declared.wait.Verdict.the-variants as Vd
-use Rattle.network.specs.declared.wait.Moved.{Moved}
+use Rattle.network.specs.declared.moved.Verdict.the-variants as Vd
+use Rattle.network.specs.declared.moved.Moved.{Moved}
 
 abbrev pub headerOf : HeaderRead → Answer Counts
 headerOf (Hd.Counts k) = done k

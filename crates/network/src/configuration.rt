@@ -46,7 +46,11 @@ pub fn place(c: Configuration, automaton: u8) -> u8
 {
     let locations = c.locations;
     let i = automaton as usize;
-    if i < 16 { locations[i] } else { 0 }
+    if i < Configuration::AUTOMATA {
+        locations[i]
+    } else {
+        0
+    }
 }
 
 // Whether the clocks keep the bounds of all occupied locations.

@@ -3,4 +3,5 @@ pub mod configuration;
 pub mod header;
 pub mod initial;
 pub mod location;
+pub mod moved;
 pub mod wait;

@@ -1,6 +1,5 @@
 // Waiting.
 ghost use mathlib.Core.Path.{_≡_};
-ghost use Rattle.expr.specs.Answer.{refused as no};
 ghost use Rattle.network.specs.Network.{Network};
 ghost use Rattle.network.specs.Machine.{wait};
 ghost use Rattle.network.specs.Answers.{movedOf};
@@ -10,27 +9,9 @@ use crate::configuration::bounds_kept;
 use crate::configuration::is_configuration;
 use crate::configuration::urgent;
 use crate::header::Counts;
-
-pub enum Verdict {
-    Done,
-    Refused(u8),
-}
-
-// What became of a call, and the configuration after it.
-pub struct Moved {
-    pub verdict: Verdict,
-    pub configuration: Configuration,
-}
-
-// A refused call leaves the configuration as it was.
-fn refused(number: u8, c: Configuration) -> Moved
-    ensures { λ r. ⌜ r ≡ movedOf c (no number) ⌝ }
-{
-    Moved {
-        verdict: Verdict::Refused(number),
-        configuration: c,
-    }
-}
+use crate::moved::Moved;
+use crate::moved::Verdict;
+use crate::moved::refused;
 
 // Every declared clock so many ticks later, on a checked file.
 pub fn wait_checked(rest: &[u8], counts: Counts, c: Configuration, ticks: u32) -> Moved
