@@ -1,0 +1,9 @@
+-- What the answers of the code stand for.
+use Rattle.expr.specs.Answer.{Answer, done, refused}
+use Rattle.chart.specs.declared.header.Counts.{Counts}
+use Rattle.chart.specs.declared.header.HeaderRead.{HeaderRead}
+use Rattle.chart.specs.declared.header.HeaderRead.the-variants as Hd
+
+abbrev pub headerOf : HeaderRead → Answer Counts
+headerOf (Hd.Counts n) = done n
+headerOf (Hd.Refused k) = refused k
