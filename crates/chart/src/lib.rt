@@ -1,3 +1,4 @@
 // The check of charts, and the chart machine.
 pub mod configuration;
 pub mod header;
+pub mod state;

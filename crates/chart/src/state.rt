@@ -1,0 +1,81 @@
+// The state records of a chart file.
+ghost use mathlib.Core.Path.{_≡_};
+ghost use Rattle.expr.specs.Reading.{byte, many, recorded, skipped};
+ghost use Rattle.expr.specs.Places.{onward, reached};
+ghost use Rattle.expr.specs.Clocks.{row};
+ghost use Rattle.chart.specs.Chart.{state};
+use crate::header::Counts;
+use expr::field::ByteRead;
+use expr::field::Frame;
+use expr::field::Reached;
+use expr::field::ShortRead;
+use expr::field::WordRead;
+
+// Past the bounds of so many clocks.
+fn read_bounds(s: &[u8], at: usize, clocks: u8) -> Reached
+    ensures { λ r. ⌜ reached (now (s .entry)) tt r ≡ skipped (row clocks (onward (now (s .entry)) at)) ⌝ }
+{
+    let mut place = at;
+    let mut i = 0;
+    while i < clocks {
+        let w = expr::clock::read_bound(s, place);
+        let WordRead::Value(_, next) = w else {
+            return Reached::Fault(expr::field::word_fault(w));
+        };
+        place = next;
+        i += 1;
+    }
+    Reached::At(place)
+}
+
+// The content of a state's record.
+fn read_state(s: &[u8], at: usize, counts: Counts) -> Reached
+    ensures { λ r. ⌜ reached (now (s .entry)) tt r ≡ skipped (state (counts .clocks) (counts .entries) (counts .exits) (onward (now (s .entry)) at)) ⌝ }
+{
+    let p = expr::field::read_byte(s, at);
+    let ByteRead::Value(_, at1) = p else {
+        return Reached::Fault(expr::field::byte_fault(p));
+    };
+    let k = expr::field::read_byte_below(s, at1, 3);
+    let ByteRead::Value(_, at2) = k else {
+        return Reached::Fault(expr::field::byte_fault(k));
+    };
+    let i = expr::field::read_long_marks(s, at2, counts.entries);
+    let ShortRead::Value(_, at3) = i else {
+        return Reached::Fault(expr::field::short_fault(i));
+    };
+    let o = expr::field::read_marks(s, at3, counts.exits);
+    let ByteRead::Value(_, at4) = o else {
+        return Reached::Fault(expr::field::byte_fault(o));
+    };
+    read_bounds(s, at4, counts.clocks)
+}
+
+// The state's record at a place.
+fn state_at(s: &[u8], at: usize, counts: Counts) -> Reached
+    ensures { λ r. ⌜ reached (now (s .entry)) tt r ≡ skipped (recorded byte (state (counts .clocks) (counts .entries) (counts .exits)) (onward (now (s .entry)) at)) ⌝ }
+{
+    let p = expr::field::read_frame(s, at);
+    let Frame::Part(from, to) = p else {
+        return Reached::Fault(expr::field::frame_fault(p));
+    };
+    let q = read_state(&s[from..to], 0, counts);
+    expr::field::whole(q, to - from, to)
+}
+
+// The records of all states, from a place on.
+pub fn read_states(s: &[u8], at: usize, counts: Counts) -> Reached
+    ensures { λ r. ⌜ reached (now (s .entry)) tt r ≡ skipped (many (counts .states) (recorded byte (state (counts .clocks) (counts .entries) (counts .exits))) (onward (now (s .entry)) at)) ⌝ }
+{
+    let mut place = at;
+    let mut i = 0;
+    while i < counts.states {
+        let q = state_at(s, place, counts);
+        let Reached::At(next) = q else {
+            return q;
+        };
+        place = next;
+        i += 1;
+    }
+    Reached::At(place)
+}
