@@ -1,9 +1,11 @@
 // The state records of a chart file.
 ghost use mathlib.Core.Path.{_≡_};
+ghost use Prim.Native.Nat.{_<_};
 ghost use Rattle.expr.specs.Reading.{byte, many, recorded, skipped};
 ghost use Rattle.expr.specs.Places.{onward, reached};
 ghost use Rattle.expr.specs.Clocks.{row};
-ghost use Rattle.chart.specs.Chart.{state};
+ghost use Rattle.chart.specs.Chart.{Chart, state, stateAt};
+ghost use Rattle.chart.specs.Layout.{statePlace, Stated};
 use crate::header::Counts;
 use expr::field::ByteRead;
 use expr::field::Frame;
@@ -78,4 +80,60 @@ pub fn read_states(s: &[u8], at: usize, counts: Counts) -> Reached
         i += 1;
     }
     Reached::At(place)
+}
+
+// Where the record of a state stands.
+pub fn state_place(clocks: u8, s: u8) -> usize
+    ensures is { λ r. ⌜ r ≡ statePlace clocks s ⌝ }
+    ensures small { λ r. ⌜ r < 262144 ⌝ }
+{
+    8 + (s as usize) * (6 + 4 * (clocks as usize))
+}
+
+// The fields of a state's record; past the states 255, 0, 0, 0.
+pub fn parent_of(rest: &[u8], counts: Counts, s: u8) -> u8
+    ensures { λ r. ⌜ ((c : Chart) → Stated (now (rest .entry)) counts c → r ≡ stateAt c s .parent) ⌝ }
+{
+    if s >= counts.states {
+        return 255;
+    }
+    expr::field::byte_at(rest, state_place(counts.clocks, s) + 1)
+}
+
+pub fn kind_of(rest: &[u8], counts: Counts, s: u8) -> u8
+    ensures { λ r. ⌜ ((c : Chart) → Stated (now (rest .entry)) counts c → r ≡ stateAt c s .kind) ⌝ }
+{
+    if s >= counts.states {
+        return 0;
+    }
+    expr::field::byte_at(rest, state_place(counts.clocks, s) + 2)
+}
+
+pub fn entries_of(rest: &[u8], counts: Counts, s: u8) -> u16
+    ensures { λ r. ⌜ ((c : Chart) → Stated (now (rest .entry)) counts c → r ≡ stateAt c s .entries) ⌝ }
+{
+    if s >= counts.states {
+        return 0;
+    }
+    expr::field::short_at(rest, state_place(counts.clocks, s) + 3)
+}
+
+pub fn exits_of(rest: &[u8], counts: Counts, s: u8) -> u8
+    ensures { λ r. ⌜ ((c : Chart) → Stated (now (rest .entry)) counts c → r ≡ stateAt c s .exits) ⌝ }
+{
+    if s >= counts.states {
+        return 0;
+    }
+    expr::field::byte_at(rest, state_place(counts.clocks, s) + 5)
+}
+
+// The bounds of a state; past the states none is said.
+pub fn bounds_of(rest: &[u8], counts: Counts, s: u8) -> [u32; 8]
+    ensures { λ r. ⌜ ((c : Chart) → Stated (now (rest .entry)) counts c → s < counts .states → r ≡ stateAt c s .bounds) ⌝ }
+{
+    if counts.clocks > 8 {
+        return [4294967295; 8];
+    }
+    let read = expr::clock::read_row(rest, state_place(counts.clocks, s) + 6, counts.clocks as usize);
+    read.row
 }
