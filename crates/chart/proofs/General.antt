@@ -1,14 +1,16 @@
 -- General laws, to be moved to expr.
 use mathlib.Core.Path.{_≡_, refl, sym, ap, _∙_}
-use mathlib.Core.Bool.{Bool, true, false, cond}
+use mathlib.Core.Bool.{Bool, true, false, cond, _&&_, _||_}
 use mathlib.Core.List.{List, [], _∷_, _++_}
-use Prim.Native.Nat.{ℕ, zero, suc, _+_, _*_, _≤_, _<_}
+use Prim.Native.Nat.{ℕ, zero, suc, _+_, _*_, _/_, _%_, _≤_, _<_}
 use native.Mathlib.Omega.{arith}
 use native.Mathlib.Nat.{zero-mul, suc-mul}
-use borrow.Author.Tests.{eqb-true}
+use borrow.Author.Tests.{eqb-true, eq-eqb, le-leb}
+use lib.Bits as Words
 use lib.Dec.{leb, eqb}
 use lib.ListN.{length, getD, take, drop, take-append-drop}
 use Rattle.expr.specs.Reading.{Fault, Read, got, fault, Reader, yield, next, _>>=_, field, byte, byte2, byte4, such, many, end, framed, whole, recorded, mapped, skipped}
+use Rattle.expr.specs.Lists.{has, keep, any}
 use Rattle.expr.specs.Clocks.{row, isBound}
 use Rattle.expr.specs.Places.{onward, reached}
 use Rattle.expr.specs.declared.field.Reached.{Reached}
@@ -17,6 +19,8 @@ use Rattle.expr.proofs.Reading.{no-answer, got-value, next-at, bind-at, yield-a
 use Rattle.expr.proofs.Places.{onward-all, onward-onward, getD-here}
 use Rattle.expr.proofs.Suffixes.{Looks, field-at, yield-looks, bind-looks, such-looks, many-looks, byte4-looks}
 use Rattle.expr.proofs.Rows.{bounds}
+use Rattle.expr.proofs.Bools.{clash, both, and-l, and-r}
+use Rattle.expr.proofs.Bits.{Apart, has-low, has-suc, has-zero, has-and, has-or}
 use Rattle.expr.proofs.Many.{Going, going-none, going-more, going-stop, going-all}
 
 -- a record of which only the end is looked at
@@ -135,3 +139,62 @@ recorded-looks {A} size r f s {a} {t} h =
     none (x ∷ v) false e k = no-answer k
     joined : (n : ℕ) (u p v : List ℕ) (b : A) (q : List ℕ) → p ≡ take n u → v ≡ drop n u → r p ≡ got b q → q ≡ [] → got b v ≡ got a t → r u ≡ got a t
     joined n u p v b q e g k o l = ap r (sym (take-append-drop n u)) ∙ ap (λ (m : List ℕ). r (m ++ drop n u)) (sym e) ∙ f p (drop n u) b q k ∙ ap (λ (m : List ℕ). got b (m ++ drop n u)) o ∙ ap (got b) (sym g) ∙ l
+
+-- what is kept of what is kept
+pub keep-keep : {A : Type 0} (p q : A → Bool) (xs : List A) → keep q (keep p xs) ≡ keep (λ x. p x && q x) xs
+unfolding keep
+keep-keep p q [] = refl
+keep-keep {A} p q (x ∷ xs) = go (p x) (keep-keep p q xs)
+  where
+    go : (b : Bool) → keep q (keep p xs) ≡ keep (λ x. p x && q x) xs → keep q (cond b (x ∷ keep p xs) (keep p xs)) ≡ cond (b && q x) (x ∷ keep (λ x. p x && q x) xs) (keep (λ x. p x && q x) xs)
+    go true h = ap (λ (l : List A). cond (q x) (x ∷ l) l) h
+    go false h = h
+
+-- something is kept, if some element passes
+pub some-kept : {A : Type 0} (p : A → Bool) (xs : List A) → leb 1 (length (keep p xs)) ≡ any p xs
+unfolding keep any
+some-kept p [] = refl
+some-kept p (x ∷ xs) = go (p x) (some-kept p xs)
+  where
+    go : (b : Bool) → leb 1 (length (keep p xs)) ≡ any p xs → leb 1 (length (cond b (x ∷ keep p xs) (keep p xs))) ≡ (b || any p xs)
+    go true h = le-leb 1 (suc (length (keep p xs))) (omega arith)
+    go false h = h
+
+-- a set that is not empty has an element
+some-below : (k x : ℕ) → x ≤ k → (x ≡ 0 → ⊥) → (i : ℕ) × (has x i ≡ true)
+some-below zero x h d = absurd (d (omega arith))
+some-below (suc k) x h d = go (has x 0) refl (λ e. some-below k (x / 2) (omega arith) e)
+  where
+    go : (b : Bool) → has x 0 ≡ b → ((x / 2 ≡ 0 → ⊥) → (i : ℕ) × (has (x / 2) i ≡ true)) → (i : ℕ) × (has x i ≡ true)
+    go true e f = (0, e)
+    go false e f =
+        let even : x % 2 ≡ 1 → ⊥ = λ o. clash (has-low x ∙ eq-eqb (x % 2) 1 o) e in
+        let r = f (λ z. d (omega (arith, z, even))) in
+        (suc (r .0), has-suc x (r .0) ∙ r .1)
+
+pub has-element : (x : ℕ) → (x ≡ 0 → ⊥) → (i : ℕ) × (has x i ≡ true)
+has-element x d = some-below x x (omega arith) d
+
+-- sets that have nothing in common, by one operation
+pub and-apart : (x y : ℕ) → Words.bitAnd x y ≡ 0 → Apart x y
+and-apart x y z i h k = clash (sym (ap (λ (m : ℕ). has m i) z) ∙ has-and x y i ∙ both h k) (has-zero i)
+
+pub and-shared : (x y : ℕ) → (Words.bitAnd x y ≡ 0 → ⊥) → (i : ℕ) × (has x i ≡ true) × (has y i ≡ true)
+and-shared x y d =
+    let r = has-element (Words.bitAnd x y) d in
+    let k = sym (has-and x y (r .0)) ∙ r .1 in
+    (r .0, and-l (has x (r .0)) (has y (r .0)) k, and-r (has x (r .0)) (has y (r .0)) k)
+
+-- 1 for a test that holds
+abbrev pub tally : Bool → ℕ
+tally b = cond b 1 0
+
+-- an element counts once in sets that have nothing in common
+pub or-apart : (x y i : ℕ) → Apart x y → tally (has (Words.bitOr x y) i) ≡ tally (has x i) + tally (has y i)
+or-apart x y i a = ap tally (has-or x y i) ∙ go (has x i) (has y i) refl refl
+  where
+    go : (p q : Bool) → has x i ≡ p → has y i ≡ q → tally (p || q) ≡ tally p + tally q
+    go true true e f = absurd (a i e f)
+    go true false e f = refl
+    go false true e f = refl
+    go false false e f = refl
