@@ -8,17 +8,19 @@ use native.Mathlib.Nat.{mul-le-mul}
 use lib.Dec.{ltb}
 use lib.ListN.{length, getD, List·getD-eq-default}
 use Rattle.expr.specs.Reading.{got, Reader, byte, byte2, such, recorded}
+use Rattle.expr.specs.Answer.{done}
 use Rattle.expr.specs.Clocks.{row}
 use Rattle.expr.specs.Places.{onward}
+use Rattle.expr.proofs.Answer.{then-at as then-at-answer}
 use Rattle.expr.proofs.Reading.{bind-at, then-at, yield-at, yield-rest, such-at, many-at}
 use Rattle.expr.proofs.Places.{onward-all, onward-onward}
 use Rattle.expr.proofs.Many.{many-nth}
 use Rattle.expr.proofs.Suffixes.{Looks, yield-looks, bind-looks, such-looks, byte-looks, byte2-looks}
-use Rattle.chart.specs.Chart.{Chart, State, state, records, inRange, stateAt}
+use Rattle.chart.specs.Chart.{Chart, State, state, records, numbered, inRange, countsOf, readChart, stateAt}
 use Rattle.chart.specs.Layout.{stateSize, statePlace, Stated}
 use Rattle.chart.specs.declared.header.Counts.{Counts}
 use Rattle.chart.proofs.General.{Takes, yield-takes, bind-takes, byte-takes, byte2-takes, such-takes, row-takes, row-looks, recorded-looks, byte-value}
-use Rattle.chart.proofs.Ranges.{StateRange, CountRanges, counts-range, state-range}
+use Rattle.chart.proofs.Ranges.{StateRange, state-range, numbered-at, counts-of-at}
 
 module _ (clocks entries exits : ℕ) where
   pub state-looks : Looks (state clocks entries exits)
@@ -130,3 +132,11 @@ module _ {rest : List ℕ} {n : Counts} {c : Chart} (S : Stated rest n c) (s : �
 -- a state's place is not far
 pub place-small : (clocks s : ℕ) → clocks < 256 → s < 256 → s * (6 + 4 * clocks) < 262136
 place-small clocks s h k = let l : s * (6 + 4 * clocks) ≤ 255 * 1026 = mul-le-mul {n₁ = s} {m₁ = 6 + 4 * clocks} {n₂ = 255} {m₂ = 1026} (omega arith) (omega arith) in omega arith
+
+-- of a file that holds a chart, past its version and length
+pub read-stated : (file : List ℕ) {c : Chart} → readChart file ≡ done c → (n : Counts) × (countsOf file ≡ done n) × Stated (onward file 3) n c
+unfolding readChart onward
+read-stated file h =
+    let r = then-at-answer (countsOf file) _ h in
+    let w = numbered-at _ (r .2) in
+    (r .0, r .1, stated (onward file 3) (r .0) (counts-of-at file (r .1) .1) (ap (records (r .0)) (onward-onward file 3 8) ∙ w .1))

@@ -4,13 +4,20 @@ ghost use lib.Dec.{leb};
 ghost use lib.ListN.{length};
 ghost use Rattle.chart.specs.Chart.{Chart};
 ghost use Rattle.chart.specs.Tree.{isChild, children, sequentials};
-ghost use Rattle.chart.specs.Rules.{parentFits, placed, parents, few, noBasicChild, noBasic, inherits, childrenMarked, entriesFit, entryMarks, exitsFit, exitMarks};
+ghost use Rattle.chart.specs.Rules.{parentFits, placed, parents, few, noBasicChild, noBasic, inherits, childrenMarked, entriesFit, entryMarks, exitsFit, exitMarks, stateRules};
+ghost use Rattle.chart.specs.Answers.{checkedOf};
 ghost use Rattle.chart.specs.Layout.{Stated};
 use crate::header::Counts;
 use crate::state::entries_of;
 use crate::state::exits_of;
 use crate::state::kind_of;
 use crate::state::parent_of;
+
+// The rules are kept, or the number of the first that is not.
+pub enum Checked {
+    Passed,
+    Refused(u8),
+}
 
 fn is_child(rest: &[u8], counts: Counts, m: u8, s: u8) -> bool
     ensures { λ r. ⌜ ((c : Chart) → Stated (now (rest .entry)) counts c → r ≡ isChild c m s) ⌝ }
@@ -197,4 +204,26 @@ pub fn exit_marks(rest: &[u8], counts: Counts) -> bool
         s += 1;
     }
     true
+}
+
+// The rules of the states, in order.
+pub fn states_checked(rest: &[u8], counts: Counts) -> Checked
+    ensures { λ r. ⌜ ((c : Chart) → Stated (now (rest .entry)) counts c → checkedOf r ≡ stateRules c) ⌝ }
+{
+    if !parents(rest, counts) {
+        return Checked::Refused(5);
+    }
+    if !few(rest, counts) {
+        return Checked::Refused(6);
+    }
+    if !no_basic(rest, counts) {
+        return Checked::Refused(7);
+    }
+    if !entry_marks(rest, counts) {
+        return Checked::Refused(8);
+    }
+    if !exit_marks(rest, counts) {
+        return Checked::Refused(9);
+    }
+    Checked::Passed
 }
