@@ -12,14 +12,13 @@ use lib.ListN.{length, getD, drop, drop-of-length-le}
 use lib.Pow.{pow-pos}
 use Rattle.expr.specs.Lists.{has, all, any, keep, below, implies, subset}
 use Rattle.expr.proofs.Bools.{clash, fails, both}
-use Rattle.expr.proofs.Lists.{length-below, getD-below, below-by, drop-next, all-same, not-all, all-next, all-stop, any-next, any-stop, counted-next, counted-left, counted-all}
-use Rattle.expr.proofs.Bits.{has-zero, has-high}
+use Rattle.expr.proofs.Lists.{below-by, below-next, below-end, keep-keep, some-kept, all-same, not-all, all-next, all-stop, any-next, any-stop, counted-next, counted-left, counted-all}
+use Rattle.expr.proofs.Bits.{has-zero, has-high, and-apart, and-shared, tally, or-apart}
 use Rattle.chart.specs.Chart.{Chart, State, stateAt, states, sequential}
 use Rattle.chart.specs.Tree.{isChild, children}
 use Rattle.chart.specs.Rules.{marked, childrenMarked}
 use Rattle.chart.specs.Layout.{Stated}
 use Rattle.chart.specs.declared.header.Counts.{Counts}
-use Rattle.chart.proofs.General.{keep-keep, some-kept, and-apart, and-shared, tally, or-apart}
 use Rattle.chart.proofs.Ranges.{counts-range}
 use Rattle.chart.proofs.States.{unknown, stated-fields}
 
@@ -27,13 +26,11 @@ use Rattle.chart.proofs.States.{unknown, stated-fields}
 module _ {rest : List ℕ} {n : Counts} {c : Chart} (S : Stated rest n c) (i : ℕ) where
   pub states-next : i < n .states → drop i (states c) ≡ i ∷ drop (i + 1) (states c)
   unfolding states
-  states-next h =
-      drop-next (states c) i 0 (omega (arith, length-below (length (c .states)), S .states))
-      ∙ ap (λ (s : ℕ). s ∷ drop (i + 1) (states c)) (getD-below (length (c .states)) i 0 (omega (arith, S .states)))
+  states-next h = below-next (S .states) i h
 
   pub states-end : n .states ≤ i → drop i (states c) ≡ []
   unfolding states
-  states-end h = drop-of-length-le (states c) {i = i} (omega (arith, length-below (length (c .states)), S .states))
+  states-end h = below-end (S .states) i h
 
 -- what the code answers of every chart whose states stand in the bytes
 abbrev pub Of : {A : Type 0} → List ℕ → Counts → A → (Chart → A) → Type 0

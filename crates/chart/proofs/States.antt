@@ -15,19 +15,19 @@ use Rattle.expr.proofs.Answer.{then-at as then-at-answer}
 use Rattle.expr.proofs.Reading.{bind-at, then-at, yield-at, yield-rest, such-at, many-at}
 use Rattle.expr.proofs.Places.{onward-all, onward-onward}
 use Rattle.expr.proofs.Many.{many-nth}
-use Rattle.expr.proofs.Suffixes.{Looks, yield-looks, bind-looks, such-looks, byte-looks, byte2-looks}
+use Rattle.expr.proofs.InFront.{InFront, yield-front, bind-front, such-front, byte-front, byte2-front}
 use Rattle.chart.specs.Chart.{Chart, State, state, records, numbered, inRange, countsOf, readChart, stateAt}
 use Rattle.chart.specs.Layout.{stateSize, statePlace, Stated}
 use Rattle.chart.specs.declared.header.Counts.{Counts}
-use Rattle.chart.proofs.General.{Takes, yield-takes, bind-takes, byte-takes, byte2-takes, such-takes, row-takes, row-looks, recorded-looks, byte-value}
+use Rattle.expr.proofs.Sizes.{Takes, byte-takes, byte2-takes, row-takes, onto, byte-value, row-front, recorded-inside}
 use Rattle.chart.proofs.Ranges.{StateRange, state-range, numbered-at, counts-of-at}
 
 module _ (clocks entries exits : ℕ) where
-  pub state-looks : Looks (state clocks entries exits)
+  pub state-front : InFront (state clocks entries exits)
   unfolding state
-  state-looks =
-      bind-looks _ _ byte-looks λ p. bind-looks _ _ (such-looks _ _ byte-looks) λ k. bind-looks _ _ (such-looks _ _ byte2-looks) λ i.
-      bind-looks _ _ (such-looks _ _ byte-looks) λ o. bind-looks _ _ (row-looks clocks) λ r. yield-looks _
+  state-front =
+      bind-front _ _ byte-front λ p. bind-front _ _ (such-front _ _ byte-front) λ k. bind-front _ _ (such-front _ _ byte2-front) λ i.
+      bind-front _ _ (such-front _ _ byte-front) λ o. bind-front _ _ (row-front clocks) λ r. yield-front _
 
   -- the fields of a state that is read at a place
   pub record Fields (s : List ℕ) (at : ℕ) (x : State) (t : List ℕ) : Type 0 where
@@ -36,12 +36,7 @@ module _ (clocks entries exits : ℕ) where
     pub entry-marks : byte2 (onward s (at + 2)) ≡ got (x .entries) (onward s (at + 4))
     pub exit-marks : byte (onward s (at + 4)) ≡ got (x .exits) (onward s (at + 5))
     pub bounds : row clocks (onward s (at + 5)) ≡ got (x .bounds) t
-    pub range : clocks ≤ 8 → StateRange entries exits x
-
-  onto : (s : List ℕ) (at n : ℕ) {A : Type 0} (r : Reader A) (k : ℕ) {a : A} {u t : List ℕ} → u ≡ onward s at → Takes r n → at + n ≡ k → r u ≡ got a t → (r (onward s at) ≡ got a (onward s k)) × (t ≡ onward s k)
-  onto s at n r k {a} {u} {t} e f g h =
-      let z : t ≡ onward s k = f u a t h ∙ ap (λ (l : List ℕ). onward l n) e ∙ onward-onward s at n ∙ ap (onward s) g in
-      (ap r (sym e) ∙ h ∙ ap (got a) z, z)
+    pub range : clocks ≤ 8 → StateRange clocks entries exits x
 
   pub fields : (s : List ℕ) (at : ℕ) (x : State) (t : List ℕ) → state clocks entries exits (onward s at) ≡ got x t → Fields s at x t
   unfolding state
@@ -61,7 +56,7 @@ module _ (clocks entries exits : ℕ) where
         entry-marks = p3 .0;
         exit-marks = p4 .0;
         bounds = ap (row clocks) (sym (p4 .1)) ∙ r .2 ∙ ap (got (r .0)) (yield-rest _ (r .1) (r .3));
-        range = λ few. subst (StateRange entries exits) (sym (yield-at (r .1) (r .3))) (state-range clocks entries exits (onward s at) few h);
+        range = λ few. subst (StateRange clocks entries exits) (sym (yield-at (r .1) (r .3))) (state-range clocks entries exits (onward s at) few h);
       })
 
   pub state-takes : Takes (state clocks entries exits) (5 + 4 * clocks)
@@ -69,7 +64,7 @@ module _ (clocks entries exits : ℕ) where
 
   pub record-takes : Takes (recorded byte (state clocks entries exits)) (stateSize clocks)
   record-takes s x t h =
-      let w = recorded-looks byte _ state-looks s h in
+      let w = recorded-inside byte _ state-front s h in
       state-takes (w .1) x t (w .3) ∙ ap (λ (l : List ℕ). onward l (5 + 4 * clocks)) (byte-takes s (w .0) (w .1) (w .2)) ∙ onward-onward s 1 (5 + 4 * clocks) ∙ ap (onward s) (omega arith)
 
 -- what is no state
@@ -101,7 +96,7 @@ stated rest n {c} {t} ok h =
 -- the fields of a state, where they stand
 pub stated-fields : (rest : List ℕ) (n : Counts) {c : Chart} → Stated rest n c → (s : ℕ) → s < n .states → Fields (n .clocks) (n .entries) (n .exits) rest (statePlace (n .clocks) s + 1) (stateAt c s) (onward rest (statePlace (n .clocks) s + stateSize (n .clocks)))
 stated-fields rest n {c} S s h =
-    let w = recorded-looks byte _ (state-looks (n .clocks) (n .entries) (n .exits)) (onward rest (statePlace (n .clocks) s)) (S .here s h) in
+    let w = recorded-inside byte _ (state-front (n .clocks) (n .entries) (n .exits)) (onward rest (statePlace (n .clocks) s)) (S .here s h) in
     let e : w .1 ≡ onward rest (statePlace (n .clocks) s + 1) = byte-takes _ (w .0) (w .1) (w .2) ∙ onward-onward rest (statePlace (n .clocks) s) 1 in
     fields (n .clocks) (n .entries) (n .exits) rest _ (stateAt c s) _ (ap (state (n .clocks) (n .entries) (n .exits)) (sym e) ∙ w .3)
 

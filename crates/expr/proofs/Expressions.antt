@@ -1,22 +1,22 @@
 -- How the reader of expressions answers, by the code and by what it answers on the arguments. What is read is taken as
 -- some f has it, so that the same laws serve where only the end is looked at and where the value is.
 use mathlib.Core.Path.{_≡_, refl, sym, ap, _∙_}
-use mathlib.Core.Bool.{Bool, true, false, _&&_}
 use mathlib.Core.List.{List}
 use mathlib.Core.Logic.{_≢_}
-use Prim.Native.Nat.{ℕ, zero, suc, _+_, _-_, _≤_, _<_, _^_}
+use Prim.Native.Nat.{ℕ, zero, suc, _-_, _≤_, _<_, _^_}
 use native.Mathlib.Omega.{arith}
 use native.Mathlib.Numerals.{sub-one}
 use borrow.Author.Tests.{lt-ltb, le-ltb, leb-true, ltb-true, eq-eqb, ne-eqb}
-use lib.Dec.{ltb}
+use lib.Dec.{leb, ltb}
 use lib.IntN.{ℤ}
 use lib.ListN.{length, getD}
 use Rattle.expr.specs.Reading.{length-fault, range-fault, Read, got, fault, Reader, yield, next, _>>=_, byte, byte4, such, mapped}
 use Rattle.expr.specs.Integer.{signed, floorDiv, floorMod}
-use Rattle.expr.specs.Expression.{Expr, constant, variable, sum, difference, product, quotient, remainder, constant-code, codes, divisor, two, by, after, expression, value, combined, divided}
+use Rattle.expr.specs.Expression.{Expr, constant, variable, sum, difference, product, quotient, remainder, Code, constant-code, variable-code, sum-code, difference-code, product-code, quotient-code, remainder-code, codes, divisor, two, by, after, expression, value, combined, divided}
 use Rattle.expr.specs.Places.{onward}
 use Rattle.expr.proofs.Bools.{and-l, and-r}
-use Rattle.expr.proofs.Reading.{such-at, mapped-fault, mapped-bind, mapped-yield}
+use Rattle.expr.proofs.Reading.{such-at, mapped-fault, mapped-yield}
+use Rattle.expr.proofs.InFront.{InFront, yield-front, fault-front, bind-front, such-front, byte-front, byte4-front}
 use Rattle.expr.proofs.Places.{onward-all, byte-some, byte-none, bind-got, bind-fault, such-got, such-not, such-fault}
 
 -- codes 2, 3 and 4, and codes 5 and 6
@@ -89,7 +89,7 @@ divided-remainder {c} x d h = rw (ne-eqb c 5 h)
 -- a divisor that is read is in its range
 pub divisor-in : (s : List ℕ) {d : ℕ} {t : List ℕ} → divisor s ≡ got d t → (1 ≤ d) × (d < 2 ^ 31)
 unfolding divisor
-divisor-in s {d} h = let w = such-at byte4 _ s h in (leb-true 1 d (and-l _ _ (w .0)), ltb-true d (2 ^ 31) (and-r (lib.Dec.leb 1 d) _ (w .0)))
+divisor-in s {d} h = let w = such-at byte4 _ s h in (leb-true 1 d (and-l _ _ (w .0)), ltb-true d (2 ^ 31) (and-r (leb 1 d) _ (w .0)))
 
 -- an operator's two arguments, one read after the other, and an argument with its divisor
 module _ {A : Type 0} (f : Expr → A) (r : Reader Expr) (s : List ℕ) where
@@ -118,26 +118,33 @@ module _ {A : Type 0} (f : Expr → A) (r : Reader Expr) (s : List ℕ) where
       go (fault x) = refl
 
 -- an expression by its first byte
+module _ (s : List ℕ) where
+  no-byte : length s ≡ 0 → byte s ≡ fault length-fault
+  no-byte h = ap byte (sym (onward-all s)) ∙ byte-none s 0 (omega arith)
+
+  first-byte : length s ≢ 0 → byte s ≡ got (getD s 0 0) (onward s 1)
+  first-byte h = ap byte (sym (onward-all s)) ∙ byte-some s 0 (omega arith)
+
 module _ (v : ℕ) (s : List ℕ) where
   expression-empty : (k : ℕ) → length s ≡ 0 → expression v k s ≡ fault length-fault
   unfolding expression
-  expression-empty zero h = bind-fault _ _ s (ap byte (sym (onward-all s)) ∙ byte-none s 0 (omega arith))
-  expression-empty (suc k) h = bind-fault _ _ s (such-fault _ _ s (ap byte (sym (onward-all s)) ∙ byte-none s 0 (omega arith)))
+  expression-empty zero h = bind-fault _ _ s (no-byte s h)
+  expression-empty (suc k) h = bind-fault _ _ s (such-fault _ _ s (no-byte s h))
 
   expression-deep : (k : ℕ) → length s ≢ 0 → k ≡ 0 → expression v k s ≡ fault range-fault
   unfolding expression
-  expression-deep zero h e = bind-got _ _ s (ap byte (sym (onward-all s)) ∙ byte-some s 0 (omega arith))
+  expression-deep zero h e = bind-got _ _ s (first-byte s h)
   expression-deep (suc k) h e = absurd (omega arith)
 
   expression-unknown : (k : ℕ) → length s ≢ 0 → 7 ≤ getD s 0 0 → expression v k s ≡ fault range-fault
   unfolding expression
   expression-unknown zero h l = expression-deep zero h refl
-  expression-unknown (suc k) h l = bind-fault _ _ s (such-not _ _ s (ap byte (sym (onward-all s)) ∙ byte-some s 0 (omega arith)) (le-ltb _ _ l))
+  expression-unknown (suc k) h l = bind-fault _ _ s (such-not _ _ s (first-byte s h) (le-ltb _ _ l))
 
   expression-after : (k : ℕ) → length s ≢ 0 → k ≢ 0 → getD s 0 0 < 7 → expression v k s ≡ after v (expression v (k - 1)) (getD codes (getD s 0 0) constant-code) (onward s 1)
   unfolding expression
   expression-after zero h n l = absurd (n refl)
-  expression-after (suc k) h n l = bind-got _ _ s (such-got _ _ s (ap byte (sym (onward-all s)) ∙ byte-some s 0 (omega arith)) (lt-ltb _ _ l)) ∙ rw sub-one
+  expression-after (suc k) h n l = bind-got _ _ s (such-got _ _ s (first-byte s h) (lt-ltb _ _ l)) ∙ rw sub-one
 
 module _ {A : Type 0} (f : Expr → A) (v k : ℕ) (s : List ℕ) where
   pub read-empty : length s ≡ 0 → mapped f (expression v k s) ≡ fault length-fault
@@ -165,3 +172,32 @@ module _ {A : Type 0} (f : Expr → A) (v k : ℕ) (s : List ℕ) (some : length
 
   pub read-by : (h : A → ℕ → A) → ((a : Expr) (d : ℕ) → f (division (getD s 0 0) a d) ≡ h (f a) d) → 5 ≤ getD s 0 0 → getD s 0 0 < 7 → mapped f (expression v k s) ≡ ((λ t. mapped f (expression v (k - 1) t)) >>= λ x t. mapped (h x) (divisor t)) (onward s 1)
   read-by h e n l = ap (mapped f) (expression-after v s k some left l ∙ ap (λ (r : Reader Expr). r (onward s 1)) (after-by v _ _ n l)) ∙ by-mapped f _ _ _ h e
+
+-- an expression is read in front, whatever follows it
+divisor-front : InFront divisor
+unfolding divisor
+divisor-front = such-front byte4 _ byte4-front
+
+module _ (r : Reader Expr) (p : InFront r) where
+  two-front : (f : Expr → Expr → Expr) → InFront (two f r)
+  unfolding two
+  two-front f = bind-front _ _ p λ a. bind-front _ _ p λ b. yield-front _
+
+  by-front : (f : Expr → ℕ → Expr) → InFront (by f r)
+  unfolding by
+  by-front f = bind-front _ _ p λ a. bind-front _ _ divisor-front λ d. yield-front _
+
+  after-front : (v : ℕ) (c : Code) → InFront (after v r c)
+  unfolding after
+  after-front v constant-code = bind-front _ _ byte4-front λ x. yield-front _
+  after-front v variable-code = bind-front _ _ (such-front byte _ byte-front) λ i. yield-front _
+  after-front v sum-code = two-front _
+  after-front v difference-code = two-front _
+  after-front v product-code = two-front _
+  after-front v quotient-code = by-front _
+  after-front v remainder-code = by-front _
+
+pub expression-front : (v k : ℕ) → InFront (expression v k)
+unfolding expression
+expression-front v zero = bind-front _ _ byte-front λ c. fault-front _
+expression-front v (suc k) = bind-front _ _ (such-front byte _ byte-front) λ c. after-front (expression v k) (expression-front v k) v (getD codes c constant-code)

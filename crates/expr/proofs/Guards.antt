@@ -1,12 +1,16 @@
 -- Laws of guards: a relation by its number, and the kind that decides how a guard goes on.
-use mathlib.Core.Path.{_≡_, ap, _∙_}
-use mathlib.Core.List.{List, [], _∷_}
+use mathlib.Core.Path.{_≡_, _∙_}
+use mathlib.Core.Logic.{_≢_}
+use mathlib.Core.List.{List}
+use native.Mathlib.Omega.{arith}
+use borrow.Author.Tests.{ltb-true}
 use Prim.Native.Nat.{ℕ}
 use lib.Dec.{ltb}
 use lib.ListN.{getD}
-use Rattle.expr.specs.Reading.{Fault, got, fault, yield, byte, such, mapped}
-use Rattle.expr.specs.Guard.{Relation, lt, relations, relation, Guard, Limits, dataGuard, clockGuard, differenceGuard, guard}
+use Rattle.expr.specs.Reading.{Fault, got, fault, yield, byte, such}
+use Rattle.expr.specs.Guard.{lt, relations, relation, Limits, dataGuard, clockGuard, differenceGuard, guard}
 use Rattle.expr.proofs.Places.{bind-got, bind-fault}
+use Rattle.expr.proofs.Reading.{such-at}
 
 module _ (b : List ℕ) where
   pub relation-got : {n : ℕ} {t : List ℕ} → such byte (λ n. ltb n 6) b ≡ got n t → relation b ≡ got (getD relations n lt) t
@@ -18,11 +22,19 @@ module _ (b : List ℕ) where
   relation-fault h = bind-fault _ _ b h
 
 -- what follows the kind
-module _ (l : Limits) (b : List ℕ) where
-  pub guard-kind : {k : ℕ} {t : List ℕ} → such byte (λ k. ltb k 3) b ≡ got k t → guard l b ≡ getD (dataGuard l ∷ clockGuard l ∷ differenceGuard l ∷ []) k (dataGuard l) t
+module _ (l : Limits) (b : List ℕ) {k : ℕ} {t : List ℕ} (h : such byte (λ k. ltb k 3) b ≡ got k t) where
+  pub guard-data : k ≡ 0 → guard l b ≡ dataGuard l t
   unfolding guard
-  guard-kind h = bind-got _ _ b h
+  guard-data e = bind-got _ _ b h ∙ rw e
 
-  pub guard-fault : {f : Fault} → such byte (λ k. ltb k 3) b ≡ fault f → guard l b ≡ fault f
+  pub guard-clock : k ≡ 1 → guard l b ≡ clockGuard l t
   unfolding guard
-  guard-fault h = bind-fault _ _ b h
+  guard-clock e = bind-got _ _ b h ∙ rw e
+
+  pub guard-difference : k ≢ 0 → k ≢ 1 → guard l b ≡ differenceGuard l t
+  unfolding guard
+  guard-difference n m = bind-got _ _ b h ∙ rw (let z : k ≡ 2 = omega (arith, ltb-true k 3 (such-at byte _ b h .0)) in z)
+
+pub guard-fault : (l : Limits) (b : List ℕ) {f : Fault} → such byte (λ k. ltb k 3) b ≡ fault f → guard l b ≡ fault f
+unfolding guard
+guard-fault l b h = bind-fault _ _ b h

@@ -1,20 +1,24 @@
 -- Laws of assignments, of rule 13's test, and of the body of a label.
-use mathlib.Core.Path.{_≡_, refl, sym, ap, ap₂, _∙_}
-use mathlib.Core.Bool.{Bool, true, false, not, _&&_, _||_}
-use mathlib.Core.List.{List, [], _∷_, _++_, map}
-use Prim.Native.Nat.{ℕ}
+use mathlib.Core.Path.{_≡_, refl, sym, ap, ap₂, _∙_, subst}
+use mathlib.Core.Bool.{Bool, true, false, not, _&&_, _||_, or-true, or-false}
+use mathlib.Core.List.{List, [], _∷_, _++_, map-append}
+use Prim.Native.Nat.{ℕ, _<_}
+use native.Mathlib.Omega.{arith}
+use native.Mathlib.Decide.{ℕ-discrete}
 use lib.IntN.{ℤ}
 use lib.Dec.{eqb}
-use lib.ListN.{set}
-use borrow.Author.Tests.{eqb-true, eq-eqb}
+use lib.ListN.{length, getD, set}
+use lib.Seq.{getD-set-same, getD-set-other}
+use borrow.Author.Tests.{eqb-true, eq-eqb, ne-eqb, ltb-true}
 use Rattle.expr.specs.Lists.{all, any, elem}
-use Rattle.expr.specs.Reading.{Read, got, Reader, yield, next, _>>=_}
+use Rattle.expr.specs.Reading.{got, byte, many}
 use Rattle.expr.specs.Expression.{value}
-use Rattle.expr.specs.Guard.{Update, Limits, assign}
-use Rattle.expr.specs.Label.{Label, Body, body, label, distinct}
+use Rattle.expr.specs.Guard.{Update, Limits, guard, update, assign}
+use Rattle.expr.specs.Label.{Label, Body, body, label, targets, distinct, bodyOnce}
 use Rattle.expr.proofs.Bools.{same}
 use Rattle.expr.proofs.Lists.{any-more}
-use Rattle.expr.proofs.Reading.{bind-at, next-at, yield-at, yield-rest}
+use Rattle.expr.proofs.Places.{bind-got}
+use Rattle.expr.proofs.Reading.{bind-at, next-at, such-at, yield-at, yield-rest}
 
 eqb-swap : (x y : ℕ) → eqb x y ≡ eqb y x
 eqb-swap x y = same (eqb x y) (eqb y x) (λ h. eq-eqb y x (sym (eqb-true x y h))) (λ h. eq-eqb x y (sym (eqb-true y x h)))
@@ -35,6 +39,33 @@ distinct-more (y ∷ ys) x = rw (distinct-more ys x, elem-more y ys x, eqb-swap 
     regroup false true false e = refl
     regroup false false d e = refl
 
+-- an assignment that was read assigns a declared variable
+pub update-known : (l : Limits) (s : List ℕ) {u : Update} {t : List ℕ} → update l s ≡ got u t → u .target < l .variables
+unfolding update
+update-known l s {u} h =
+    let x = bind-at _ _ s h in
+    let y = bind-at _ _ (x .1) (x .3) in
+    subst (λ (k : Update). k .target < l .variables) (yield-at (y .1) (y .3)) (ltb-true (x .0) (l .variables) (such-at byte _ s (x .2) .0))
+
+-- which variables are assigned, after one more assignment
+seen-more : (seen : List Bool) (ts : List ℕ) (t w : ℕ) → length seen ≡ w → t < w → ((v : ℕ) → v < w → getD seen v false ≡ elem v ts)
+    → (v : ℕ) → v < w → getD (set seen t true) v false ≡ elem v (ts ++ (t ∷ []))
+seen-more seen ts t w e h f v l = elim (ℕ-discrete t v) [
+  | yes q ↦ rw (elem-more v ts t, ← q, eq-eqb t t refl, getD-set-same seen t true false (omega arith)) (sym (or-true (elem t ts)))
+  | no q ↦ rw (elem-more v ts t, ne-eqb t v q, getD-set-other seen t v true false (λ p. q (sym p))) (f v l ∙ sym (or-false (elem v ts)))
+]
+
+module _ (us : List Update) (u : Update) {t : ℕ} (e : u .target ≡ t) where
+  targets-more : targets (us ++ (u ∷ [])) ≡ targets us ++ (t ∷ [])
+  targets-more = map-append (λ k. k .target) us (u ∷ []) ∙ ap (λ (n : ℕ). targets us ++ (n ∷ [])) e
+
+  pub once-more : {a b r : Bool} → r ≡ (a && not b) → a ≡ distinct (targets us) → b ≡ elem t (targets us) → r ≡ distinct (targets (us ++ (u ∷ [])))
+  once-more h p q = h ∙ ap₂ (λ (x y : Bool). x && not y) p q ∙ sym (ap distinct targets-more ∙ distinct-more (targets us) t)
+
+  pub assigned-more : (seen : List Bool) {w : ℕ} → length seen ≡ w → t < w → ((v : ℕ) → v < w → getD seen v false ≡ elem v (targets us))
+      → (v : ℕ) → v < w → getD (set seen t true) v false ≡ elem v (targets (us ++ (u ∷ [])))
+  assigned-more seen {w} h l f v k = seen-more seen (targets us) t w h l f v k ∙ sym (ap (elem v) targets-more)
+
 -- one more assignment
 pub assign-more : (old : List ℤ) (us : List Update) (u : Update) (new : List ℤ) → assign old (us ++ (u ∷ [])) new ≡ set (assign old us new) (u .target) (value old (u .expr))
 unfolding assign
@@ -46,6 +77,22 @@ pub assign-append : (old : List ℤ) (us vs : List Update) (new : List ℤ) → 
 unfolding assign
 assign-append old [] vs new = refl
 assign-append old (u ∷ us) vs new = assign-append old us vs _
+
+-- rule 13 of a body, by what was counted and seen of its assignments
+pub body-once-by : (signal : ℕ) (b : Body) {u : ℕ} {o r : Bool} → r ≡ ((not (eqb signal 2) || eqb u 0) && o) → length (b .updates) ≡ u → distinct (targets (b .updates)) ≡ o → r ≡ bodyOnce signal b
+unfolding bodyOnce
+body-once-by signal b h e d = h ∙ ap₂ (λ (n : ℕ) (x : Bool). (not (eqb signal 2) || eqb n 0) && x) (sym e) (sym d)
+
+-- the parts of a body that was read
+pub body-parts : (l : Limits) (s : List ℕ) {b : Body} {t : List ℕ} → body l s ≡ got b t → {g a : ℕ} {u v : List ℕ} → byte s ≡ got g u → byte u ≡ got a v
+    → (w : List ℕ) × (many g (guard l) v ≡ got (b .guards) w) × (many a (update l) w ≡ got (b .updates) t)
+unfolding body
+body-parts l s {b} {t} h {g} {a} {u} {v} p q =
+    let k = sym (bind-got _ _ s p ∙ bind-got _ _ u q) ∙ h in
+    let x = bind-at _ _ v k in
+    let y = bind-at _ _ (x .1) (x .3) in
+    let e = yield-at (y .1) (y .3) in
+    (x .1, x .2 ∙ ap (λ (k : Body). got (k .guards) (x .1)) e, y .2 ∙ ap₂ (λ (k : Body) (r : List ℕ). got (k .updates) r) e (yield-rest _ (y .1) (y .3)))
 
 -- a label that was read has the body that its bytes give
 pub label-body : (l : Limits) (channels : ℕ) (s : List ℕ) {b : Label} {t : List ℕ} → label l channels s ≡ got b t → body l (b .bytes) ≡ got (b .body) t

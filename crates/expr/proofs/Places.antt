@@ -8,12 +8,14 @@ use borrow.Author.Tests.{le-leb, lt-leb, eq-eqb, ne-eqb, ltb-true, ltb-false}
 use lib.Dec.{ltb}
 use lib.ListN.{length, getD, take, drop, length-take, length-drop}
 use lib.Seq.{getD-drop, drop-drop, take-all}
-use Rattle.expr.specs.Places.{onward, faultOf, byteOf, byteEnd, wordOf, wordEnd, FrameFits, reached, reachedEnd, byteReached, wordReached, wholly}
+use Rattle.expr.specs.Places.{onward, faultOf, byteOf, byteEnd, wordOf, wordEnd, FrameFits, reached, reachedEnd, byteReached, wordReached, wholly, testOf, testReached}
 use Rattle.expr.specs.declared.field.Fault.the-variants as Fl
 use Rattle.expr.specs.declared.field.ByteRead.{ByteRead}
 use Rattle.expr.specs.declared.field.ByteRead.the-variants as Bt
 use Rattle.expr.specs.declared.field.WordRead.{WordRead}
 use Rattle.expr.specs.declared.field.WordRead.the-variants as Wd
+use Rattle.expr.specs.declared.field.TestRead.{TestRead}
+use Rattle.expr.specs.declared.field.TestRead.the-variants as Te
 use Rattle.expr.specs.declared.field.Frame.{Frame}
 use Rattle.expr.specs.declared.field.Frame.the-variants as Fr
 use Rattle.expr.specs.declared.field.Reached.{Reached}
@@ -60,6 +62,9 @@ module _ {A : Type 0} (r : Reader A) (s : List ℕ) (a : ℕ) where
   pub part-fault : {f : Fault} → r (take (length s - a) (drop a s)) ≡ fault f → r (onward s a) ≡ fault f
   part-fault h = simp (part-onward s a) at h
 
+pub part-end : (s : List ℕ) (a : ℕ) {e n : ℕ} → a ≤ length s → e ≡ n → e ≤ length (take (length s - a) (drop a s)) → a + n ≤ length s
+part-end s a h q l = omega (arith, length-take (length s - a) (drop a s), length-drop a s)
+
 -- the value of a byte, of two and of four, at a place
 pub byte-some : (s : List ℕ) (at : ℕ) → at < length s → byte (onward s at) ≡ got (getD s at 0) (onward s (at + 1))
 unfolding byte
@@ -94,6 +99,14 @@ module _ {A B : Type 0} (r : Reader A) (k : A → Reader B) (s : List ℕ) where
   pub bind-fault : {f : Fault} → r s ≡ fault f → (r >>= k) s ≡ fault f
   unfolding _>>=_ next
   bind-fault h = rw h
+
+pub next-got : {A B : Type 0} {q : Read A} (k : A → Reader B) {a : A} {t : List ℕ} → q ≡ got a t → next q k ≡ k a t
+unfolding next
+next-got k h = rw h
+
+pub next-fault : {A B : Type 0} {q : Read A} (k : A → Reader B) {f : Fault} → q ≡ fault f → next q k ≡ fault f
+unfolding next
+next-fault k h = rw h
 
 module _ (r : Reader ℕ) (p : ℕ → Bool) (s : List ℕ) where
   pub such-got : {x : ℕ} {t : List ℕ} → r s ≡ got x t → p x ≡ true → such r p s ≡ got x t
@@ -144,6 +157,11 @@ word-skipped s (Wd.Fault f) e h = rw (e, ← h)
 pub word-skipped-end : (w : WordRead) {q : Reached} (l : ℕ) → q ≡ wordReached w → wordEnd w ≤ l → reachedEnd q ≤ l
 word-skipped-end (Wd.Value x n) l e h = rw e h
 word-skipped-end (Wd.Fault f) l e h = rw e h
+
+pub test-skipped : (s : List ℕ) (t : TestRead) {q : Reached} {d : Read Bool} → q ≡ testReached t → testOf s t ≡ d → reached s tt q ≡ skipped d
+unfolding skipped mapped
+test-skipped s (Te.Value b n) e h = rw (e, ← h)
+test-skipped s (Te.Fault f) e h = rw (e, ← h)
 
 pub frame-fits : (s : List ℕ) {q : Frame} {from to : ℕ} → FrameFits s q → q ≡ Fr.Part from to → (from ≤ to) × (to ≤ length s)
 frame-fits s h e = subst (FrameFits s) e h

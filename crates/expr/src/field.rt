@@ -182,11 +182,7 @@ pub fn read_byte_or_none(s: &[u8], at: usize, limit: u8) -> ByteRead
 pub fn in_width(x: u32, width: u8) -> bool
     ensures { λ r. ⌜ r ≡ ltb x (2 ^ width) ⌝ }
 {
-    if width < 32 {
-        x >> width == 0
-    } else {
-        true
-    }
+    if width < 32 { x >> width == 0 } else { true }
 }
 
 // A set of marks in a byte, of which only the first `width` are in use.

@@ -5,13 +5,14 @@ ghost use lib.ListN.{getD};
 ghost use Rattle.expr.specs.Reading.{mapped, skipped};
 ghost use Rattle.expr.specs.Expression.{expression, value};
 ghost use Rattle.expr.specs.Guard.{limits, ticks, dataGuard, clockGuard, differenceGuard, guard, update, holds};
-ghost use Rattle.expr.specs.Places.{onward, byteOf, wordOf, testOf, reached, testReached};
+ghost use Rattle.expr.specs.Places.{onward, byteOf, wordOf, valueOf, testOf, reached, testReached};
 use crate::expression;
 use crate::field;
 use crate::field::ByteRead;
 use crate::field::Fault;
 use crate::field::Reached;
 use crate::field::TestRead;
+use crate::field::ValueRead;
 use crate::field::WordRead;
 use crate::signed;
 
@@ -30,6 +31,20 @@ fn expression_at(s: &[u8], at: usize, variables: u8) -> Reached
         return q;
     };
     Reached::At(at + n)
+}
+
+// The value of the expression at a place.
+pub fn value_at(s: &[u8], at: usize, variables: u8, values: &[i32; 16]) -> ValueRead
+    ensures { λ r. ⌜ valueOf (now (s .entry)) r ≡ mapped (value (now (values .entry))) (expression variables 8 (onward (now (s .entry)) at)) ⌝ }
+{
+    if s.len() < at {
+        return ValueRead::Fault(Fault::Length);
+    }
+    let v = expression::evaluate(&s[at..], LEVELS, variables, values);
+    let ValueRead::Value(z, n) = v else {
+        return v;
+    };
+    ValueRead::Value(z, at + n)
 }
 
 // A constant that a clock is compared with.
@@ -109,7 +124,10 @@ fn clock_guard_holds(s: &[u8], at: usize, clocks: u8, times: [u32; 8]) -> TestRe
     let WordRead::Value(n, at3) = w else {
         return TestRead::Fault(field::word_fault(w));
     };
-    TestRead::Value(signed::compare_clocks(relation, time_of(times, clock), n as u64), at3)
+    TestRead::Value(
+        signed::compare_clocks(relation, time_of(times, clock), n as u64),
+        at3,
+    )
 }
 
 // What follows the kind of a guard on the difference of two clocks.
@@ -132,5 +150,83 @@ fn difference_guard_holds(s: &[u8], at: usize, clocks: u8, times: [u32; 8]) -> T
     let WordRead::Value(n, at4) = w else {
         return TestRead::Fault(field::word_fault(w));
     };
-    TestRead::Value(signed::compare_clocks(relation, time_of(times, first), sum_of(time_of(times, second), n)), at4)
+    TestRead::Value(
+        signed::compare_clocks(
+            relation,
+            time_of(times, first),
+            sum_of(time_of(times, second), n),
+        ),
+        at4,
+    )
+}
+
+// What follows the kind of a guard on variables.
+fn data_guard_holds(s: &[u8], at: usize, variables: u8, values: &[i32; 16]) -> TestRead
+    ensures { λ r. ⌜ ((c : _) (times : _) → testOf (now (s .entry)) r ≡ mapped (holds (now (values .entry)) times) (dataGuard (limits c variables) (onward (now (s .entry)) at))) ⌝ }
+{
+    let k = field::read_byte_below(s, at, 6);
+    let ByteRead::Value(relation, at1) = k else {
+        return TestRead::Fault(field::byte_fault(k));
+    };
+    let v = value_at(s, at1, variables, values);
+    let ValueRead::Value(x, at2) = v else {
+        return TestRead::Fault(field::value_fault(v));
+    };
+    let w = value_at(s, at2, variables, values);
+    let ValueRead::Value(y, at3) = w else {
+        return TestRead::Fault(field::value_fault(w));
+    };
+    TestRead::Value(signed::compare(relation, x, y), at3)
+}
+
+// A guard, as a file is checked. No value is needed, and none is computed on variables.
+pub fn read_guard(s: &[u8], at: usize, clocks: u8, variables: u8) -> Reached
+    ensures { λ r. ⌜ reached (now (s .entry)) tt r ≡ skipped (guard (limits clocks variables) (onward (now (s .entry)) at)) ⌝ }
+{
+    let b = field::read_byte_below(s, at, 3);
+    let ByteRead::Value(kind, from) = b else {
+        return Reached::Fault(field::byte_fault(b));
+    };
+    match kind {
+        0 => read_data_guard(s, from, variables),
+        1 => test_reached(clock_guard_holds(s, from, clocks, [0; 8])),
+        _ => test_reached(difference_guard_holds(s, from, clocks, [0; 8])),
+    }
+}
+
+// Whether a guard holds of variables and clocks.
+pub fn guard_holds(
+    s: &[u8],
+    at: usize,
+    clocks: u8,
+    variables: u8,
+    values: &[i32; 16],
+    times: [u32; 8],
+) -> TestRead
+    ensures { λ r. ⌜ testOf (now (s .entry)) r ≡ mapped (holds (now (values .entry)) times) (guard (limits clocks variables) (onward (now (s .entry)) at)) ⌝ }
+{
+    let b = field::read_byte_below(s, at, 3);
+    let ByteRead::Value(kind, from) = b else {
+        return TestRead::Fault(field::byte_fault(b));
+    };
+    match kind {
+        0 => data_guard_holds(s, from, variables, values),
+        1 => clock_guard_holds(s, from, clocks, times),
+        _ => difference_guard_holds(s, from, clocks, times),
+    }
+}
+
+// An assignment, as a file is checked: its variable.
+pub fn read_update(s: &[u8], at: usize, variables: u8) -> ByteRead
+    ensures { λ r. ⌜ ((c : _) → byteOf (now (s .entry)) r ≡ mapped (λ u. u .target) (update (limits c variables) (onward (now (s .entry)) at))) ⌝ }
+{
+    let b = field::read_byte_below(s, at, variables);
+    let ByteRead::Value(target, at1) = b else {
+        return b;
+    };
+    let q = expression_at(s, at1, variables);
+    let Reached::At(at2) = q else {
+        return ByteRead::Fault(field::reached_fault(q));
+    };
+    ByteRead::Value(target, at2)
 }

@@ -9,10 +9,10 @@
 use mathlib.Core.Path.{_≡_, refl, sym, ap, _∙_, subst}
 use mathlib.Core.Bool.{Bool, true, false, cond, not, _&&_}
 use mathlib.Core.Logic.{⊎-elim, _≢_}
-use mathlib.Core.List.{List, [], _∷_, map, List·Memᴰ as Mem, List·Memᴰ·head as here, List·Memᴰ·tail as there, List·Memᴰ·append-cases as append-cases, List·Memᴰ·cases-cons as cases-cons}
+use mathlib.Core.List.{List, [], _∷_, map, List·Memᴰ as Mem, List·Memᴰ·head as here, List·Memᴰ·tail as there}
 use Prim.Native.Nat.{ℕ, zero, suc, _+_, _≤_, _<_}
 use native.Mathlib.Omega.{arith}
-use native.Mathlib.Decide.{ℕ-discrete, decLt}
+use native.Mathlib.Decide.{ℕ-discrete}
 use borrow.Author.Tests.{eqb-true, eq-eqb, ne-eqb}
 use lib.Dec.{eqb}
 use lib.ListN.{length, getD}
@@ -20,30 +20,30 @@ use Rattle.expr.specs.Lists.{all, keep, implies}
 use Rattle.expr.specs.Clocks.{free, join, keeps}
 use Rattle.expr.specs.Moves.{clocksAfter}
 use Rattle.expr.proofs.Bools.{clash, decided, and-l, and-r, both, implies-at, implies-by, same}
-use Rattle.expr.proofs.Lists.{all-at, all-by, all-same, all-map, all-keep, keep-at, map-at, map-by, below-at, getD-mem}
+use Rattle.expr.proofs.Lists.{all-at, all-by, all-same, all-map, all-keep, keep-at, map-at, map-by, getD-mem}
 use Rattle.expr.proofs.Clocks.{keeps-join}
 use Rattle.expr.proofs.Rows.{ClockValues, IsRow, free-row, join-row, keeps-free, keeps-clocks-after, values-clocks-after}
 use Rattle.chart.specs.Chart.{Chart, Transition, transitionAt, states, parentOf, basic, sequential, parallel, home}
 use Rattle.chart.specs.Tree.{children, sequentials, entered}
 use Rattle.chart.specs.Machine.{isActive, isTree, boundsKept, after}
 use Rattle.chart.specs.declared.configuration.Configuration.{Configuration}
-use Rattle.chart.proofs.Tree.{size, states-at, states-by, Child, children-at, own-child, Parents, tree-induction, child-above, basic-not-parallel, sequential-not-parallel, unknown-parent, unknown-basic}
+use Rattle.chart.proofs.Tree.{size, states-at, states-by, Child, children-at, own-child, Parents, tree-induction, child-above, sequential-not-parallel}
 use Rattle.chart.proofs.Entered.{Entry, allEntered, all-entered-at, all-entered-by, entered-alone, entered-top, entered-below-root, entered-parent}
 use Rattle.chart.proofs.Active.{OneChild, one-child-by, IsTree, tree-at, bounds-kept-at, bounds-kept-by}
 use Rattle.chart.proofs.Rules.{Passed, kinds-left}
 use Rattle.chart.proofs.Ranges.{Ranges, kinds-of}
 use Rattle.chart.proofs.After.{Fires, after-clocks, after-cases, after-entered}
-use Rattle.chart.proofs.Step.{Together, together-fires, together-tree, transition-mem}
-use Rattle.flattener.specs.Flatten.{Pair, Place, idle, child, pre, post, pairs, entersBy, transitions, hasExit, hasEntry, places, own, carriedFrom, joined, joinAll, preBounds, arrival, arrivalBounds, boundsOf, departure}
+use Rattle.chart.proofs.Step.{Together, together-fires, together-tree}
+use Rattle.flattener.specs.Flatten.{Pair, Place, idle, child, pre, post, hasExit, hasEntry, places, own, carriedFrom, joined, joinAll, preBounds, arrival, arrivalBounds, boundsOf, departure}
 use Rattle.flattener.specs.Picture.{pictured}
 use Rattle.flattener.proofs.Automata.{sequentials-at, sequentials-by}
+use Rattle.flattener.proofs.Numbers.{places-at}
+use Rattle.flattener.proofs.Joins.{join-all-has, carried-has, entered-have, bounds-have}
 
 -- rows: the bounds of states and places have a bound for each of eight clocks
 
 pub joinAll-row : (rows : List (List ℕ)) → ((r : List ℕ) → Mem r rows → IsRow r) → IsRow (joinAll rows)
-unfolding joinAll
-joinAll-row [] f = free-row
-joinAll-row (r ∷ rs) f = join-row r (joinAll rs) (f r (here refl)) (joinAll-row rs (λ x m. f x (there m)))
+joinAll-row = join-all-has IsRow free-row join-row
 
 -- to keep the join of some rows is to keep each
 pub keeps-joinAll : (rows : List (List ℕ)) (cs : List ℕ) → ClockValues cs → ((r : List ℕ) → Mem r rows → IsRow r) → keeps (joinAll rows) cs ≡ all (λ r. keeps r cs) rows
@@ -56,64 +56,17 @@ keeps-joinAll (r ∷ rs) cs v f =
 module _ (c : Chart) (ranges : Ranges c) where
   pub own-row : (s : ℕ) → s < size c → IsRow (own c s)
   unfolding own
-  own-row s h = ranges .of-state s h .bounds-long
-
-  -- a child of a parallel state is a state of the chart
-  child-known : (s : ℕ) → parallel c (parentOf c s) ≡ true → s < size c
-  child-known s z = elim (decLt s (size c)) [
-    | yes h ↦ h
-    | no h ↦ clash (ap (parallel c) (sym (unknown-parent c s (omega arith))) ∙ z) (basic-not-parallel c 255 (unknown-basic c 255 (omega (arith, ranges .states-few))))
-  ]
+  own-row s h = ranges .of-state s h .bounds-row .long
 
   pub carried-row : (n s : ℕ) → IsRow (carriedFrom n c s)
-  unfolding carriedFrom
-  carried-row zero s = free-row
-  carried-row (suc n) s = go (eqb s 0) (parallel c (parentOf c s)) refl (carried-row n (parentOf c s))
-    where
-      go : (b z : Bool) → parallel c (parentOf c s) ≡ z → IsRow (carriedFrom n c (parentOf c s)) → IsRow (cond b (own c 0) (cond z (join (own c s) (carriedFrom n c (parentOf c s))) free))
-      go true z e k = own-row 0 (omega (arith, ranges .states-some))
-      go false true e k = join-row (own c s) _ (own-row s (child-known s e)) k
-      go false false e k = free-row
-
-  pub joined-row : (s : ℕ) → s < size c → IsRow (joined c s)
-  unfolding joined
-  joined-row s h = join-row (own c s) _ (own-row s h) (carried-row (suc s) (parentOf c s))
+  carried-row = carried-has IsRow free-row join-row c ranges own-row
 
   entered-rows : (p : Pair) (r : List ℕ) → Mem r (map (joined c) (keep (entered c (p .state) (p .mark)) (states c))) → IsRow r
-  entered-rows p r m =
-      let k = map-at (joined c) _ m in
-      ap length (k .2) ∙ joined-row (k .0) (states-at c (keep-at (entered c (p .state) (p .mark)) (states c) (k .1) .0))
-
-  pub pre-row : (p : Pair) → IsRow (preBounds c p)
-  unfolding preBounds
-  pre-row p = joinAll-row _ (entered-rows p)
-
-  arrival-row : (t : ℕ) → transitionAt c t .destination < size c → IsRow (arrivalBounds c (arrival c t))
-  unfolding arrival arrivalBounds
-  arrival-row t h = go (hasEntry c t)
-    where
-      p : Pair
-      p = record { state = transitionAt c t .destination; mark = transitionAt c t .entry }
-
-      go : (b : Bool) → IsRow (arrivalBounds c (cond b (pre p) (child (transitionAt c t .destination))))
-      go true = pre-row p
-      go false = joined-row _ h
+  entered-rows = entered-have IsRow free-row join-row c ranges own-row
 
   -- of every place of an automaton
   pub places-row : (q : ℕ) (p : Place) → Mem p (places c q) → IsRow (boundsOf c p)
-  unfolding places boundsOf transitions
-  places-row q p m =
-      ⊎-elim (λ e. at-place e free-row)
-      (λ m. ⊎-elim (λ k. let r = map-at child _ k in at-place (r .2) (joined-row (r .0) (children-at c q (r .1) .known)))
-      (λ m. ⊎-elim (λ k. let r = map-at pre entries k in at-place (r .2) (pre-row (r .0)))
-      (λ k. let r = map-at post _ k in at-place (r .2) (arrival-row (r .0) (ranges .of-transition _ (transition-mem c (r .0) (below-at _ (keep-at _ _ (r .1) .0))) .destination-known)))
-      (append-cases (map pre entries) m)) (append-cases (map child (children c q)) m)) (cases-cons m)
-    where
-      at-place : {p r : Place} → p ≡ r → IsRow (boundsOf c r) → IsRow (boundsOf c p)
-      at-place e k = ap (λ (x : Place). length (boundsOf c x)) e ∙ k
-
-      entries : List Pair
-      entries = pairs (entersBy c) (c .entries) (children c q)
+  places-row q p m = bounds-have IsRow free-row join-row c ranges own-row p (places-at c q m .1)
 
 -- what the children of a state carry of the bounds above them
 unfoldable pub carriedBy : Chart → ℕ → List ℕ

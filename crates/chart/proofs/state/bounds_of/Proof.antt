@@ -1,6 +1,6 @@
 use mathlib.Core.Path.{_≡_, sym, ap, _∙_}
 use native.Mathlib.Omega.{arith}
-use Rattle.chart.proofs.General.{reached-value}
+use Rattle.expr.proofs.Sizes.{reached-value}
 use Rattle.chart.proofs.Ranges.{counts-range}
 use Rattle.chart.proofs.States.{bounds-here}
 use borrow.Author.Needs.{needs}

@@ -7,7 +7,7 @@ use Rattle.expr.specs.Clocks.{isBound}
 use Rattle.expr.specs.Places.{onward, wordOf, wordFault}
 use Rattle.expr.proofs.Places.{answered}
 use Rattle.expr.proofs.Reading.{mapped-got, mapped-fault}
-use Rattle.chart.proofs.General.{Skipping, skipping-none, skipping-more, skipping-stop, skipping-all, skipped-row}
+use Rattle.expr.proofs.Skips.{Skipping, skipping-none, skipping-more, skipping-stop, skipping-all, skipped-row}
 use Rattle.chart.proofs.state.read_bounds.Statement.{statement}
 use Rattle.chart.proofs.state.read_bounds.Tie as tie
 use Rattle.chart.proofs.state.read_bounds.Reads as reads

@@ -6,7 +6,7 @@ use Rattle.expr.specs.Reading.{byte, recorded}
 use Rattle.expr.specs.Places.{onward, reached}
 use Rattle.expr.proofs.Places.{answered}
 use Rattle.chart.specs.Chart.{state}
-use Rattle.chart.proofs.General.{Skipping, skipping-none, skipping-more, skipping-stop, skipping-all}
+use Rattle.expr.proofs.Skips.{Skipping, skipping-none, skipping-more, skipping-stop, skipping-all}
 use Rattle.chart.proofs.state.read_states.Statement.{statement}
 use Rattle.chart.proofs.state.read_states.Tie as tie
 use Rattle.chart.proofs.state.read_states.Reads as reads

@@ -6,7 +6,7 @@ use Rattle.expr.specs.Reading.{skipped}
 use Rattle.expr.specs.Places.{frameOf, frameFault}
 use Rattle.expr.proofs.Places.{recorded-got, recorded-fault, frame-fits, part-length, answered}
 use Rattle.expr.proofs.Reading.{mapped-fault}
-use Rattle.chart.proofs.General.{skipped-recorded}
+use Rattle.expr.proofs.Skips.{skipped-recorded}
 use borrow.Author.Needs.{needs}
 use Rattle.chart.proofs.state.state_at.Statement.{statement}
 use Rattle.chart.proofs.state.state_at.Tie as tie

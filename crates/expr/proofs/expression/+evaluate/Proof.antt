@@ -1,18 +1,16 @@
-use mathlib.Core.Path.{_≡_, refl, sym, ap, _∙_}
+use mathlib.Core.Path.{_≡_, sym, ap, _∙_}
 use mathlib.Core.List.{List}
-use Prim.Native.Nat.{_+_, _-_, _≤_}
+use Prim.Native.Nat.{ℕ, _+_, _-_, _≤_, _<_}
 use native.Mathlib.Omega.{arith}
 use lib.IntN.{ℤ}
 use lib.ListN.{length, getD}
-use Rattle.expr.specs.Reading.{Reader, got, fault, yield, _>>=_, mapped}
+use Rattle.expr.specs.Reading.{Reader, yield, _>>=_, mapped}
 use Rattle.expr.specs.Expression.{divisor, expression, value, combined, divided}
-use Rattle.expr.specs.Places.{onward, faultOf, valueOf, valueEnd}
-use Rattle.expr.specs.declared.field.Fault.{Fault}
+use Rattle.expr.specs.Places.{onward, valueOf, valueEnd}
 use Rattle.expr.specs.declared.field.ValueRead.the-variants as Vl
-use Rattle.expr.proofs.Places.{part-got, part-fault, part-length, bind-got, bind-fault, answered}
+use Rattle.expr.proofs.Places.{part-got, part-fault, part-end, bind-got, bind-fault, answered}
 use Rattle.expr.proofs.Integers.{read-back}
 use Rattle.expr.proofs.Expressions.{read-empty, read-deep, read-unknown, read-constant, read-variable, read-two, read-by, operator-value, division-value}
-use Prim.Native.Nat.{ℕ, _<_}
 use borrow.Fn.Kinds.{In}
 use borrow.Fn.PlainCycle.{Measures, is, falls, and}
 use Rattle.expr.proofs.expression.evaluate.Reads as evaluate
@@ -53,35 +51,13 @@ operands t c =
     let l = c .before .before .if3 .taken in
     read-two _ _ _ _ (c .before .before .before .before .before .before .if1 .left) (c .before .before .before .before .before .if2 .left) _ (operator-value _ _ n m l) n m l
 
--- the first argument
-first-got : (t : ℕ) (c : evaluate-lts.After-evaluate (evaluate-cs t) (evaluate-at t) evaluate.Post) {z : ℤ} (n : ℕ) → c .evaluate .result ≡ Vl.Value z n →
-    let a = c .before .before .before .before .before .before .before .before .args in
-    values (a .values .now) (a .variables) (a .levels - 1) (onward (a .s .now) (1)) ≡ got z (onward (a .s .now) (1 + n))
-first-got t c n q = part-got (values _ _ _) _ _ n (answered (valueOf _) (c .evaluate .ensures .0) q)
-
-first-fault : (t : ℕ) (c : evaluate-lts.After-evaluate (evaluate-cs t) (evaluate-at t) evaluate.Post) {f : Fault} → c .evaluate .result ≡ Vl.Fault f →
-    let a = c .before .before .before .before .before .before .before .before .args in
-    values (a .values .now) (a .variables) (a .levels - 1) (onward (a .s .now) (1)) ≡ fault (faultOf f)
-first-fault t c q = part-fault (values _ _ _) _ _ (answered (valueOf _) (c .evaluate .ensures .0) q)
-
+-- the first argument ends within the bytes
 first-in : (t : ℕ) (c : evaluate-lts.After-evaluate (evaluate-cs t) (evaluate-at t) evaluate.Post) {z : ℤ} (n : ℕ) → c .evaluate .result ≡ Vl.Value z n → 1 + n ≤ length (c .before .before .before .before .before .before .before .before .args .s .now)
-first-in t c n q = omega (arith, ap valueEnd q, c .evaluate .ensures .1, part-length (c .before .before .before .before .before .before .before .before .args .s .now) 1 (length (c .before .before .before .before .before .before .before .before .args .s .now)) (omega arith) (omega arith))
+first-in t c n q = part-end (c .before .before .before .before .before .before .before .before .args .s .now) (1) (omega arith) (ap valueEnd q) (c .evaluate .ensures .1)
 
--- and the second
-second-got : (t : ℕ) (c : evaluate-lts.After-evaluate2 (evaluate-cs t) (evaluate-at t) evaluate.Post) {z : ℤ} (n : ℕ) → c .evaluate2 .result ≡ Vl.Value z n →
-    let a = c .before .before .before .before .before .before .before .before .before .before .before .before .before .args in
-    values (a .values .now) (a .variables) (a .levels - 1) (onward (a .s .now) (1 + c .before .before .before .first .given .0 .1 .0)) ≡ got z (onward (a .s .now) (1 + c .before .before .before .first .given .0 .1 .0 + n))
-second-got t c n q = part-got (values _ _ _) _ _ n (answered (valueOf _) (c .evaluate2 .ensures .0) q)
-
-second-fault : (t : ℕ) (c : evaluate-lts.After-evaluate2 (evaluate-cs t) (evaluate-at t) evaluate.Post) {f : Fault} → c .evaluate2 .result ≡ Vl.Fault f →
-    let a = c .before .before .before .before .before .before .before .before .before .before .before .before .before .args in
-    values (a .values .now) (a .variables) (a .levels - 1) (onward (a .s .now) (1 + c .before .before .before .first .given .0 .1 .0)) ≡ fault (faultOf f)
-second-fault t c q = part-fault (values _ _ _) _ _ (answered (valueOf _) (c .evaluate2 .ensures .0) q)
-
+-- and so does the second
 second-in : (t : ℕ) (c : evaluate-lts.After-evaluate2 (evaluate-cs t) (evaluate-at t) evaluate.Post) {z : ℤ} (n : ℕ) → c .evaluate2 .result ≡ Vl.Value z n → 1 + c .before .before .before .first .given .0 .1 .0 + n ≤ length (c .before .before .before .before .before .before .before .before .before .before .before .before .before .args .s .now)
-second-in t c n q =
-    let l = first-in t (c .before .before .before .before .before) _ (c .before .before .before .first .given .1) in
-    omega (arith, ap valueEnd q, c .evaluate2 .ensures .1, part-length (c .before .before .before .before .before .before .before .before .before .before .before .before .before .args .s .now) (1 + c .before .before .before .first .given .0 .1 .0) (length (c .before .before .before .before .before .before .before .before .before .before .before .before .before .args .s .now)) l (omega arith))
+second-in t c n q = part-end (c .before .before .before .before .before .before .before .before .before .before .before .before .before .args .s .now) (1 + c .before .before .before .first .given .0 .1 .0) (first-in t (c .before .before .before .before .before) _ (c .before .before .before .first .given .1)) (ap valueEnd q) (c .evaluate2 .ensures .1)
 
 -- a quotient or remainder: its argument, then the divisor
 dividend : (t : ℕ) (c : evaluate-lts.After-evaluate3 (evaluate-cs t) (evaluate-at t) evaluate.Post) →
@@ -92,18 +68,8 @@ dividend t c =
     let l = c .before .before .if4 .taken in
     read-by _ _ _ _ (c .before .before .before .before .before .before .before .if1 .left) (c .before .before .before .before .before .before .if2 .left) _ (division-value _ _ n l) n l
 
-dividend-got : (t : ℕ) (c : evaluate-lts.After-evaluate3 (evaluate-cs t) (evaluate-at t) evaluate.Post) {z : ℤ} (n : ℕ) → c .evaluate3 .result ≡ Vl.Value z n →
-    let a = c .before .before .before .before .before .before .before .before .before .args in
-    values (a .values .now) (a .variables) (a .levels - 1) (onward (a .s .now) (1)) ≡ got z (onward (a .s .now) (1 + n))
-dividend-got t c n q = part-got (values _ _ _) _ _ n (answered (valueOf _) (c .evaluate3 .ensures .0) q)
-
-dividend-fault : (t : ℕ) (c : evaluate-lts.After-evaluate3 (evaluate-cs t) (evaluate-at t) evaluate.Post) {f : Fault} → c .evaluate3 .result ≡ Vl.Fault f →
-    let a = c .before .before .before .before .before .before .before .before .before .args in
-    values (a .values .now) (a .variables) (a .levels - 1) (onward (a .s .now) (1)) ≡ fault (faultOf f)
-dividend-fault t c q = part-fault (values _ _ _) _ _ (answered (valueOf _) (c .evaluate3 .ensures .0) q)
-
 dividend-in : (t : ℕ) (c : evaluate-lts.After-evaluate3 (evaluate-cs t) (evaluate-at t) evaluate.Post) {z : ℤ} (n : ℕ) → c .evaluate3 .result ≡ Vl.Value z n → 1 + n ≤ length (c .before .before .before .before .before .before .before .before .before .args .s .now)
-dividend-in t c n q = omega (arith, ap valueEnd q, c .evaluate3 .ensures .1, part-length (c .before .before .before .before .before .before .before .before .before .args .s .now) 1 (length (c .before .before .before .before .before .before .before .before .before .args .s .now)) (omega arith) (omega arith))
+dividend-in t c n q = part-end (c .before .before .before .before .before .before .before .before .before .args .s .now) (1) (omega arith) (ap valueEnd q) (c .evaluate3 .ensures .1)
 
 evaluate-returns : (t : ℕ) → evaluate-lts.Need-returns (evaluate-cs t) (evaluate-at t) evaluate.Post
 evaluate-returns t c = (sym (read-empty _ _ _ _ (c .if1 .taken)), omega arith)
@@ -142,7 +108,7 @@ evaluate-enum-told : (t : ℕ) → evaluate-lts.Need-enum-told (evaluate-cs t) (
 evaluate-enum-told t c = c .match2 .keys2
 
 evaluate-returns-3 : (t : ℕ) → evaluate-lts.Need-returns-3 (evaluate-cs t) (evaluate-at t) evaluate.Post
-evaluate-returns-3 t c = (ap (valueOf _) (c .enum-told .given .1) ∙ sym (operands t (c .before .before) ∙ bind-fault _ _ _ (first-fault t (c .before .before) (c .enum-told .given .1))), omega (arith, ap valueEnd (c .enum-told .given .1)))
+evaluate-returns-3 t c = (ap (valueOf _) (c .enum-told .given .1) ∙ sym (operands t (c .before .before) ∙ bind-fault _ _ _ (part-fault (values _ _ _) _ _ (answered (valueOf _) (c .before .before .evaluate .ensures .0) (c .enum-told .given .1)))), omega (arith, ap valueEnd (c .enum-told .given .1)))
 
 evaluate-add-evaluate : (t : ℕ) → evaluate-lts.Need-add-evaluate (evaluate-cs t) (evaluate-at t) evaluate.Post
 evaluate-add-evaluate t c = omega (arith, first-in t (c .before .before .before) _ (c .before .first .given .1))
@@ -169,7 +135,7 @@ evaluate-enum-told-2 : (t : ℕ) → evaluate-lts.Need-enum-told-2 (evaluate-cs 
 evaluate-enum-told-2 t c = c .match3 .keys2
 
 evaluate-returns-4 : (t : ℕ) → evaluate-lts.Need-returns-4 (evaluate-cs t) (evaluate-at t) evaluate.Post
-evaluate-returns-4 t c = (ap (valueOf _) (c .enum-told2 .given .1) ∙ sym (operands t (c .before .before .before .before .before .before .before) ∙ bind-got _ _ _ (first-got t (c .before .before .before .before .before .before .before) _ (c .before .before .before .before .before .first .given .1)) ∙ bind-fault _ _ _ (second-fault t (c .before .before) (c .enum-told2 .given .1))), omega (arith, ap valueEnd (c .enum-told2 .given .1)))
+evaluate-returns-4 t c = (ap (valueOf _) (c .enum-told2 .given .1) ∙ sym (operands t (c .before .before .before .before .before .before .before) ∙ bind-got _ _ _ (part-got (values _ _ _) _ _ _ (answered (valueOf _) (c .before .before .before .before .before .before .before .evaluate .ensures .0) (c .before .before .before .before .before .first .given .1))) ∙ bind-fault _ _ _ (part-fault (values _ _ _) _ _ (answered (valueOf _) (c .before .before .evaluate2 .ensures .0) (c .enum-told2 .given .1)))), omega (arith, ap valueEnd (c .enum-told2 .given .1)))
 
 evaluate-combine-requires : (t : ℕ) → evaluate-lts.Need-combine-requires (evaluate-cs t) (evaluate-at t) evaluate.Post
 evaluate-combine-requires t c κs = tt
@@ -202,7 +168,7 @@ evaluate-enum-told-3 : (t : ℕ) → evaluate-lts.Need-enum-told-3 (evaluate-cs 
 evaluate-enum-told-3 t c = c .match4 .keys2
 
 evaluate-returns-5 : (t : ℕ) → evaluate-lts.Need-returns-5 (evaluate-cs t) (evaluate-at t) evaluate.Post
-evaluate-returns-5 t c = (ap (valueOf _) (c .enum-told3 .given .1) ∙ sym (dividend t (c .before .before) ∙ bind-fault _ _ _ (dividend-fault t (c .before .before) (c .enum-told3 .given .1))), omega (arith, ap valueEnd (c .enum-told3 .given .1)))
+evaluate-returns-5 t c = (ap (valueOf _) (c .enum-told3 .given .1) ∙ sym (dividend t (c .before .before) ∙ bind-fault _ _ _ (part-fault (values _ _ _) _ _ (answered (valueOf _) (c .before .before .evaluate3 .ensures .0) (c .enum-told3 .given .1)))), omega (arith, ap valueEnd (c .enum-told3 .given .1)))
 
 evaluate-add-divide : (t : ℕ) → evaluate-lts.Need-add-divide (evaluate-cs t) (evaluate-at t) evaluate.Post
 evaluate-add-divide t c = omega (arith, dividend-in t (c .before .before .before) _ (c .before .first2 .given .1), c .before .before .before .before .before .before .before .before .before .before .before .before .good .0 .0)
@@ -220,13 +186,15 @@ evaluate-returns-7 t c = (c .evaluate-variable .ensures .0 ∙ sym (read-variabl
 
 evaluate-returns-8 : (t : ℕ) → evaluate-lts.Need-returns-8 (evaluate-cs t) (evaluate-at t) evaluate.Post
 unfolding yield
-evaluate-returns-8 t c = 
-    (rw (read-back (c .combine .result) (c .combine .ok), c .combine .ensures, read-back (c .before .before .before .before .before .before .before .first .given .0 .0) (c .before .before .before .before .before .before .known-told .given .0 .1), read-back (c .before .before .second .given .0 .0) (c .before .known-told2 .given .0 .1))
-    (sym (operands t (c .before .before .before .before .before .before .before .before .before) ∙ bind-got _ _ _ (first-got t (c .before .before .before .before .before .before .before .before .before) _ (c .before .before .before .before .before .before .before .first .given .1)) ∙ bind-got _ _ _ (second-got t (c .before .before .before .before) _ (c .before .before .second .given .1)))), second-in t (c .before .before .before .before) _ (c .before .before .second .given .1))
+evaluate-returns-8 t c = (
+  rw (read-back (c .combine .result) (c .combine .ok), c .combine .ensures, read-back (c .before .before .before .before .before .before .before .first .given .0 .0) (c .before .before .before .before .before .before .known-told .given .0 .1), read-back (c .before .before .second .given .0 .0) (c .before .known-told2 .given .0 .1))
+      (sym (operands t (c .before .before .before .before .before .before .before .before .before) ∙ bind-got _ _ _ (part-got (values _ _ _) _ _ _ (answered (valueOf _) (c .before .before .before .before .before .before .before .before .before .evaluate .ensures .0) (c .before .before .before .before .before .before .before .first .given .1))) ∙ bind-got _ _ _ (part-got (values _ _ _) _ _ _ (answered (valueOf _) (c .before .before .before .before .evaluate2 .ensures .0) (c .before .before .second .given .1))))),
+  second-in t (c .before .before .before .before) _ (c .before .before .second .given .1),
+)
 
 evaluate-returns-9 : (t : ℕ) → evaluate-lts.Need-returns-9 (evaluate-cs t) (evaluate-at t) evaluate.Post
-evaluate-returns-9 t c = 
-    ((rw (read-back (c .before .before .first2 .given .0 .0) (c .before .known-told3 .given .0 .1)) at (c .divide .ensures .0)) ∙ sym (dividend t (c .before .before .before .before) ∙ bind-got _ _ _ (dividend-got t (c .before .before .before .before) _ (c .before .before .first2 .given .1))), c .divide .ensures .1)
+evaluate-returns-9 t c =
+    ((rw (read-back (c .before .before .first2 .given .0 .0) (c .before .known-told3 .given .0 .1)) at (c .divide .ensures .0)) ∙ sym (dividend t (c .before .before .before .before) ∙ bind-got _ _ _ (part-got (values _ _ _) _ _ _ (answered (valueOf _) (c .before .before .before .before .evaluate3 .ensures .0) (c .before .before .first2 .given .1)))), c .divide .ensures .1)
 
 evaluate-returns-10 : (t : ℕ) → evaluate-lts.Need-returns-10 (evaluate-cs t) (evaluate-at t) evaluate.Post
 evaluate-returns-10 t c = (sym (read-unknown _ _ _ _ (c .before .before .before .before .before .if1 .left) (c .if4 .left)), omega arith)

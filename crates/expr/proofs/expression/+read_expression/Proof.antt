@@ -1,15 +1,13 @@
 use mathlib.Core.Path.{_≡_, refl, sym, ap, _∙_}
-use Prim.Native.Nat.{_+_, _-_, _≤_}
+use Prim.Native.Nat.{ℕ, _+_, _-_, _≤_, _<_}
 use native.Mathlib.Omega.{arith}
 use lib.ListN.{length}
-use Rattle.expr.specs.Reading.{Reader, got, fault, yield, _>>=_, mapped, skipped}
+use Rattle.expr.specs.Reading.{Reader, yield, _>>=_, mapped, skipped}
 use Rattle.expr.specs.Expression.{divisor, expression}
-use Rattle.expr.specs.Places.{onward, faultOf, reached, reachedEnd}
-use Rattle.expr.specs.declared.field.Fault.{Fault}
+use Rattle.expr.specs.Places.{onward, reached, reachedEnd}
 use Rattle.expr.specs.declared.field.Reached.the-variants as Rd
-use Rattle.expr.proofs.Places.{part-got, part-fault, part-length, bind-got, bind-fault, answered, byte-skipped, byte-skipped-end, word-skipped, word-skipped-end}
+use Rattle.expr.proofs.Places.{part-got, part-fault, part-end, bind-got, bind-fault, answered, byte-skipped, byte-skipped-end, word-skipped, word-skipped-end}
 use Rattle.expr.proofs.Expressions.{read-empty, read-deep, read-unknown, read-constant, read-variable, read-two, read-by}
-use Prim.Native.Nat.{ℕ, _<_}
 use borrow.Fn.Kinds.{In}
 use borrow.Fn.PlainCycle.{Measures, is, falls, and}
 use Rattle.expr.proofs.expression.read_expression.Reads as read-expression
@@ -56,39 +54,13 @@ operands : (t : ℕ) (c : read-expression-lts.After-read-expression (read-expres
 unfolding skipped
 operands t c = read-two _ _ _ _ (c .before .before .before .before .before .before .if1 .left) (c .before .before .before .before .before .if2 .left) (λ x y. tt) (λ x y. refl) (c .before .before .before .match .rest .0 .1) (c .before .before .before .match .rest .1) (c .before .before .if3 .taken)
 
--- where the first argument ends
-first-got : (t : ℕ) (c : read-expression-lts.After-read-expression (read-expression-cs t) (read-expression-at t) read-expression.Post) (n : ℕ) → c .read-expression .result ≡ Rd.At n →
-    let a = c .before .before .before .before .before .before .before .before .args in
-    ends (a .variables) (a .levels - 1) (onward (a .s .now) (1)) ≡ got tt (onward (a .s .now) (1 + n))
-unfolding skipped
-first-got t c n q = part-got (ends _ _) _ _ n (answered (reached _ tt) (c .read-expression .ensures .0) q)
-
-first-fault : (t : ℕ) (c : read-expression-lts.After-read-expression (read-expression-cs t) (read-expression-at t) read-expression.Post) {f : Fault} → c .read-expression .result ≡ Rd.Fault f →
-    let a = c .before .before .before .before .before .before .before .before .args in
-    ends (a .variables) (a .levels - 1) (onward (a .s .now) (1)) ≡ fault (faultOf f)
-unfolding skipped
-first-fault t c q = part-fault (ends _ _) _ _ (answered (reached _ tt) (c .read-expression .ensures .0) q)
-
+-- the first argument ends within the bytes
 first-in : (t : ℕ) (c : read-expression-lts.After-read-expression (read-expression-cs t) (read-expression-at t) read-expression.Post) (n : ℕ) → c .read-expression .result ≡ Rd.At n → 1 + n ≤ length (c .before .before .before .before .before .before .before .before .args .s .now)
-first-in t c n q = omega (arith, ap reachedEnd q, c .read-expression .ensures .1, part-length (c .before .before .before .before .before .before .before .before .args .s .now) 1 (length (c .before .before .before .before .before .before .before .before .args .s .now)) (omega arith) (omega arith))
+first-in t c n q = part-end (c .before .before .before .before .before .before .before .before .args .s .now) (1) (omega arith) (ap reachedEnd q) (c .read-expression .ensures .1)
 
--- and the second
-second-got : (t : ℕ) (c : read-expression-lts.After-read-expression2 (read-expression-cs t) (read-expression-at t) read-expression.Post) (n : ℕ) → c .read-expression2 .result ≡ Rd.At n →
-    let a = c .before .before .before .before .before .before .before .before .before .before .before .before .before .args in
-    ends (a .variables) (a .levels - 1) (onward (a .s .now) (1 + c .before .before .before .first .given .0 .0)) ≡ got tt (onward (a .s .now) (1 + c .before .before .before .first .given .0 .0 + n))
-unfolding skipped
-second-got t c n q = part-got (ends _ _) _ _ n (answered (reached _ tt) (c .read-expression2 .ensures .0) q)
-
-second-fault : (t : ℕ) (c : read-expression-lts.After-read-expression2 (read-expression-cs t) (read-expression-at t) read-expression.Post) {f : Fault} → c .read-expression2 .result ≡ Rd.Fault f →
-    let a = c .before .before .before .before .before .before .before .before .before .before .before .before .before .args in
-    ends (a .variables) (a .levels - 1) (onward (a .s .now) (1 + c .before .before .before .first .given .0 .0)) ≡ fault (faultOf f)
-unfolding skipped
-second-fault t c q = part-fault (ends _ _) _ _ (answered (reached _ tt) (c .read-expression2 .ensures .0) q)
-
+-- and so does the second
 second-in : (t : ℕ) (c : read-expression-lts.After-read-expression2 (read-expression-cs t) (read-expression-at t) read-expression.Post) (n : ℕ) → c .read-expression2 .result ≡ Rd.At n → 1 + c .before .before .before .first .given .0 .0 + n ≤ length (c .before .before .before .before .before .before .before .before .before .before .before .before .before .args .s .now)
-second-in t c n q =
-    let l = first-in t (c .before .before .before .before .before) _ (c .before .before .before .first .given .1) in
-    omega (arith, ap reachedEnd q, c .read-expression2 .ensures .1, part-length (c .before .before .before .before .before .before .before .before .before .before .before .before .before .args .s .now) (1 + c .before .before .before .first .given .0 .0) (length (c .before .before .before .before .before .before .before .before .before .before .before .before .before .args .s .now)) l (omega arith))
+second-in t c n q = part-end (c .before .before .before .before .before .before .before .before .before .before .before .before .before .args .s .now) (1 + c .before .before .before .first .given .0 .0) (first-in t (c .before .before .before .before .before) _ (c .before .before .before .first .given .1)) (ap reachedEnd q) (c .read-expression2 .ensures .1)
 
 -- a quotient or remainder: its argument, then the divisor
 dividend : (t : ℕ) (c : read-expression-lts.After-read-expression3 (read-expression-cs t) (read-expression-at t) read-expression.Post) →
@@ -97,20 +69,8 @@ dividend : (t : ℕ) (c : read-expression-lts.After-read-expression3 (read-expre
 unfolding skipped
 dividend t c = read-by _ _ _ _ (c .before .before .before .before .before .before .before .if1 .left) (c .before .before .before .before .before .before .if2 .left) (λ x d. tt) (λ x d. refl) (c .before .before .before .if3 .left) (c .before .before .if4 .taken)
 
-dividend-got : (t : ℕ) (c : read-expression-lts.After-read-expression3 (read-expression-cs t) (read-expression-at t) read-expression.Post) (n : ℕ) → c .read-expression3 .result ≡ Rd.At n →
-    let a = c .before .before .before .before .before .before .before .before .before .args in
-    ends (a .variables) (a .levels - 1) (onward (a .s .now) (1)) ≡ got tt (onward (a .s .now) (1 + n))
-unfolding skipped
-dividend-got t c n q = part-got (ends _ _) _ _ n (answered (reached _ tt) (c .read-expression3 .ensures .0) q)
-
-dividend-fault : (t : ℕ) (c : read-expression-lts.After-read-expression3 (read-expression-cs t) (read-expression-at t) read-expression.Post) {f : Fault} → c .read-expression3 .result ≡ Rd.Fault f →
-    let a = c .before .before .before .before .before .before .before .before .before .args in
-    ends (a .variables) (a .levels - 1) (onward (a .s .now) (1)) ≡ fault (faultOf f)
-unfolding skipped
-dividend-fault t c q = part-fault (ends _ _) _ _ (answered (reached _ tt) (c .read-expression3 .ensures .0) q)
-
 dividend-in : (t : ℕ) (c : read-expression-lts.After-read-expression3 (read-expression-cs t) (read-expression-at t) read-expression.Post) (n : ℕ) → c .read-expression3 .result ≡ Rd.At n → 1 + n ≤ length (c .before .before .before .before .before .before .before .before .before .args .s .now)
-dividend-in t c n q = omega (arith, ap reachedEnd q, c .read-expression3 .ensures .1, part-length (c .before .before .before .before .before .before .before .before .before .args .s .now) 1 (length (c .before .before .before .before .before .before .before .before .before .args .s .now)) (omega arith) (omega arith))
+dividend-in t c n q = part-end (c .before .before .before .before .before .before .before .before .before .args .s .now) (1) (omega arith) (ap reachedEnd q) (c .read-expression3 .ensures .1)
 
 read-expression-returns : (t : ℕ) → read-expression-lts.Need-returns (read-expression-cs t) (read-expression-at t) read-expression.Post
 unfolding skipped
@@ -158,7 +118,7 @@ read-expression-enum-told t c = c .match2 .keys2
 
 read-expression-returns-3 : (t : ℕ) → read-expression-lts.Need-returns-3 (read-expression-cs t) (read-expression-at t) read-expression.Post
 unfolding skipped
-read-expression-returns-3 t c = (ap (reached _ tt) (c .enum-told .given .1) ∙ sym (operands t (c .before .before) ∙ bind-fault _ _ _ (first-fault t (c .before .before) (c .enum-told .given .1))), omega (arith, ap reachedEnd (c .enum-told .given .1)))
+read-expression-returns-3 t c = (ap (reached _ tt) (c .enum-told .given .1) ∙ sym (operands t (c .before .before) ∙ bind-fault _ _ _ (part-fault (ends _ _) _ _ (answered (reached _ tt) (c .before .before .read-expression .ensures .0) (c .enum-told .given .1)))), omega (arith, ap reachedEnd (c .enum-told .given .1)))
 
 read-expression-add-read-expression : (t : ℕ) → read-expression-lts.Need-add-read-expression (read-expression-cs t) (read-expression-at t) read-expression.Post
 read-expression-add-read-expression t c = omega (arith, first-in t (c .before .before .before) _ (c .before .first .given .1))
@@ -189,7 +149,7 @@ read-expression-enum-told-2 t c = c .match3 .keys2
 
 read-expression-returns-4 : (t : ℕ) → read-expression-lts.Need-returns-4 (read-expression-cs t) (read-expression-at t) read-expression.Post
 unfolding skipped
-read-expression-returns-4 t c = (ap (reached _ tt) (c .enum-told2 .given .1) ∙ sym (operands t (c .before .before .before .before .before .before .before) ∙ bind-got _ _ _ (first-got t (c .before .before .before .before .before .before .before) _ (c .before .before .before .before .before .first .given .1)) ∙ bind-fault _ _ _ (second-fault t (c .before .before) (c .enum-told2 .given .1))), omega (arith, ap reachedEnd (c .enum-told2 .given .1)))
+read-expression-returns-4 t c = (ap (reached _ tt) (c .enum-told2 .given .1) ∙ sym (operands t (c .before .before .before .before .before .before .before) ∙ bind-got _ _ _ (part-got (ends _ _) _ _ _ (answered (reached _ tt) (c .before .before .before .before .before .before .before .read-expression .ensures .0) (c .before .before .before .before .before .first .given .1))) ∙ bind-fault _ _ _ (part-fault (ends _ _) _ _ (answered (reached _ tt) (c .before .before .read-expression2 .ensures .0) (c .enum-told2 .given .1)))), omega (arith, ap reachedEnd (c .enum-told2 .given .1)))
 
 read-expression-add-t21 : (t : ℕ) → read-expression-lts.Need-add-t21 (read-expression-cs t) (read-expression-at t) read-expression.Post
 read-expression-add-t21 t c = omega (arith, second-in t (c .before .before .before) _ (c .before .second .given .1), c .before .before .before .before .before .before .before .before .before .before .before .before .before .before .before .before .good .0 .0)
@@ -223,7 +183,7 @@ read-expression-enum-told-3 t c = c .match4 .keys2
 
 read-expression-returns-5 : (t : ℕ) → read-expression-lts.Need-returns-5 (read-expression-cs t) (read-expression-at t) read-expression.Post
 unfolding skipped
-read-expression-returns-5 t c = (ap (reached _ tt) (c .enum-told3 .given .1) ∙ sym (dividend t (c .before .before) ∙ bind-fault _ _ _ (dividend-fault t (c .before .before) (c .enum-told3 .given .1))), omega (arith, ap reachedEnd (c .enum-told3 .given .1)))
+read-expression-returns-5 t c = (ap (reached _ tt) (c .enum-told3 .given .1) ∙ sym (dividend t (c .before .before) ∙ bind-fault _ _ _ (part-fault (ends _ _) _ _ (answered (reached _ tt) (c .before .before .read-expression3 .ensures .0) (c .enum-told3 .given .1)))), omega (arith, ap reachedEnd (c .enum-told3 .given .1)))
 
 read-expression-add-read-divisor : (t : ℕ) → read-expression-lts.Need-add-read-divisor (read-expression-cs t) (read-expression-at t) read-expression.Post
 read-expression-add-read-divisor t c = omega (arith, dividend-in t (c .before .before .before) _ (c .before .first2 .given .1), c .before .before .before .before .before .before .before .before .before .before .before .before .good .0 .0)
@@ -244,11 +204,11 @@ read-expression-returns-7 t c = (byte-skipped _ (c .before .read-variable .resul
 
 read-expression-returns-8 : (t : ℕ) → read-expression-lts.Need-returns-8 (read-expression-cs t) (read-expression-at t) read-expression.Post
 unfolding skipped yield
-read-expression-returns-8 t c = (sym (operands t (c .before .before .before .before .before .before .before .before) ∙ bind-got _ _ _ (first-got t (c .before .before .before .before .before .before .before .before) _ (c .before .before .before .before .before .before .first .given .1)) ∙ bind-got _ _ _ (second-got t (c .before .before .before) _ (c .before .second .given .1))), second-in t (c .before .before .before) _ (c .before .second .given .1))
+read-expression-returns-8 t c = (sym (operands t (c .before .before .before .before .before .before .before .before) ∙ bind-got _ _ _ (part-got (ends _ _) _ _ _ (answered (reached _ tt) (c .before .before .before .before .before .before .before .before .read-expression .ensures .0) (c .before .before .before .before .before .before .first .given .1))) ∙ bind-got _ _ _ (part-got (ends _ _) _ _ _ (answered (reached _ tt) (c .before .before .before .read-expression2 .ensures .0) (c .before .second .given .1)))), second-in t (c .before .before .before) _ (c .before .second .given .1))
 
 read-expression-returns-9 : (t : ℕ) → read-expression-lts.Need-returns-9 (read-expression-cs t) (read-expression-at t) read-expression.Post
 unfolding skipped
-read-expression-returns-9 t c = (word-skipped _ (c .before .read-divisor .result) (c .word-reached .ensures) (c .before .read-divisor .ensures .0) ∙ sym (dividend t (c .before .before .before .before .before) ∙ bind-got _ _ _ (dividend-got t (c .before .before .before .before .before) _ (c .before .before .before .first2 .given .1))), word-skipped-end (c .before .read-divisor .result) _ (c .word-reached .ensures) (c .before .read-divisor .ensures .1))
+read-expression-returns-9 t c = (word-skipped _ (c .before .read-divisor .result) (c .word-reached .ensures) (c .before .read-divisor .ensures .0) ∙ sym (dividend t (c .before .before .before .before .before) ∙ bind-got _ _ _ (part-got (ends _ _) _ _ _ (answered (reached _ tt) (c .before .before .before .before .before .read-expression3 .ensures .0) (c .before .before .before .first2 .given .1)))), word-skipped-end (c .before .read-divisor .result) _ (c .word-reached .ensures) (c .before .read-divisor .ensures .1))
 
 read-expression-returns-10 : (t : ℕ) → read-expression-lts.Need-returns-10 (read-expression-cs t) (read-expression-at t) read-expression.Post
 unfolding skipped

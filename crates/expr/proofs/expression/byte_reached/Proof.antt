@@ -1,22 +1,16 @@
 use borrow.Author.Needs.{needs}
 use Rattle.expr.proofs.expression.byte_reached.Statement.{statement}
 use Rattle.expr.proofs.expression.byte_reached.Tie as tie
-use Rattle.expr.proofs.expression.byte_reached.Reads as reads
-use Rattle.expr.proofs.expression.byte_reached.Lts as lts
 
--- src/expression.rt:22:28
 enum-known-b : tie.Need-enum-known-b
 enum-known-b c = search needs
 
--- src/expression.rt:23:25
 enum-known-b-2 : tie.Need-enum-known-b-2
 enum-known-b-2 c = search needs
 
--- src/expression.rt:18:1
 returns : tie.Need-returns
 returns c = rw (c .before .b .given .1)
 
--- src/expression.rt:18:1
 returns-2 : tie.Need-returns-2
 returns-2 c = rw (c .before .b2 .given .1)
 

@@ -10,53 +10,38 @@ use Rattle.expr.proofs.Expressions.{divisor-in, divided-quotient, divid
 use borrow.Author.Needs.{needs}
 use Rattle.expr.proofs.expression.divide.Statement.{statement}
 use Rattle.expr.proofs.expression.divide.Tie as tie
-use Rattle.expr.proofs.expression.divide.Reads as reads
-use Rattle.expr.proofs.expression.divide.Lts as lts
-use Rattle.expr.proofs.expression.read_divisor.Reads as read-divisor-reads
-use Rattle.expr.proofs.field.word_fault.Reads as word-fault-reads
-use Rattle.expr.proofs.signed.quotient.Reads as quotient-reads
-use Rattle.expr.proofs.signed.remainder.Reads as remainder-reads
 
 -- the divisor that was read
 taken : (c : tie.After-known-told) → divisor (onward (c .before .before .before .before .before .args .s .now) (c .before .before .before .before .before .args .at)) ≡ got (c .before .w .given .0 .0) (onward (c .before .before .before .before .before .args .s .now) (c .before .w .given .0 .1 .0))
 taken c = answered (wordOf _) (c .before .before .before .read-divisor .ensures .0) (c .before .w .given .1)
 
--- src/expression.rt:163:9
 read-divisor-requires : tie.Need-read-divisor-requires
 read-divisor-requires c κs = search needs
 
--- src/expression.rt:164:25
 enum-known-w : tie.Need-enum-known-w
 enum-known-w c = search needs
 
--- src/expression.rt:165:33
 enum-told : tie.Need-enum-told
 enum-told c = search needs
 
--- src/expression.rt:165:33
 word-fault-requires : tie.Need-word-fault-requires
 word-fault-requires c κs = search needs
 
--- src/expression.rt:165:9
 returns : tie.Need-returns
 returns c = (ap (λ f. fault (faultOf f)) (c .word-fault .ensures ∙ ap wordFault (c .before .enum-told .given .1)) ∙ sym (mapped-fault _ (answered (wordOf _) (c .before .before .before .read-divisor .ensures .0) (c .before .enum-told .given .1))), omega arith)
 
--- src/expression.rt:168:26
 quotient-requires : tie.Need-quotient-requires
 quotient-requires c κs = omega (arith, divisor-in _ (taken (c .before)))
 
--- src/expression.rt:170:26
 remainder-requires : tie.Need-remainder-requires
 remainder-requires c κs = omega (arith, divisor-in _ (taken (c .before)))
 
--- src/expression.rt:159:1
 returns-2 : tie.Need-returns-2
 returns-2 c =
     let x = c .before .before .before .before .before .before .before .args .x in
     let d = c .before .before .before .w .given .0 .0 in
     (rw (read-back (c .quotient .result) (c .quotient .ok), c .quotient .ensures, read-back x (c .before .before .before .before .before .before .before .fits .x .sfits), ← divided-quotient x d (c .before .if1 .taken)) (sym (mapped-got _ (taken (c .before .before)))), omega (arith, ap wordEnd (c .before .before .before .w .given .1), c .before .before .before .before .before .read-divisor .ensures .1))
 
--- src/expression.rt:159:1
 returns-3 : tie.Need-returns-3
 returns-3 c =
     let x = c .before .before .before .before .before .before .before .args .x in

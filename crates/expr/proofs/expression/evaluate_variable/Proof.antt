@@ -8,39 +8,27 @@ use Rattle.expr.proofs.Integers.{read-back}
 use borrow.Author.Needs.{needs}
 use Rattle.expr.proofs.expression.evaluate_variable.Statement.{statement}
 use Rattle.expr.proofs.expression.evaluate_variable.Tie as tie
-use Rattle.expr.proofs.expression.evaluate_variable.Reads as reads
-use Rattle.expr.proofs.expression.evaluate_variable.Lts as lts
-use Rattle.expr.proofs.expression.read_variable.Reads as read-variable-reads
-use Rattle.expr.proofs.expression.variable_value.Reads as variable-value-reads
-use Rattle.expr.proofs.field.byte_fault.Reads as byte-fault-reads
 
--- src/expression.rt:140:9
 read-variable-requires : tie.Need-read-variable-requires
 read-variable-requires c κs = search needs
 
--- src/expression.rt:141:25
 enum-known-b : tie.Need-enum-known-b
 enum-known-b c = search needs
 
--- src/expression.rt:142:33
 enum-told : tie.Need-enum-told
 enum-told c = search needs
 
--- src/expression.rt:142:33
 byte-fault-requires : tie.Need-byte-fault-requires
 byte-fault-requires c κs = search needs
 
--- src/expression.rt:142:9
 returns : tie.Need-returns
 returns c = (ap (λ f. fault (faultOf f)) (c .byte-fault .ensures ∙ ap byteFault (c .before .enum-told .given .1)) ∙ sym (mapped-fault _ (answered (byteOf _) (c .before .before .before .read-variable .ensures .0) (c .before .enum-told .given .1))), omega arith)
 
--- src/expression.rt:144:22
 variable-value-requires : tie.Need-variable-value-requires
 variable-value-requires c κs = search needs
 
--- src/expression.rt:136:1
 returns-2 : tie.Need-returns-2
-returns-2 c = 
+returns-2 c =
     let r = c .before .before .before .before .before .read-variable in
     let w = c .before .before .before .b .given in
     (rw (read-back (c .variable-value .result) (c .variable-value .ok), c .variable-value .ensures) (sym (mapped-got _ (answered (byteOf _) (r .ensures .0) (w .1)))), omega (arith, ap byteEnd (w .1), r .ensures .1))

@@ -1,14 +1,10 @@
 use borrow.Author.Tests.{le-leb, lt-leb}
 use Rattle.expr.proofs.expression.is_divisor.Statement.{statement}
 use Rattle.expr.proofs.expression.is_divisor.Tie as tie
-use Rattle.expr.proofs.expression.is_divisor.Reads as reads
-use Rattle.expr.proofs.expression.is_divisor.Lts as lts
 
--- src/expression.rt:61:1
 returns : tie.Need-returns
 returns c = rw (le-leb 1 (c .before .args .d) (c .if1 .taken))
 
--- src/expression.rt:61:1
 returns-2 : tie.Need-returns-2
 returns-2 c = rw (lt-leb 1 (c .before .args .d) (c .if1 .left))
 

@@ -6,38 +6,27 @@ use Rattle.expr.proofs.Places.{such-got, such-not, such-fault, answered
 use borrow.Author.Needs.{needs}
 use Rattle.expr.proofs.expression.read_divisor.Statement.{statement}
 use Rattle.expr.proofs.expression.read_divisor.Tie as tie
-use Rattle.expr.proofs.expression.read_divisor.Reads as reads
-use Rattle.expr.proofs.expression.read_divisor.Lts as lts
-use Rattle.expr.proofs.expression.is_divisor.Reads as is-divisor-reads
-use Rattle.expr.proofs.field.read_word.Reads as read-word-reads
 
--- src/expression.rt:72:9
 read-word-requires : tie.Need-read-word-requires
 read-word-requires c κs = search needs
 
--- src/expression.rt:73:25
 enum-known-w : tie.Need-enum-known-w
 enum-known-w c = search needs
 
--- src/expression.rt:74:9
 enum-told : tie.Need-enum-told
 enum-told c = search needs
 
--- src/expression.rt:74:9
 returns : tie.Need-returns
 unfolding divisor
 returns c = (ap (wordOf _) (c .enum-told .given .1) ∙ sym (such-fault _ _ _ (answered (wordOf _) (c .before .before .read-word .ensures .0) (c .enum-told .given .1))), c .before .before .read-word .ensures .1)
 
--- src/expression.rt:76:8
 is-divisor-requires : tie.Need-is-divisor-requires
 is-divisor-requires c κs = search needs
 
--- src/expression.rt:68:1
 returns-2 : tie.Need-returns-2
 unfolding divisor
 returns-2 c = (sym (such-got _ _ _ (answered (wordOf _) (c .before .before .before .before .before .read-word .ensures .0) (c .before .before .before .w .given .1)) (sym (c .before .is-divisor .ensures) ∙ c .if1 .taken)), omega (arith, ap wordEnd (c .before .before .before .w .given .1), c .before .before .before .before .before .read-word .ensures .1))
 
--- src/expression.rt:68:1
 returns-3 : tie.Need-returns-3
 unfolding divisor
 returns-3 c = (sym (such-not _ _ _ (answered (wordOf _) (c .before .before .before .before .before .read-word .ensures .0) (c .before .before .before .w .given .1)) (sym (c .before .is-divisor .ensures) ∙ c .if1 .left)), omega arith)

@@ -6,31 +6,22 @@ use Rattle.expr.proofs.Places.{such-got, such-not, such-fault, answered
 use borrow.Author.Needs.{needs}
 use Rattle.expr.proofs.expression.read_variable.Statement.{statement}
 use Rattle.expr.proofs.expression.read_variable.Tie as tie
-use Rattle.expr.proofs.expression.read_variable.Reads as reads
-use Rattle.expr.proofs.expression.read_variable.Lts as lts
-use Rattle.expr.proofs.field.read_byte.Reads as read-byte-reads
 
--- src/expression.rt:49:9
 read-byte-requires : tie.Need-read-byte-requires
 read-byte-requires c κs = search needs
 
--- src/expression.rt:50:25
 enum-known-b : tie.Need-enum-known-b
 enum-known-b c = search needs
 
--- src/expression.rt:51:9
 enum-told : tie.Need-enum-told
 enum-told c = search needs
 
--- src/expression.rt:51:9
 returns : tie.Need-returns
 returns c = (ap (byteOf _) (c .enum-told .given .1) ∙ sym (such-fault _ _ _ (answered (byteOf _) (c .before .before .read-byte .ensures .0) (c .enum-told .given .1))), c .before .before .read-byte .ensures .1)
 
--- src/expression.rt:45:1
 returns-2 : tie.Need-returns-2
 returns-2 c = (sym (such-got _ _ _ (answered (byteOf _) (c .before .before .before .before .read-byte .ensures .0) (c .before .before .b .given .1)) (lt-ltb _ _ (c .if1 .taken))), omega (arith, ap byteEnd (c .before .before .b .given .1), c .before .before .before .before .read-byte .ensures .1))
 
--- src/expression.rt:45:1
 returns-3 : tie.Need-returns-3
 returns-3 c = (sym (such-not _ _ _ (answered (byteOf _) (c .before .before .before .before .read-byte .ensures .0) (c .before .before .b .given .1)) (le-ltb _ _ (c .if1 .left))), omega arith)
 

@@ -5,22 +5,16 @@ use lib.ListN.{List·getD-eq-default}
 use borrow.Author.Needs.{needs}
 use Rattle.expr.proofs.expression.variable_value.Statement.{statement}
 use Rattle.expr.proofs.expression.variable_value.Tie as tie
-use Rattle.expr.proofs.expression.variable_value.Reads as reads
-use Rattle.expr.proofs.expression.variable_value.Lts as lts
 
--- src/expression.rt:132:17
 mul-result : tie.Need-mul-result
 mul-result c = search needs
 
--- src/expression.rt:132:17
 array-copy-out-result : tie.Need-array-copy-out-result
 array-copy-out-result c = search needs
 
--- src/expression.rt:129:1
 returns : tie.Need-returns
 returns c = search needs
 
--- src/expression.rt:129:1
 returns-2 : tie.Need-returns-2
 returns-2 c = sym (List·getD-eq-default (c .before .args .t2) (pos 0) {n = c .before .args .i} (omega (arith, c .before .good .1 .0 .1 .0 .1)))
 

@@ -1,22 +1,16 @@
 use borrow.Author.Needs.{needs}
 use Rattle.expr.proofs.expression.word_reached.Statement.{statement}
 use Rattle.expr.proofs.expression.word_reached.Tie as tie
-use Rattle.expr.proofs.expression.word_reached.Reads as reads
-use Rattle.expr.proofs.expression.word_reached.Lts as lts
 
--- src/expression.rt:31:28
 enum-known-w : tie.Need-enum-known-w
 enum-known-w c = search needs
 
--- src/expression.rt:32:25
 enum-known-w-2 : tie.Need-enum-known-w-2
 enum-known-w-2 c = search needs
 
--- src/expression.rt:27:1
 returns : tie.Need-returns
 returns c = rw (c .before .w .given .1)
 
--- src/expression.rt:27:1
 returns-2 : tie.Need-returns-2
 returns-2 c = rw (c .before .w2 .given .1)
 

@@ -1,0 +1,3 @@
+-- The proof of demand 3, a file for each step.
+pub mod Relation
+pub mod Claims

@@ -1,0 +1,79 @@
+use mathlib.Core.Path.{_≡_, refl, sym, ap, _∙_}
+use mathlib.Core.Bool.{true, false}
+use mathlib.Core.List.{List, []}
+use Prim.Native.Nat.{ℕ, _-_, _<_}
+use native.Mathlib.Omega.{arith}
+use borrow.Author.Needs.{needs}
+use borrow.Author.Tests.{not-true, not-false}
+use Rattle.expr.proofs.Bools.{both}
+use Rattle.expr.specs.Lists.{all, elem}
+use Rattle.expr.specs.Reading.{got, fault, many, mapped, skipped}
+use Rattle.expr.specs.Guard.{Guard, Update, limits, guard, update, holds}
+use Rattle.expr.specs.Label.{targets, distinct}
+use Rattle.expr.specs.Places.{onward, byteOf, testOf, reached, faultOf, byteFault}
+use Rattle.expr.proofs.Places.{answered}
+use Rattle.expr.proofs.Reading.{no-answer, got-value, mapped-got, mapped-fault, mapped-at, fault-at}
+use Rattle.expr.proofs.Lists.{all-more, not-all}
+use Rattle.expr.proofs.Many.{Going, going-none, going-more, going-stop, going-all, going-has}
+use Rattle.expr.proofs.label.all_hold.Statement.{statement}
+use Rattle.expr.proofs.label.all_hold.Tie as tie
+use Rattle.expr.proofs.label.all_hold.Reads as reads
+use Rattle.expr.proofs.label.all_hold.Lts as lts
+use Rattle.expr.proofs.guard.guard_holds.Reads as guard-holds-reads
+
+abbrev Inv-loop : tie.InvT-loop
+Inv-loop s at count clocks variables values times place₀ i₀ place i = (seen : List Guard) × Going (guard (limits clocks variables)) count (onward s at) (onward s place) i seen × (all (holds values times) seen ≡ true)
+
+abbrev μ-loop : tie.MeasureT-loop
+μ-loop s at count clocks variables values times place₀ i₀ place i = count - i
+
+loop-holds : tie.Need-loop-holds Inv-loop μ-loop
+unfolding all
+loop-holds c = ([], going-none _ _ _, refl)
+
+guard-holds-requires : tie.Need-guard-holds-requires Inv-loop μ-loop
+guard-holds-requires c κs = search needs
+
+enum-known-h : tie.Need-enum-known-h Inv-loop μ-loop
+enum-known-h c = search needs
+
+enum-told : tie.Need-enum-told Inv-loop μ-loop
+enum-told c = search needs
+
+returns : tie.Need-returns Inv-loop μ-loop
+returns c = λ gs t e. no-answer (sym (going-stop _ _ _ (c .before .before .before .before .loop .inv .1) (c .before .before .before .loop-test .taken) (fault-at _ _ (answered (testOf _) (c .before .before .guard-holds .ensures) (c .enum-told .given .1)))) ∙ e)
+
+returns-2 : tie.Need-returns-2 Inv-loop μ-loop
+returns-2 c = λ gs t e. let m = mapped-at _ _ (answered (testOf _) (c .before .before .before .before .guard-holds .ensures) (c .before .before .h .given .1)) in
+    sym (not-all _ (going-has _ _ _ (c .before .before .before .before .before .before .loop .inv .1) (c .before .before .before .before .before .loop-test .taken) (m .1) e) (m .2 ∙ not-true _ (c .if1 .taken)))
+
+add-i : tie.Need-add-i Inv-loop μ-loop
+add-i c = search needs
+
+loop-less : tie.Need-loop-less Inv-loop μ-loop
+loop-less c = search needs
+
+loop-again : tie.Need-loop-again Inv-loop μ-loop
+loop-again c = let m = mapped-at _ _ (answered (testOf _) (c .before .before .before .before .guard-holds .ensures) (c .before .before .h .given .1)) in
+    let g = c .before .before .before .before .before .before .loop .inv in
+    (_, going-more _ _ _ (g .1) (c .before .before .before .before .before .loop-test .taken) (m .1), all-more _ (g .0) (m .0) ∙ both (g .2) (m .2 ∙ not-false _ (c .if1 .left)))
+
+returns-3 : tie.Need-returns-3 Inv-loop μ-loop
+returns-3 c = λ gs t e. sym (ap (all (holds _ _)) (got-value (sym e ∙ going-all _ _ _ (c .before .loop .inv .1) (c .loop-test .left) .0)) ∙ c .before .loop .inv .2)
+
+pub all-hold-spec : {M : Type 1} → statement M
+all-hold-spec =
+    tie.close
+    (tie.spec
+    Inv-loop
+    μ-loop
+    loop-holds
+    guard-holds-requires
+    enum-known-h
+    enum-told
+    returns
+    returns-2
+    add-i
+    loop-less
+    loop-again
+    returns-3)

@@ -1,0 +1,73 @@
+use mathlib.Core.Path.{_≡_, refl, sym, ap, _∙_}
+use mathlib.Core.Bool.{true, false}
+use mathlib.Core.List.{List, []}
+use Prim.Native.Nat.{ℕ, _-_, _<_}
+use native.Mathlib.Omega.{arith}
+use borrow.Author.Needs.{needs}
+use Rattle.expr.specs.Lists.{all, elem}
+use Rattle.expr.specs.Reading.{got, fault, many, mapped, skipped}
+use Rattle.expr.specs.Guard.{Guard, Update, limits, guard, update, holds}
+use Rattle.expr.specs.Label.{targets, distinct}
+use Rattle.expr.specs.Places.{onward, byteOf, testOf, reached, faultOf, byteFault}
+use Rattle.expr.proofs.Places.{answered}
+use Rattle.expr.proofs.Reading.{no-answer, got-value, mapped-got, mapped-fault, mapped-at, fault-at}
+use Rattle.expr.proofs.Lists.{all-more, not-all}
+use Rattle.expr.proofs.Many.{Going, going-none, going-more, going-stop, going-all, going-has}
+use Rattle.expr.proofs.label.read_guards.Statement.{statement}
+use Rattle.expr.proofs.label.read_guards.Tie as tie
+use Rattle.expr.proofs.label.read_guards.Reads as reads
+use Rattle.expr.proofs.label.read_guards.Lts as lts
+use Rattle.expr.proofs.guard.read_guard.Reads as read-guard-reads
+
+abbrev Inv-loop : tie.InvT-loop
+Inv-loop s at count clocks variables place₀ i₀ place i = (seen : List Guard) × Going (guard (limits clocks variables)) count (onward s at) (onward s place) i seen
+
+abbrev μ-loop : tie.MeasureT-loop
+μ-loop s at count clocks variables place₀ i₀ place i = count - i
+
+loop-holds : tie.Need-loop-holds Inv-loop μ-loop
+loop-holds c = ([], going-none _ _ _)
+
+read-guard-requires : tie.Need-read-guard-requires Inv-loop μ-loop
+read-guard-requires c κs = search needs
+
+enum-known-q : tie.Need-enum-known-q Inv-loop μ-loop
+enum-known-q c = search needs
+
+enum-told : tie.Need-enum-told Inv-loop μ-loop
+enum-told c = search needs
+
+returns : tie.Need-returns Inv-loop μ-loop
+unfolding skipped
+returns c = ap (reached _ tt) (c .enum-told .given .1)
+    ∙ sym (mapped-fault _ (going-stop _ _ _ (c .before .before .before .before .loop .inv .1) (c .before .before .before .loop-test .taken) (fault-at _ _ (answered (reached _ tt) (c .before .before .read-guard .ensures) (c .enum-told .given .1)))))
+
+add-i : tie.Need-add-i Inv-loop μ-loop
+add-i c = search needs
+
+loop-less : tie.Need-loop-less Inv-loop μ-loop
+loop-less c = search needs
+
+loop-again : tie.Need-loop-again Inv-loop μ-loop
+unfolding skipped
+loop-again c = (_, going-more _ _ _ (c .before .before .before .before .before .loop .inv .1) (c .before .before .before .before .loop-test .taken) (mapped-at _ _ (answered (reached _ tt) (c .before .before .before .read-guard .ensures) (c .before .q .given .1)) .1))
+
+returns-2 : tie.Need-returns-2 Inv-loop μ-loop
+unfolding skipped
+returns-2 c = sym (mapped-got _ (going-all _ _ _ (c .before .loop .inv .1) (c .loop-test .left) .0))
+
+pub read-guards-spec : {M : Type 1} → statement M
+read-guards-spec =
+    tie.close
+    (tie.spec
+    Inv-loop
+    μ-loop
+    loop-holds
+    read-guard-requires
+    enum-known-q
+    enum-told
+    returns
+    add-i
+    loop-less
+    loop-again
+    returns-2)

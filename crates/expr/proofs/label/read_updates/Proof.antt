@@ -1,0 +1,105 @@
+use mathlib.Core.Path.{_≡_, refl, sym, ap, _∙_}
+use mathlib.Core.Bool.{true, false}
+use mathlib.Core.List.{List, []}
+use Prim.Native.Nat.{ℕ, _-_, _<_}
+use native.Mathlib.Omega.{arith}
+use borrow.Author.Needs.{needs}
+use Rattle.expr.specs.Lists.{all, elem}
+use Rattle.expr.specs.Reading.{got, fault, many, mapped, skipped}
+use Rattle.expr.specs.Guard.{Guard, Update, limits, guard, update, holds}
+use Rattle.expr.specs.Label.{targets, distinct}
+use Rattle.expr.specs.Places.{onward, byteOf, testOf, reached, faultOf, byteFault}
+use Rattle.expr.proofs.Places.{answered}
+use Rattle.expr.proofs.Reading.{no-answer, got-value, mapped-got, mapped-fault, mapped-at, fault-at}
+use Rattle.expr.proofs.Lists.{all-more, not-all}
+use Rattle.expr.proofs.Many.{Going, going-none, going-more, going-stop, going-all, going-has}
+use lib.ListN.{length, getD, length-set, getD-replicate}
+use Rattle.expr.proofs.Labels.{update-known, once-more, assigned-more}
+use Rattle.expr.proofs.label.read_updates.Statement.{statement}
+use Rattle.expr.proofs.label.read_updates.Tie as tie
+use Rattle.expr.proofs.label.read_updates.Reads as reads
+use Rattle.expr.proofs.label.read_updates.Lts as lts
+use Rattle.expr.proofs.field.byte_fault.Reads as byte-fault-reads
+use Rattle.expr.proofs.guard.read_update.Reads as read-update-reads
+use Rattle.expr.proofs.label.still.Reads as still-reads
+
+abbrev Inv-loop : tie.InvT-loop
+Inv-loop s at count variables seen₀ once₀ place₀ i₀ seen once place i = (us : List Update) × Going (update (limits 0 variables)) count (onward s at) (onward s place) i us × (once ≡ distinct (targets us)) × (length seen ≡ 16) × ((v : ℕ) → v < 16 → getD seen v false ≡ elem v (targets us))
+
+abbrev μ-loop : tie.MeasureT-loop
+μ-loop s at count variables seen₀ once₀ place₀ i₀ seen once place i = count - i
+
+-- the assignment that was read
+read : (c : tie.After-known-told Inv-loop μ-loop) → let a = c .before .before .before .before .before .before .before .args in (u : Update) × (update (limits 0 (a .variables)) (onward (a .s .now) (c .before .before .before .before .before .loop .place)) ≡ got u (onward (a .s .now) (c .before .b .given .0 .1 .0))) × (u .target ≡ c .before .b .given .0 .0)
+read c = mapped-at _ _ (answered (byteOf _) (c .before .before .before .read-update .ensures 0) (c .before .b .given .1))
+
+known : (c : tie.After-known-told Inv-loop μ-loop) → c .before .b .given .0 .0 < 16
+known c = omega (arith, update-known (limits 0 (c .before .before .before .before .before .before .before .args .variables)) _ (read c .1), read c .2, c .before .before .before .before .before .before .before .pre)
+
+loop-holds : tie.Need-loop-holds Inv-loop μ-loop
+unfolding distinct elem
+loop-holds c = ([], going-none _ _ _, refl, refl, λ v l. getD-replicate 16 v false false l)
+
+read-update-requires : tie.Need-read-update-requires Inv-loop μ-loop
+read-update-requires c κs = search needs
+
+enum-known-b : tie.Need-enum-known-b Inv-loop μ-loop
+enum-known-b c = search needs
+
+enum-told : tie.Need-enum-told Inv-loop μ-loop
+enum-told c = search needs
+
+byte-fault-requires : tie.Need-byte-fault-requires Inv-loop μ-loop
+byte-fault-requires c κs = search needs
+
+returns : tie.Need-returns Inv-loop μ-loop
+returns c = ap (λ f. fault (faultOf f)) (c .byte-fault .ensures ∙ ap byteFault (c .before .enum-told .given .1))
+    ∙ sym (mapped-fault _ (going-stop _ _ _ (c .before .before .before .before .before .loop .inv .1) (c .before .before .before .before .loop-test .taken) (fault-at _ _ (answered (byteOf _) (c .before .before .before .read-update .ensures 0) (c .before .enum-told .given .1)))))
+
+cast-v : tie.Need-cast-v Inv-loop μ-loop
+cast-v c = search needs
+
+array-read-still : tie.Need-array-read-still Inv-loop μ-loop
+array-read-still c = known c
+
+still-requires : tie.Need-still-requires Inv-loop μ-loop
+still-requires c κs = search needs
+
+array-write-seen : tie.Need-array-write-seen Inv-loop μ-loop
+array-write-seen c = known (c .before)
+
+add-i : tie.Need-add-i Inv-loop μ-loop
+add-i c = search needs
+
+loop-less : tie.Need-loop-less Inv-loop μ-loop
+loop-less c = search needs
+
+loop-again : tie.Need-loop-again Inv-loop μ-loop
+loop-again c = let g = c .before .before .before .before .before .before .loop .inv in
+    let r = read (c .before) in
+    (_, going-more _ _ _ (g .1) (c .before .before .before .before .before .loop-test .taken) (r .1), once-more (g .0) (r .0) (r .2) (c .still .ensures) (g .2) (g .4 _ (known (c .before))), simp length-set (g .3), assigned-more (g .0) (r .0) (r .2) (c .before .before .before .before .before .before .loop .seen) (g .3) (known (c .before)) (g .4))
+
+returns-2 : tie.Need-returns-2 Inv-loop μ-loop
+returns-2 c = let g = c .before .loop .inv in
+    rw (g .2) (sym (mapped-got _ (going-all _ _ _ (g .1) (c .loop-test .left) .0)))
+
+pub read-updates-spec : {M : Type 1} → statement M
+read-updates-spec =
+    tie.close
+    (tie.spec
+    Inv-loop
+    μ-loop
+    loop-holds
+    read-update-requires
+    enum-known-b
+    enum-told
+    byte-fault-requires
+    returns
+    cast-v
+    array-read-still
+    still-requires
+    array-write-seen
+    add-i
+    loop-less
+    loop-again
+    returns-2)

@@ -1,0 +1,11 @@
+//! Answers requests, one to a line, from standard input. README.md describes the form.
+
+use std::io::{self, BufRead, BufWriter, Write};
+
+fn main() -> io::Result<()> {
+    let mut output = BufWriter::new(io::stdout().lock());
+    for line in io::stdin().lock().lines() {
+        writeln!(output, "{}", reference::text_form::answer_line(&line?))?;
+    }
+    output.flush()
+}

@@ -1,0 +1,166 @@
+//! Requests as bytes, for programs that read all their input into one buffer, and the lines that
+//! such programs print. README.md describes the layout.
+
+use crate::chart_machine::ChartConfiguration;
+use crate::limits::{AUTOMATA, CLOCKS, STATES, VARIABLES};
+use crate::network_machine::NetworkConfiguration;
+use crate::reader::{Fault, Reader};
+use crate::refusal::Refusal;
+use crate::request::{Request, Success};
+use crate::text_form::hexadecimal;
+use crate::values::Values;
+
+/// The bytes of one request.
+pub fn request_to_bytes(request: &Request) -> Vec<u8> {
+    let mut bytes = vec![operation(request)];
+    bytes.extend((request.file().len() as u32).to_be_bytes());
+    bytes.extend(request.file());
+    match request {
+        Request::Check(_) | Request::ChartStart(_) | Request::NetworkStart(_) => {}
+        Request::Flatten(_, room) => bytes.extend(room.to_be_bytes()),
+        Request::ChartStep(_, configuration, list) => {
+            bytes.extend(chart_configuration_to_bytes(configuration));
+            list_to_bytes(list, &mut bytes);
+        }
+        Request::ChartWait(_, configuration, ticks) => {
+            bytes.extend(chart_configuration_to_bytes(configuration));
+            bytes.extend(ticks.to_be_bytes());
+        }
+        Request::NetworkStep(_, configuration, list) => {
+            bytes.extend(network_configuration_to_bytes(configuration));
+            list_to_bytes(list, &mut bytes);
+        }
+        Request::NetworkWait(_, configuration, ticks) => {
+            bytes.extend(network_configuration_to_bytes(configuration));
+            bytes.extend(ticks.to_be_bytes());
+        }
+    }
+    bytes
+}
+
+/// The number of a request's operation.
+pub fn operation(request: &Request) -> u8 {
+    match request {
+        Request::Check(_) => 0,
+        Request::Flatten(..) => 1,
+        Request::ChartStart(_) => 2,
+        Request::ChartStep(..) => 3,
+        Request::ChartWait(..) => 4,
+        Request::NetworkStart(_) => 5,
+        Request::NetworkStep(..) => 6,
+        Request::NetworkWait(..) => 7,
+    }
+}
+
+/// All requests of an input, or none if the input is not made of whole requests.
+pub fn requests_from_bytes(input: &[u8]) -> Option<Vec<Request>> {
+    let mut reader = Reader::new(input);
+    let mut requests = Vec::new();
+    while reader.end().is_err() {
+        requests.push(request_from_reader(&mut reader).ok()?);
+    }
+    Some(requests)
+}
+
+fn request_from_reader(reader: &mut Reader) -> Result<Request, Fault> {
+    let operation = reader.byte()?;
+    let length = reader.four_bytes()?;
+    let file = reader.take(length as usize)?.to_vec();
+    Ok(match operation {
+        0 => Request::Check(file),
+        1 => Request::Flatten(file, reader.four_bytes()?),
+        2 => Request::ChartStart(file),
+        3 => Request::ChartStep(file, chart_configuration(reader)?, list_from_reader(reader)?),
+        4 => Request::ChartWait(file, chart_configuration(reader)?, reader.four_bytes()?),
+        5 => Request::NetworkStart(file),
+        6 => Request::NetworkStep(file, network_configuration(reader)?, list_from_reader(reader)?),
+        7 => Request::NetworkWait(file, network_configuration(reader)?, reader.four_bytes()?),
+        _ => return Err(Fault::Field),
+    })
+}
+
+/// The line that answers a request, without its line feed.
+pub fn answer_to_line(answer: &Result<Success, Refusal>) -> String {
+    match answer {
+        Ok(Success::Passed) => "ok".to_string(),
+        Ok(Success::Flattened(network)) => {
+            format!("ok {} {:08x}", network.len(), checksum(network))
+        }
+        Ok(Success::Chart(new)) => {
+            format!("ok {}", hexadecimal(&chart_configuration_to_bytes(new)))
+        }
+        Ok(Success::Network(new)) => {
+            format!("ok {}", hexadecimal(&network_configuration_to_bytes(new)))
+        }
+        Err(refusal) => refusal.number().to_string(),
+    }
+}
+
+/// FNV-1a with 32 bits.
+pub fn checksum(bytes: &[u8]) -> u32 {
+    bytes
+        .iter()
+        .fold(0x811C_9DC5, |hash: u32, &byte| (hash ^ u32::from(byte)).wrapping_mul(0x0100_0193))
+}
+
+fn chart_configuration_to_bytes(configuration: &ChartConfiguration) -> Vec<u8> {
+    let mut bytes: Vec<u8> = configuration.active.iter().map(|&active| u8::from(active)).collect();
+    values_to_bytes(&configuration.values, &mut bytes);
+    bytes
+}
+
+fn chart_configuration(reader: &mut Reader) -> Result<ChartConfiguration, Fault> {
+    let mut active = [false; STATES];
+    for state in &mut active {
+        *state = reader.truth()?;
+    }
+    Ok(ChartConfiguration { active, values: values_from_reader(reader)? })
+}
+
+fn network_configuration_to_bytes(configuration: &NetworkConfiguration) -> Vec<u8> {
+    let mut bytes = configuration.locations.to_vec();
+    bytes.extend(configuration.flags);
+    values_to_bytes(&configuration.values, &mut bytes);
+    bytes
+}
+
+fn network_configuration(reader: &mut Reader) -> Result<NetworkConfiguration, Fault> {
+    let mut locations = [0; AUTOMATA];
+    let mut flags = [0; AUTOMATA];
+    locations.copy_from_slice(reader.take(AUTOMATA)?);
+    flags.copy_from_slice(reader.take(AUTOMATA)?);
+    Ok(NetworkConfiguration { locations, flags, values: values_from_reader(reader)? })
+}
+
+fn values_to_bytes(values: &Values, bytes: &mut Vec<u8>) {
+    for variable in values.variables {
+        bytes.extend(variable.to_be_bytes());
+    }
+    for clock in values.clocks {
+        bytes.extend(clock.to_be_bytes());
+    }
+}
+
+fn values_from_reader(reader: &mut Reader) -> Result<Values, Fault> {
+    let mut variables = [0; VARIABLES];
+    let mut clocks = [0; CLOCKS];
+    for variable in &mut variables {
+        *variable = reader.four_bytes()? as i32;
+    }
+    for clock in &mut clocks {
+        *clock = reader.four_bytes()?;
+    }
+    Ok(Values { variables, clocks })
+}
+
+fn list_to_bytes(list: &[u16], bytes: &mut Vec<u8>) {
+    bytes.extend((list.len() as u16).to_be_bytes());
+    for number in list {
+        bytes.extend(number.to_be_bytes());
+    }
+}
+
+fn list_from_reader(reader: &mut Reader) -> Result<Vec<u16>, Fault> {
+    let count = reader.two_bytes()?;
+    (0..count).map(|_| reader.two_bytes()).collect()
+}

@@ -1,0 +1,275 @@
+//! What a request exercises, in words. The vector files are chosen by it, and tests ask for it.
+
+use std::collections::{BTreeMap, BTreeSet};
+
+use crate::chart::{Chart, Transition};
+use crate::chart_machine;
+use crate::check::check;
+use crate::expression::Expression;
+use crate::flatten::network_of;
+use crate::guard::Guard;
+use crate::label::{Label, Signal};
+use crate::layout::{Layout, Place};
+use crate::network::{Edge, Network};
+use crate::network_machine;
+use crate::refusal::Refusal;
+use crate::request::{Request, Success};
+use crate::values::Values;
+
+/// A set of features, each in words.
+pub type Features = BTreeSet<String>;
+
+/// How often each feature was met.
+pub type Counts = BTreeMap<String, usize>;
+
+/// The name of a request's operation.
+pub fn operation_name(request: &Request) -> &'static str {
+    match request {
+        Request::Check(_) => "check",
+        Request::Flatten(..) => "flatten",
+        Request::ChartStart(_) => "chart start",
+        Request::ChartStep(..) => "chart step",
+        Request::ChartWait(..) => "chart wait",
+        Request::NetworkStart(_) => "network start",
+        Request::NetworkStep(..) => "network step",
+        Request::NetworkWait(..) => "network wait",
+    }
+}
+
+/// The features of a request. `layout` tells what the locations of a flattened network stand for.
+pub fn features(request: &Request, layout: Option<&Layout>) -> Features {
+    let answer = request.answer();
+    let mut found = Features::new();
+    found.insert(match &answer {
+        Ok(_) => "ok".to_string(),
+        Err(refusal) => format!("refusal {}", refusal.number()),
+    });
+    match request {
+        Request::Check(file) if answer.is_ok() => {
+            if let Ok(chart) = check(file) {
+                for transition in &chart.transitions {
+                    add_label_parts(&transition.label, &mut found);
+                }
+            }
+        }
+        Request::Flatten(file, _) if answer.is_ok() => {
+            if let Ok(chart) = check(file) {
+                add_flatten_features(&chart, &mut found);
+            }
+        }
+        Request::ChartStep(file, configuration, list) => {
+            if let Ok(chart) = check(file) {
+                let known = list.iter().filter_map(|&n| chart.transitions.get(usize::from(n)));
+                let active =
+                    known.filter(|transition| configuration.active[transition.source]).collect();
+                add_chart_step_features(&chart, active, &configuration.values, &answer, &mut found);
+            }
+        }
+        Request::NetworkStep(file, configuration, list) => {
+            if let Ok(network) = Network::read(file) {
+                let known = list.iter().filter_map(|&n| network.edges.get(usize::from(n)));
+                let occupied = known.filter(|edge| {
+                    let automaton = network.locations[edge.source].automaton;
+                    usize::from(configuration.locations[automaton]) == edge.source
+                });
+                let occupied: Vec<&Edge> = occupied.collect();
+                let values = &configuration.values;
+                add_network_step_features(&network, &occupied, values, &answer, layout, &mut found);
+                if answer == Err(Refusal::Inactive) {
+                    let fails = |edge: &&&Edge| {
+                        edge.label.guards_hold(values)
+                            && !network_machine::is_active(&network, configuration, edge)
+                    };
+                    if occupied.iter().find(fails).is_some() {
+                        found.insert("flag test false".to_string());
+                    }
+                }
+            }
+        }
+        _ => {}
+    }
+    let name = operation_name(request);
+    found.into_iter().map(|feature| format!("{name}: {feature}")).collect()
+}
+
+fn add_chart_step_features(
+    chart: &Chart,
+    active: Vec<&Transition>,
+    values: &Values,
+    answer: &Result<Success, Refusal>,
+    found: &mut Features,
+) {
+    for transition in &active {
+        add_guard_truths(&transition.label, values, found);
+        if answer.is_ok() {
+            add_label_parts(&transition.label, found);
+            let kind = |state: usize| chart.states[state].kind;
+            found.insert(format!("from {:?}", kind(transition.source)));
+            found.insert(format!("to {:?}", kind(transition.destination)));
+            let composite = transition.exit.is_some();
+            if composite && transition.source == transition.destination {
+                found.insert("composite self-loop".to_string());
+            }
+        }
+    }
+    if answer.is_ok() {
+        let labels: Vec<&Label> = active.iter().map(|transition| &*transition.label).collect();
+        found.insert(set_kind(&labels, chart.declared.rendezvous));
+    }
+}
+
+fn add_network_step_features(
+    network: &Network,
+    occupied: &[&Edge],
+    values: &Values,
+    answer: &Result<Success, Refusal>,
+    layout: Option<&Layout>,
+    found: &mut Features,
+) {
+    for edge in occupied {
+        add_guard_truths(&edge.label, values, found);
+        if answer.is_ok() {
+            add_label_parts(&edge.label, found);
+            add_flag_parts(edge, found);
+            if let Some(layout) = layout {
+                found.insert(format!("leaves {}", place_name(layout.places[edge.source])));
+                found.insert(format!("reaches {}", place_name(layout.places[edge.target])));
+            }
+        }
+    }
+    if answer.is_ok() {
+        let labels: Vec<&Label> = occupied.iter().map(|edge| &*edge.label).collect();
+        found.insert(set_kind(&labels, network.declared.rendezvous));
+    }
+}
+
+fn add_flatten_features(chart: &Chart, found: &mut Features) {
+    let Ok(network) = network_of(chart) else {
+        return;
+    };
+    for edge in &network.edges {
+        add_label_parts(&edge.label, found);
+        add_flag_parts(edge, found);
+    }
+    for place in Layout::of(chart).places {
+        found.insert(format!("has {}", place_name(place)));
+    }
+    for number in 0..chart.transitions.len() {
+        if chart.transitions[number].exit.is_some() {
+            let alternatives =
+                network.edges.iter().filter(|edge| edge.transition == Some(number)).count();
+            found.insert(format!("{} alternatives", at_most(alternatives, 4)));
+        }
+        let initially = chart_machine::start(chart).active;
+        if chart.transitions[number].exit.is_some() && initially[chart.transitions[number].source] {
+            found.insert("exit from an initially active state".to_string());
+        }
+    }
+}
+
+fn add_flag_parts(edge: &Edge, found: &mut Features) {
+    if edge.exit_tested.is_some() {
+        let zeros = edge.automata_tested & !edge.values_needed != 0;
+        let ones = edge.values_needed != 0;
+        found.insert(format!("flag test of 0: {zeros}, of 1: {ones}"));
+    }
+    if edge.exits_written & !edge.values_written != 0 {
+        found.insert("flag written 0".to_string());
+    }
+    if edge.values_written != 0 {
+        found.insert("flag written 1".to_string());
+    }
+}
+
+/// Which of the three cases of an allowed set this is.
+fn set_kind(labels: &[&Label], rendezvous: usize) -> String {
+    let channel = labels.iter().find_map(|label| label.signal.channel());
+    match channel {
+        None => "set without signal".to_string(),
+        Some(channel) if channel < rendezvous => "set on a rendezvous channel".to_string(),
+        Some(_) => {
+            format!("set on a broadcast channel, {} receivers", at_most(labels.len() - 1, 3))
+        }
+    }
+}
+
+fn add_guard_truths(label: &Label, values: &Values, found: &mut Features) {
+    for guard in &label.guards {
+        found.insert(format!("guard {} is {}", guard_name(guard), guard.holds(values)));
+    }
+}
+
+fn add_label_parts(label: &Label, found: &mut Features) {
+    found.insert(match label.signal {
+        Signal::None => "signal none".to_string(),
+        Signal::Send(_) => "signal send".to_string(),
+        Signal::Receive(_) => "signal receive".to_string(),
+    });
+    for guard in &label.guards {
+        found.insert(format!("guard {}", guard_name(guard)));
+        if let Guard::Data { left, right, .. } = guard {
+            add_codes(left, found);
+            add_codes(right, found);
+        }
+    }
+    for assignment in &label.assignments {
+        add_codes(&assignment.expression, found);
+    }
+    if label.assignments.len() > 1 {
+        found.insert("several assignments".to_string());
+    }
+    if label.resets != 0 {
+        found.insert("resets".to_string());
+    }
+}
+
+fn add_codes(expression: &Expression, found: &mut Features) {
+    let code = match expression {
+        Expression::Constant(_) => 0,
+        Expression::Variable(_) => 1,
+        Expression::Sum(..) => 2,
+        Expression::Difference(..) => 3,
+        Expression::Product(..) => 4,
+        Expression::Quotient(..) => 5,
+        Expression::Remainder(..) => 6,
+    };
+    found.insert(format!("expression code {code}"));
+    match expression {
+        Expression::Constant(_) | Expression::Variable(_) => {}
+        Expression::Sum(first, second)
+        | Expression::Difference(first, second)
+        | Expression::Product(first, second) => {
+            add_codes(first, found);
+            add_codes(second, found);
+        }
+        Expression::Quotient(argument, _) | Expression::Remainder(argument, _) => {
+            add_codes(argument, found);
+        }
+    }
+}
+
+/// The kind and relation of a guard.
+pub fn guard_name(guard: &Guard) -> String {
+    match guard {
+        Guard::Data { relation, .. } => format!("Data {relation:?}"),
+        Guard::Clock { relation, .. } => format!("Clock {relation:?}"),
+        Guard::Difference { relation, .. } => format!("Difference {relation:?}"),
+    }
+}
+
+fn place_name(place: Place) -> &'static str {
+    match place {
+        Place::Idle => "idle",
+        Place::Child(_) => "child",
+        Place::Pre(..) => "pre",
+        Place::Post(_) => "post",
+    }
+}
+
+fn at_most(number: usize, most: usize) -> String {
+    if number >= most {
+        format!("{most} or more")
+    } else {
+        number.to_string()
+    }
+}

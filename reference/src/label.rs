@@ -1,0 +1,146 @@
+//! What transitions and edges have in common: signal, resets, guards and assignments.
+
+use crate::expression::Expression;
+use crate::guard::Guard;
+use crate::limits::{lowest_bits, LEVELS, NONE};
+use crate::reader::{in_range, Fault, Reader};
+use crate::values::Values;
+
+/// The numbers of clocks, variables and channels that a chart or network declares.
+#[derive(Clone, Copy, PartialEq, Eq, Debug, Default)]
+pub struct Declared {
+    pub clocks: usize,
+    pub variables: usize,
+    /// Rendezvous channels have the first numbers.
+    pub rendezvous: usize,
+    pub broadcast: usize,
+}
+
+impl Declared {
+    pub fn channels(&self) -> usize {
+        self.rendezvous + self.broadcast
+    }
+}
+
+#[derive(Clone, Copy, PartialEq, Eq, Debug)]
+pub enum Signal {
+    None,
+    Send(usize),
+    Receive(usize),
+}
+
+impl Signal {
+    pub fn read(reader: &mut Reader, channels: usize) -> Result<Signal, Fault> {
+        match reader.byte()? {
+            0 => {
+                in_range(reader.byte()? == NONE)?;
+                Ok(Signal::None)
+            }
+            1 => Ok(Signal::Send(reader.byte_below(channels)?)),
+            2 => Ok(Signal::Receive(reader.byte_below(channels)?)),
+            _ => Err(Fault::Field),
+        }
+    }
+
+    pub fn write(&self, bytes: &mut Vec<u8>) {
+        match self {
+            Signal::None => bytes.extend([0, NONE]),
+            Signal::Send(channel) => bytes.extend([1, *channel as u8]),
+            Signal::Receive(channel) => bytes.extend([2, *channel as u8]),
+        }
+    }
+
+    pub fn channel(&self) -> Option<usize> {
+        match self {
+            Signal::None => None,
+            Signal::Send(channel) | Signal::Receive(channel) => Some(*channel),
+        }
+    }
+}
+
+#[derive(Clone, PartialEq, Eq, Debug)]
+pub struct Assignment {
+    pub variable: usize,
+    pub expression: Expression,
+}
+
+/// The part of a transition or edge record from the signal on.
+#[derive(Clone, PartialEq, Eq, Debug)]
+pub struct Label {
+    pub signal: Signal,
+    /// Bit i is set when clock i is reset.
+    pub resets: u8,
+    pub guards: Vec<Guard>,
+    pub assignments: Vec<Assignment>,
+}
+
+impl Label {
+    /// A label that has a signal only.
+    pub fn of_signal(signal: Signal) -> Label {
+        Label { signal, resets: 0, guards: Vec::new(), assignments: Vec::new() }
+    }
+
+    pub fn read(reader: &mut Reader, declared: &Declared) -> Result<Label, Fault> {
+        let signal = Signal::read(reader, declared.channels())?;
+        let resets = reader.byte()?;
+        in_range(u32::from(resets) & !lowest_bits(declared.clocks) == 0)?;
+        let guard_count = reader.byte()?;
+        let assignment_count = reader.byte()?;
+        let mut guards = Vec::new();
+        for _ in 0..guard_count {
+            guards.push(Guard::read(reader, declared)?);
+        }
+        let mut assignments = Vec::new();
+        for _ in 0..assignment_count {
+            assignments.push(Assignment {
+                variable: reader.byte_below(declared.variables)?,
+                expression: Expression::read(reader, declared.variables, LEVELS)?,
+            });
+        }
+        Ok(Label { signal, resets, guards, assignments })
+    }
+
+    pub fn write(&self, bytes: &mut Vec<u8>) {
+        self.signal.write(bytes);
+        bytes.extend([self.resets, self.guards.len() as u8, self.assignments.len() as u8]);
+        for guard in &self.guards {
+            guard.write(bytes);
+        }
+        for assignment in &self.assignments {
+            bytes.push(assignment.variable as u8);
+            assignment.expression.write(bytes);
+        }
+    }
+
+    pub fn guards_hold(&self, values: &Values) -> bool {
+        self.guards.iter().all(|guard| guard.holds(values))
+    }
+
+    /// Rule 13: a receiver assigns nothing, and no variable is assigned twice.
+    pub fn assigns_properly(&self) -> bool {
+        if matches!(self.signal, Signal::Receive(_)) {
+            return self.assignments.is_empty();
+        }
+        let mut assigned = 0u32;
+        for assignment in &self.assignments {
+            let bit = 1 << assignment.variable;
+            if assigned & bit != 0 {
+                return false;
+            }
+            assigned |= bit;
+        }
+        true
+    }
+
+    /// Writes this label's resets and assignments into `new`. All expressions read `old`.
+    pub fn apply(&self, old: &Values, new: &mut Values) {
+        for assignment in &self.assignments {
+            new.variables[assignment.variable] = assignment.expression.value(&old.variables);
+        }
+        for (clock, value) in new.clocks.iter_mut().enumerate() {
+            if self.resets & (1 << clock) != 0 {
+                *value = 0;
+            }
+        }
+    }
+}

@@ -1,0 +1,34 @@
+//! Hierarchical timed charts, their flat networks, and the machines that run both.
+//!
+//! This is the second implementation, written from the papers alone, with which the other one is
+//! compared. It uses plain data types and has one concept to a file.
+
+pub mod alternatives;
+pub mod binary_form;
+pub mod candidates;
+pub mod chart;
+pub mod chart_machine;
+pub mod check;
+pub mod coverage;
+pub mod damage;
+pub mod expression;
+pub mod flatten;
+pub mod generate;
+pub mod guard;
+pub mod label;
+pub mod layout;
+pub mod limits;
+pub mod moves;
+pub mod network;
+pub mod network_machine;
+pub mod picture;
+pub mod random;
+pub mod reader;
+pub mod refusal;
+pub mod request;
+pub mod side_by_side;
+pub mod special;
+pub mod text_form;
+pub mod values;
+pub mod vector_files;
+pub mod walk;

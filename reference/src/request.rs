@@ -1,0 +1,89 @@
+//! Requests: one operation with everything it is given, and the answer to it.
+
+use crate::chart_machine::{self, ChartConfiguration};
+use crate::check::check;
+use crate::flatten::network_of;
+use crate::network::Network;
+use crate::network_machine::{self, NetworkConfiguration};
+use crate::refusal::Refusal;
+
+/// One operation. Files come first, then what the operation takes besides.
+#[derive(Clone, PartialEq, Eq, Debug)]
+pub enum Request {
+    Check(Vec<u8>),
+    /// With the length of the lent buffer.
+    Flatten(Vec<u8>, u32),
+    ChartStart(Vec<u8>),
+    ChartStep(Vec<u8>, ChartConfiguration, Vec<u16>),
+    ChartWait(Vec<u8>, ChartConfiguration, u32),
+    NetworkStart(Vec<u8>),
+    NetworkStep(Vec<u8>, NetworkConfiguration, Vec<u16>),
+    NetworkWait(Vec<u8>, NetworkConfiguration, u32),
+}
+
+/// What an accepted request gives.
+#[derive(Clone, PartialEq, Eq, Debug)]
+pub enum Success {
+    /// The chart passes.
+    Passed,
+    /// The bytes of the network.
+    Flattened(Vec<u8>),
+    Chart(ChartConfiguration),
+    Network(NetworkConfiguration),
+}
+
+impl Request {
+    pub fn answer(&self) -> Result<Success, Refusal> {
+        match self {
+            Request::Check(file) => check(file).map(|_| Success::Passed),
+            Request::Flatten(file, room) => flatten_for(file, *room).map(Success::Flattened),
+            Request::ChartStart(file) => {
+                let chart = check(file)?;
+                Ok(Success::Chart(chart_machine::start(&chart)))
+            }
+            Request::ChartStep(file, configuration, list) => {
+                let chart = check(file)?;
+                chart_machine::step(&chart, configuration, list).map(Success::Chart)
+            }
+            Request::ChartWait(file, configuration, ticks) => {
+                let chart = check(file)?;
+                chart_machine::wait(&chart, configuration, *ticks).map(Success::Chart)
+            }
+            Request::NetworkStart(file) => {
+                let network = Network::read(file)?;
+                Ok(Success::Network(network_machine::start(&network)))
+            }
+            Request::NetworkStep(file, configuration, list) => {
+                let network = Network::read(file)?;
+                network_machine::step(&network, configuration, list).map(Success::Network)
+            }
+            Request::NetworkWait(file, configuration, ticks) => {
+                let network = Network::read(file)?;
+                network_machine::wait(&network, configuration, *ticks).map(Success::Network)
+            }
+        }
+    }
+
+    pub fn file(&self) -> &[u8] {
+        match self {
+            Request::Check(file)
+            | Request::Flatten(file, _)
+            | Request::ChartStart(file)
+            | Request::ChartStep(file, _, _)
+            | Request::ChartWait(file, _, _)
+            | Request::NetworkStart(file)
+            | Request::NetworkStep(file, _, _)
+            | Request::NetworkWait(file, _, _) => file,
+        }
+    }
+}
+
+/// Flattens for a lent buffer of this length without making the buffer, which may be huge.
+fn flatten_for(file: &[u8], room: u32) -> Result<Vec<u8>, Refusal> {
+    let network = network_of(&check(file)?)?.write();
+    if network.len() <= room as usize {
+        Ok(network)
+    } else {
+        Err(Refusal::BufferLength)
+    }
+}

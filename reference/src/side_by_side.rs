@@ -1,0 +1,476 @@
+//! Running a chart and its network side by side, and testing what is demanded of the two.
+//!
+//! A network run builds the chart list that is read from the network list, call by call. A chart
+//! run looks for a network list that realises the chart list. After every call every clause of the
+//! demand is tested; the first that fails is reported.
+
+use crate::candidates::candidates;
+use crate::chart::Chart;
+use crate::chart_machine::{self, ChartConfiguration};
+use crate::damage::damage_list;
+use crate::layout::Layout;
+use crate::moves::Member;
+use crate::network::Network;
+use crate::network_machine::{self, NetworkConfiguration};
+use crate::picture::picture;
+use crate::random::Random;
+use crate::refusal::Refusal;
+
+/// How many sets with one broadcast sender are tried at a time.
+const MOST_BROADCAST_SETS: usize = 4;
+
+/// A chart and the network that flattening writes for it.
+pub struct Machines {
+    pub chart: Chart,
+    pub layout: Layout,
+    pub network: Network,
+}
+
+/// One call of either machine.
+#[derive(Clone, PartialEq, Eq, Debug)]
+pub enum Call {
+    Step(Vec<u16>),
+    Wait(u32),
+}
+
+/// What the runs did, to see that they covered enough.
+#[derive(Clone, PartialEq, Eq, Debug, Default)]
+pub struct Tally {
+    pub runs: u64,
+    pub chart_calls: u64,
+    pub network_calls: u64,
+    /// Accepted network steps that carry transitions.
+    pub moves: u64,
+    /// Accepted network steps that leave an urgent location.
+    pub urgent_moves: u64,
+    /// Accepted moves of three edges or more that carry transitions.
+    pub broadcasts_with_several_receivers: u64,
+    pub waits: u64,
+    /// Refused chart calls by number.
+    pub chart_refusals: [u64; 28],
+    /// Refused network calls by number.
+    pub network_refusals: [u64; 28],
+    /// The most urgent moves owed at one time.
+    pub most_owed: usize,
+}
+
+impl Tally {
+    pub fn add(&mut self, other: &Tally) {
+        self.runs += other.runs;
+        self.chart_calls += other.chart_calls;
+        self.network_calls += other.network_calls;
+        self.moves += other.moves;
+        self.urgent_moves += other.urgent_moves;
+        self.broadcasts_with_several_receivers += other.broadcasts_with_several_receivers;
+        self.waits += other.waits;
+        for number in 0..self.chart_refusals.len() {
+            self.chart_refusals[number] += other.chart_refusals[number];
+            self.network_refusals[number] += other.network_refusals[number];
+        }
+        self.most_owed = self.most_owed.max(other.most_owed);
+    }
+}
+
+/// A clause that failed, in words.
+pub type Failure = String;
+
+/// Both machines at one moment of a run.
+struct Moment<'a> {
+    machines: &'a Machines,
+    chart: ChartConfiguration,
+    network: NetworkConfiguration,
+    /// The active edges of the network.
+    active_edges: Vec<(u16, Member)>,
+    /// How many urgent moves are owed.
+    owed: usize,
+    /// The chart list so far.
+    chart_list: Vec<Call>,
+    tally: Tally,
+}
+
+/// Runs a random network list of this length and tests every clause after every call.
+pub fn run_network_list(
+    machines: &Machines,
+    calls: usize,
+    random: &mut Random,
+) -> Result<Tally, Failure> {
+    let mut moment = Moment::start(machines);
+    moment.test(random)?;
+    for _ in 0..calls {
+        let call = moment.random_network_call(random);
+        moment.call_network(&call).map_err(|failure| format!("{failure}, at {call:?}"))?;
+        moment.test(random).map_err(|failure| format!("{failure}, after {call:?}"))?;
+    }
+    moment.replay_chart_list()?;
+    Ok(moment.tally)
+}
+
+/// Runs a random chart list of this length, realising each accepted call on the network.
+pub fn run_chart_list(
+    machines: &Machines,
+    calls: usize,
+    random: &mut Random,
+) -> Result<Tally, Failure> {
+    let mut moment = Moment::start(machines);
+    moment.test(random)?;
+    for _ in 0..calls {
+        let call = moment.random_chart_call(random);
+        moment.realise(&call, random).map_err(|failure| format!("{failure}, at {call:?}"))?;
+        moment.test(random).map_err(|failure| format!("{failure}, after {call:?}"))?;
+    }
+    moment.replay_chart_list()?;
+    Ok(moment.tally)
+}
+
+impl<'a> Moment<'a> {
+    fn start(machines: &'a Machines) -> Moment<'a> {
+        let network = network_machine::start(&machines.network);
+        Moment {
+            machines,
+            chart: chart_machine::start(&machines.chart),
+            network,
+            active_edges: active_edges(&machines.network, &network),
+            owed: 0,
+            chart_list: Vec::new(),
+            tally: Tally { runs: 1, ..Tally::default() },
+        }
+    }
+
+    // The calls.
+
+    /// Calls the network and adds to the chart list what the demand says, calling it at once.
+    fn call_network(&mut self, call: &Call) -> Result<(), Failure> {
+        self.tally.network_calls += 1;
+        let answer = match call {
+            Call::Step(list) => self.network_step(list),
+            Call::Wait(ticks) => self.network_wait(*ticks),
+        };
+        let new = match answer {
+            Ok(new) => new,
+            Err(refusal) => {
+                // A refused call adds nothing, and what it was given stays as it is.
+                self.tally.network_refusals[usize::from(refusal.number())] += 1;
+                return Ok(());
+            }
+        };
+        match call {
+            Call::Wait(_) => {
+                demand(self.owed == 0, "a wait was accepted while urgent moves are owed")?;
+                self.tally.waits += 1;
+                self.add_to_chart_list(call.clone())?;
+            }
+            Call::Step(list) => self.account_for_move(list)?,
+        }
+        self.network = new;
+        self.active_edges = active_edges(&self.machines.network, &new);
+        Ok(())
+    }
+
+    /// Counts what an accepted move pays or owes, and adds its chart step.
+    fn account_for_move(&mut self, list: &[u16]) -> Result<(), Failure> {
+        let carried = self.carried(list);
+        if self.is_urgent(list) {
+            demand(carried.is_empty(), "an urgent move carries transitions")?;
+            demand(self.owed > 0, "an urgent move was accepted while none is owed")?;
+            self.tally.urgent_moves += 1;
+            self.owed -= 1;
+            return Ok(());
+        }
+        demand(self.owed == 0, "a move that is not urgent was accepted while some are owed")?;
+        demand(!carried.is_empty(), "a move that is not urgent carries no transition")?;
+        self.tally.moves += 1;
+        self.tally.broadcasts_with_several_receivers += u64::from(list.len() >= 3);
+        for &number in &carried {
+            let transition = &self.machines.chart.transitions[usize::from(number)];
+            self.owed += usize::from(transition.exit.is_some());
+            self.owed += usize::from(transition.entry.is_some());
+        }
+        self.tally.most_owed = self.tally.most_owed.max(self.owed);
+        self.add_to_chart_list(Call::Step(carried))
+    }
+
+    /// Each addition is called on the chart at once and must be accepted.
+    fn add_to_chart_list(&mut self, call: Call) -> Result<(), Failure> {
+        self.tally.chart_calls += 1;
+        match self.chart_answer(&call) {
+            Ok(new) => self.chart = new,
+            Err(refusal) => {
+                return Err(format!("the chart refuses {call:?} with {}", refusal.number()))
+            }
+        }
+        self.chart_list.push(call);
+        Ok(())
+    }
+
+    /// Calls the chart and finds network calls that realise what it accepts.
+    fn realise(&mut self, call: &Call, random: &mut Random) -> Result<(), Failure> {
+        if let Err(refusal) = self.chart_answer(call) {
+            self.tally.chart_calls += 1;
+            self.tally.chart_refusals[usize::from(refusal.number())] += 1;
+            // No network move carries a list that the chart refuses; a wait is refused alike.
+            return self.test_chart_call(call);
+        }
+        match call {
+            Call::Wait(_) => self.call_network(call)?,
+            Call::Step(list) => {
+                let found = self.network_moves_carrying(list);
+                demand(found.len() == 1, "not exactly one network move carries an accepted list")?;
+                self.call_network(&Call::Step(found[0].clone()))?;
+                self.test(random)?;
+                while self.owed > 0 {
+                    let urgent = self.allowed_network_moves(random);
+                    demand(!urgent.is_empty(), "an urgent move is owed and none is allowed")?;
+                    let chosen = urgent[random.below(urgent.len())].clone();
+                    self.call_network(&Call::Step(chosen))?;
+                    self.test(random)?;
+                }
+            }
+        }
+        Ok(())
+    }
+
+    /// The demand is one claim about the whole list: from the start the chart list leads here.
+    fn replay_chart_list(&self) -> Result<(), Failure> {
+        let mut configuration = chart_machine::start(&self.machines.chart);
+        for call in &self.chart_list {
+            let answer = match call {
+                Call::Step(list) => chart_machine::step(&self.machines.chart, &configuration, list),
+                Call::Wait(ticks) => {
+                    chart_machine::wait(&self.machines.chart, &configuration, *ticks)
+                }
+            };
+            configuration = answer.map_err(|_| "the chart list is refused when run again")?;
+        }
+        demand(configuration == self.chart, "the chart list leads elsewhere when run again")
+    }
+
+    // The tests.
+
+    /// Tests every clause that can be tested between two calls.
+    fn test(&mut self, random: &mut Random) -> Result<(), Failure> {
+        demand(
+            self.network.values == self.chart.values,
+            "the variables or clocks of the two machines differ",
+        )?;
+        let moves = self.allowed_network_moves(random);
+        if self.owed > 0 {
+            return self.test_while_owed(&moves, random);
+        }
+        demand(
+            self.network == picture(&self.machines.chart, &self.machines.layout, &self.chart),
+            "with none owed, the network's configuration is not the picture of the chart's",
+        )?;
+        let mut lists = Vec::new();
+        for list in &moves {
+            let carried = self.carried(list);
+            demand(!carried.is_empty(), "with none owed, a move without transitions is allowed")?;
+            demand(!self.is_urgent(list), "with none owed, an urgent move is allowed")?;
+            demand(
+                self.chart_answer(&Call::Step(carried.clone())).is_ok(),
+                "the network allows a move whose list the chart refuses",
+            )?;
+            lists.push(carried);
+        }
+        lists.sort();
+        lists.dedup();
+        let mut different_moves = moves;
+        different_moves.sort();
+        different_moves.dedup();
+        demand(lists.len() == different_moves.len(), "two allowed moves carry one list")?;
+        for list in self.chart_candidates(random) {
+            self.test_chart_call(&Call::Step(list))?;
+        }
+        for ticks in [0, 1, random.between(1, 12) as u32, random.bits() as u32] {
+            self.test_chart_call(&Call::Wait(ticks))?;
+        }
+        Ok(())
+    }
+
+    fn test_while_owed(&self, moves: &[Vec<u16>], random: &mut Random) -> Result<(), Failure> {
+        demand(!moves.is_empty(), "an urgent move is owed and none is allowed")?;
+        for list in moves {
+            demand(
+                self.is_urgent(list),
+                "a move that is not urgent is allowed while some are owed",
+            )?;
+            demand(self.carried(list).is_empty(), "an urgent move carries transitions")?;
+        }
+        for ticks in [1, random.between(1, 12) as u32, random.bits() as u32] {
+            demand(self.network_wait(ticks).is_err(), "a wait is allowed while some are owed")?;
+        }
+        Ok(())
+    }
+
+    /// With none owed: a chart step is accepted exactly when one network move carrying the same
+    /// list is allowed, and never two; a wait gets the same answer with the same number.
+    fn test_chart_call(&self, call: &Call) -> Result<(), Failure> {
+        let chart = self.chart_answer(call);
+        match call {
+            Call::Step(list) => {
+                let expected = usize::from(chart.is_ok());
+                let found = self.network_moves_carrying(list).len();
+                demand(
+                    found == expected,
+                    &format!(
+                        "{found} moves carry {list:?}, for which the chart expects {expected}"
+                    ),
+                )
+            }
+            Call::Wait(ticks) => {
+                let network = self.network_wait(*ticks).map(|new| new.values);
+                let chart = chart.map(|new| new.values);
+                demand(network == chart, &format!("waits of {ticks} get different answers"))
+            }
+        }
+    }
+
+    // The machines.
+
+    fn network_step(&self, list: &[u16]) -> Result<NetworkConfiguration, Refusal> {
+        network_machine::step(&self.machines.network, &self.network, list)
+    }
+
+    fn network_wait(&self, ticks: u32) -> Result<NetworkConfiguration, Refusal> {
+        network_machine::wait(&self.machines.network, &self.network, ticks)
+    }
+
+    fn chart_answer(&self, call: &Call) -> Result<ChartConfiguration, Refusal> {
+        match call {
+            Call::Step(list) => chart_machine::step(&self.machines.chart, &self.chart, list),
+            Call::Wait(ticks) => chart_machine::wait(&self.machines.chart, &self.chart, *ticks),
+        }
+    }
+
+    /// The transition numbers on the edges of a move, ascending and without 255.
+    fn carried(&self, list: &[u16]) -> Vec<u16> {
+        let mut numbers: Vec<u16> = list
+            .iter()
+            .filter_map(|&edge| self.machines.network.edges[usize::from(edge)].transition)
+            .map(|number| number as u16)
+            .collect();
+        numbers.sort_unstable();
+        numbers
+    }
+
+    /// Whether some edge of a move leaves an urgent location.
+    fn is_urgent(&self, list: &[u16]) -> bool {
+        let network = &self.machines.network;
+        list.iter().any(|&edge| {
+            let source = network.edges[usize::from(edge)].source;
+            network.locations[source].urgent
+        })
+    }
+
+    fn active_transitions(&self) -> Vec<(u16, Member)> {
+        let chart = &self.machines.chart;
+        (0..chart.transitions.len())
+            .filter(|&number| chart_machine::is_active(chart, &self.chart, number))
+            .map(|number| (number as u16, chart_machine::member(chart, number)))
+            .collect()
+    }
+
+    /// The network moves allowed now, not all of them if there are very many.
+    fn allowed_network_moves(&self, random: &mut Random) -> Vec<Vec<u16>> {
+        let rendezvous = self.machines.network.declared.rendezvous;
+        candidates(&self.active_edges, rendezvous, MOST_BROADCAST_SETS, random)
+            .into_iter()
+            .filter(|list| self.network_step(list).is_ok())
+            .collect()
+    }
+
+    /// Chart lists that fit one of the three cases; some may break bounds.
+    fn chart_candidates(&self, random: &mut Random) -> Vec<Vec<u16>> {
+        let rendezvous = self.machines.chart.declared.rendezvous;
+        candidates(&self.active_transitions(), rendezvous, MOST_BROADCAST_SETS, random)
+    }
+
+    /// All allowed network moves made of one edge for each transition of the list.
+    fn network_moves_carrying(&self, list: &[u16]) -> Vec<Vec<u16>> {
+        let ascending = list.windows(2).all(|pair| pair[0] < pair[1]);
+        if list.is_empty() || !ascending {
+            return Vec::new();
+        }
+        let mut moves = vec![Vec::new()];
+        for &transition in list {
+            let bearing = self.active_edges.iter().map(|&(edge, _)| edge).filter(|&edge| {
+                let number = self.machines.network.edges[usize::from(edge)].transition;
+                number == Some(usize::from(transition))
+            });
+            let bearing: Vec<u16> = bearing.collect();
+            let longer = |edges: Vec<u16>| {
+                bearing
+                    .iter()
+                    .map(move |&edge| edges.iter().copied().chain([edge]).collect::<Vec<u16>>())
+            };
+            moves = moves.into_iter().flat_map(longer).collect();
+        }
+        for edges in &mut moves {
+            edges.sort_unstable();
+        }
+        moves.retain(|edges| self.network_step(edges).is_ok());
+        moves
+    }
+
+    // Random calls.
+
+    fn random_network_call(&self, random: &mut Random) -> Call {
+        if random.chance(20) {
+            return Call::Wait(random_ticks(random));
+        }
+        let allowed = self.allowed_network_moves(random);
+        let known = self.machines.network.edges.len();
+        random_step(&allowed, &self.active_edges, known, random)
+    }
+
+    fn random_chart_call(&self, random: &mut Random) -> Call {
+        if random.chance(20) {
+            return Call::Wait(random_ticks(random));
+        }
+        let fitting = self.chart_candidates(random);
+        let known = self.machines.chart.transitions.len();
+        random_step(&fitting, &self.active_transitions(), known, random)
+    }
+}
+
+fn active_edges(network: &Network, configuration: &NetworkConfiguration) -> Vec<(u16, Member)> {
+    network
+        .edges
+        .iter()
+        .enumerate()
+        .filter(|(_, edge)| network_machine::is_active(network, configuration, edge))
+        .map(|(number, edge)| (number as u16, network_machine::member(network, edge)))
+        .collect()
+}
+
+/// Mostly one of the fitting lists, otherwise a damaged one.
+fn random_step(
+    fitting: &[Vec<u16>],
+    active: &[(u16, Member)],
+    known: usize,
+    random: &mut Random,
+) -> Call {
+    let list =
+        if fitting.is_empty() { Vec::new() } else { fitting[random.below(fitting.len())].clone() };
+    if random.chance(75) && !list.is_empty() {
+        return Call::Step(list);
+    }
+    let active: Vec<u16> = active.iter().map(|&(number, _)| number).collect();
+    Call::Step(damage_list(&list, &active, known, random))
+}
+
+fn random_ticks(random: &mut Random) -> u32 {
+    match random.below(10) {
+        0 => 0,
+        1 => random.bits() as u32,
+        2 => random.between(5, 40) as u32,
+        _ => random.between(1, 4) as u32,
+    }
+}
+
+fn demand(holds: bool, clause: &str) -> Result<(), Failure> {
+    if holds {
+        Ok(())
+    } else {
+        Err(clause.to_string())
+    }
+}

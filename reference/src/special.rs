@@ -1,0 +1,252 @@
+//! Charts made by hand: samples of the paper, and charts at the limits of what is accepted.
+
+use std::rc::Rc;
+
+use crate::chart::{Chart, Kind, State, Transition};
+use crate::expression::Expression;
+use crate::guard::{Guard, Relation};
+use crate::label::{Assignment, Declared, Label, Signal};
+use crate::limits::{AUTOMATA, CHART_BYTES, LEVELS, NONE, STATES, TRANSITIONS};
+use crate::values::Bounds;
+
+/// A state without bounds.
+pub fn state(parent: u8, kind: Kind, entry_marks: u16, exit_marks: u8) -> State {
+    State { parent, kind, entry_marks, exit_marks, bounds: Bounds::NONE }
+}
+
+/// A transition with a signal only.
+pub fn transition(
+    source: usize,
+    destination: usize,
+    exit: Option<usize>,
+    entry: Option<usize>,
+    signal: Signal,
+) -> Transition {
+    Transition { source, destination, exit, entry, label: Rc::new(Label::of_signal(signal)) }
+}
+
+/// Sample S1: two basic states and a transition between them.
+pub fn sample_1() -> Chart {
+    let states = vec![
+        state(NONE, Kind::Sequential, 1, 0),
+        state(0, Kind::Basic, 1, 0),
+        state(0, Kind::Basic, 0, 0),
+    ];
+    let transitions = vec![transition(1, 2, None, None, Signal::None)];
+    Chart::new(Declared::default(), 1, 0, states, transitions)
+}
+
+/// Sample S3: a composite state that is entered and left.
+pub fn sample_3() -> Chart {
+    let states = vec![
+        state(NONE, Kind::Sequential, 1, 0),
+        state(0, Kind::Basic, 1, 0),
+        state(0, Kind::Sequential, 2, 0),
+        state(2, Kind::Basic, 2, 1),
+    ];
+    let transitions = vec![
+        transition(1, 2, None, Some(1), Signal::None),
+        transition(2, 1, Some(0), None, Signal::None),
+    ];
+    Chart::new(Declared::default(), 2, 1, states, transitions)
+}
+
+/// A parallel root with eight children. Each has a composite child that leaves and enters itself
+/// on one broadcast: the first sends, the others receive. One step owes 16 urgent moves.
+pub fn broadcast_of_self_loops() -> Chart {
+    let mut states = vec![state(NONE, Kind::Parallel, 1, 0)];
+    let mut transitions = Vec::new();
+    for number in 0..8 {
+        let outer = states.len();
+        let composite = outer + 1;
+        states.push(state(0, Kind::Sequential, 1, 0));
+        states.push(state(outer as u8, Kind::Sequential, 1, 0));
+        states.push(state(composite as u8, Kind::Basic, 1, 1));
+        let signal = if number == 0 { Signal::Send(0) } else { Signal::Receive(0) };
+        transitions.push(transition(composite, composite, Some(0), Some(0), signal));
+    }
+    Chart::new(Declared { broadcast: 1, ..Declared::default() }, 1, 1, states, transitions)
+}
+
+/// A chart whose network has this many edges, from 1,001 to 1,061. Its state 2 completes by one
+/// exit in 3^5 ways and is left by four transitions; other transitions make up the number.
+pub fn chart_with_edges(edges: usize) -> Chart {
+    let mut states = vec![
+        state(NONE, Kind::Sequential, 1, 0),
+        state(0, Kind::Basic, 0, 0),
+        state(0, Kind::Parallel, 1, 0),
+    ];
+    for _ in 0..5 {
+        let region = states.len() as u8;
+        states.push(state(2, Kind::Sequential, 1, 0));
+        states.push(state(region, Kind::Basic, 1, 1));
+        for _ in 0..2 {
+            let inner = states.len() as u8;
+            states.push(state(region, Kind::Sequential, 0, 0));
+            states.push(state(inner, Kind::Basic, 0, 1));
+        }
+    }
+    // Four transitions have 243 edges to post and one from it each; 25 edges hear the exit.
+    let mut transitions = vec![transition(2, 1, Some(0), None, Signal::None); 4];
+    let others = edges.saturating_sub(4 * (243 + 1) + 25).min(TRANSITIONS - 4);
+    transitions.extend(vec![transition(1, 1, None, None, Signal::None); others]);
+    Chart::new(Declared::default(), 1, 1, states, transitions)
+}
+
+/// Fifteen sequential states in parallel, each with two marked basic children: the 2^15 choices of
+/// children are one alternative.
+pub fn many_equal_choices() -> Chart {
+    let mut states = vec![
+        state(NONE, Kind::Sequential, 1, 0),
+        state(0, Kind::Basic, 0, 0),
+        state(0, Kind::Parallel, 1, 0),
+    ];
+    for _ in 0..15 {
+        let region = states.len() as u8;
+        states.push(state(2, Kind::Sequential, 1, 0));
+        states.push(state(region, Kind::Basic, 1, 1));
+        states.push(state(region, Kind::Basic, 0, 1));
+    }
+    let transitions = vec![transition(2, 1, Some(0), None, Signal::None)];
+    Chart::new(Declared::default(), 1, 1, states, transitions)
+}
+
+/// A sequential root with a basic child and this many sequential ones: with 16 of them there are
+/// 17 sequential states.
+pub fn chart_with_sequential_children(count: usize) -> Chart {
+    let mut states = vec![state(NONE, Kind::Sequential, 1, 0), state(0, Kind::Basic, 1, 0)];
+    for _ in 0..count {
+        let number = states.len() as u8;
+        states.push(state(0, Kind::Sequential, 0, 0));
+        states.push(state(number, Kind::Basic, 0, 0));
+    }
+    Chart::new(Declared::default(), 1, 0, states, Vec::new())
+}
+
+/// Two nested sequential states with a transition each on one channel: rule 14 refuses it.
+pub fn nested_channel() -> Chart {
+    let states = vec![
+        state(NONE, Kind::Sequential, 1, 0),
+        state(0, Kind::Sequential, 1, 0),
+        state(1, Kind::Basic, 1, 1),
+    ];
+    let transitions = vec![
+        transition(2, 2, None, None, Signal::Send(0)),
+        transition(1, 1, Some(0), Some(0), Signal::Receive(0)),
+    ];
+    Chart::new(Declared { rendezvous: 1, ..Declared::default() }, 1, 1, states, transitions)
+}
+
+/// A parallel root with two sequential children. One sends on a rendezvous channel by a guarded
+/// transition that swaps two variables, the other receives.
+pub fn rendezvous_with_swap(guard: Guard) -> Chart {
+    let states = vec![
+        state(NONE, Kind::Parallel, 1, 0),
+        state(0, Kind::Sequential, 1, 0),
+        state(1, Kind::Basic, 1, 0),
+        state(0, Kind::Sequential, 1, 0),
+        state(3, Kind::Basic, 1, 0),
+    ];
+    let swap = vec![
+        Assignment { variable: 0, expression: Expression::Variable(1) },
+        Assignment { variable: 1, expression: Expression::Variable(0) },
+    ];
+    let label =
+        Label { signal: Signal::Send(0), resets: 1, guards: vec![guard], assignments: swap };
+    let transitions = vec![
+        Transition { source: 2, destination: 2, exit: None, entry: None, label: Rc::new(label) },
+        transition(4, 4, None, None, Signal::Receive(0)),
+    ];
+    let declared = Declared { clocks: 2, variables: 2, rendezvous: 1, broadcast: 0 };
+    Chart::new(declared, 1, 0, states, transitions)
+}
+
+/// A chart at every limit that fits together: 48 states, 16 of them sequential, a network of 1,024
+/// edges, and a file of nearly 65,536 bytes.
+pub fn largest() -> Chart {
+    let mut chart = chart_with_edges(1024);
+    chart.declared = Declared { clocks: 8, variables: 16, rendezvous: 8, broadcast: 8 };
+    let mut states = chart.states;
+    while states.len() < STATES {
+        states.push(state(0, Kind::Basic, 0, 0));
+    }
+    for state in &mut states {
+        state.bounds = Bounds([1_000_000; crate::limits::CLOCKS]);
+    }
+    let mut transitions = chart.transitions;
+    // Long labels on the transitions that have one edge each.
+    let plain: Vec<usize> = (4..transitions.len()).collect();
+    for &number in &plain {
+        transitions[number].label = Rc::new(long_label());
+    }
+    let mut chart = Chart::new(chart.declared, 1, 1, states, transitions);
+    let sequential = chart.states.iter().filter(|state| state.kind == Kind::Sequential).count();
+    assert_eq!(sequential, AUTOMATA);
+    // As many guards more as the file has room for.
+    let mut next = 0;
+    while chart.write().len() + long_guard_length() <= CHART_BYTES {
+        let number = plain[next % plain.len()];
+        let mut label = (*chart.transitions[number].label).clone();
+        label.guards.push(long_guard());
+        chart.transitions[number].label = Rc::new(label);
+        next += 1;
+    }
+    chart
+}
+
+fn long_label() -> Label {
+    let assignments = (0..8)
+        .map(|variable| Assignment { variable, expression: Expression::Variable(15 - variable) })
+        .collect();
+    Label { signal: Signal::None, resets: 0xFF, guards: vec![long_guard()], assignments }
+}
+
+/// A guard that holds while all variables are 0, with a sum of the most levels on one side.
+fn long_guard() -> Guard {
+    Guard::Data {
+        relation: Relation::Equal,
+        left: full_sum(LEVELS),
+        right: Expression::Constant(0),
+    }
+}
+
+fn long_guard_length() -> usize {
+    let mut bytes = Vec::new();
+    long_guard().write(&mut bytes);
+    bytes.len()
+}
+
+fn full_sum(levels: usize) -> Expression {
+    if levels == 1 {
+        return Expression::Variable(3);
+    }
+    Expression::Sum(Box::new(full_sum(levels - 1)), Box::new(full_sum(levels - 1)))
+}
+
+/// Sample S3 with a transition that has every kind of guard, a quotient and a broadcast: a short
+/// file with every kind of field.
+pub fn dense() -> Chart {
+    let chart = sample_3();
+    let mut transitions = chart.transitions;
+    transitions[0].label = Rc::new(Label {
+        signal: Signal::Send(0),
+        resets: 1,
+        guards: vec![
+            Guard::Data {
+                relation: Relation::Less,
+                left: Expression::Variable(0),
+                right: Expression::Constant(5),
+            },
+            Guard::Clock { clock: 0, relation: Relation::AtMost, constant: 9 },
+            Guard::Difference { first: 0, second: 0, relation: Relation::AtMost, constant: 3 },
+        ],
+        assignments: vec![Assignment {
+            variable: 0,
+            expression: Expression::Quotient(Box::new(Expression::Variable(0)), 2),
+        }],
+    });
+    let mut states = chart.states;
+    states[2].bounds.0[0] = 7;
+    let declared = Declared { clocks: 1, variables: 1, rendezvous: 0, broadcast: 1 };
+    Chart::new(declared, 2, 1, states, transitions)
+}

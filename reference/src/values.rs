@@ -1,0 +1,69 @@
+//! The values of variables and clocks, and bounds on clocks.
+
+use crate::limits::{CLOCKS, LARGEST, NO_BOUND, VARIABLES};
+use crate::reader::{in_range, Fault, Reader};
+
+/// The variables and clocks of a configuration. Those not declared are 0.
+#[derive(Clone, Copy, PartialEq, Eq, Debug, Default)]
+pub struct Values {
+    pub variables: [i32; VARIABLES],
+    pub clocks: [u32; CLOCKS],
+}
+
+impl Values {
+    /// Whether undeclared values are 0 and no declared clock is past its limit.
+    pub fn fit(&self, variables: usize, clocks: usize) -> bool {
+        self.variables[variables..].iter().all(|&value| value == 0)
+            && self.clocks[clocks..].iter().all(|&value| value == 0)
+            && self.clocks[..clocks].iter().all(|&value| value <= LARGEST)
+    }
+
+    /// The values after this many ticks, or none if there are no ticks or a declared clock
+    /// would pass its limit.
+    pub fn after_ticks(&self, clocks: usize, ticks: u32) -> Option<Values> {
+        if ticks == 0 {
+            return None;
+        }
+        let mut later = *self;
+        for clock in &mut later.clocks[..clocks] {
+            *clock = clock.checked_add(ticks).filter(|&value| value <= LARGEST)?;
+        }
+        Some(later)
+    }
+}
+
+/// One bound for each clock: the clock must be at most this. Undeclared clocks have no bound.
+#[derive(Clone, Copy, PartialEq, Eq, Debug)]
+pub struct Bounds(pub [u32; CLOCKS]);
+
+impl Bounds {
+    pub const NONE: Bounds = Bounds([NO_BOUND; CLOCKS]);
+
+    pub fn read(reader: &mut Reader, clocks: usize) -> Result<Bounds, Fault> {
+        let mut bounds = Bounds::NONE;
+        for bound in &mut bounds.0[..clocks] {
+            *bound = reader.four_bytes()?;
+            in_range(*bound <= LARGEST || *bound == NO_BOUND)?;
+        }
+        Ok(bounds)
+    }
+
+    pub fn write(&self, clocks: usize, bytes: &mut Vec<u8>) {
+        for bound in &self.0[..clocks] {
+            bytes.extend(bound.to_be_bytes());
+        }
+    }
+
+    /// Joining keeps the least bound of each clock. No bound is the greatest number.
+    pub fn join(&self, other: &Bounds) -> Bounds {
+        let mut joined = *self;
+        for (bound, &another) in joined.0.iter_mut().zip(&other.0) {
+            *bound = (*bound).min(another);
+        }
+        joined
+    }
+
+    pub fn hold(&self, values: &Values) -> bool {
+        self.0.iter().zip(&values.clocks).all(|(bound, clock)| clock <= bound)
+    }
+}

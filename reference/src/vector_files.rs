@@ -1,0 +1,279 @@
+//! The vector files for programs: requests as bytes, and the lines that are the right output.
+
+use crate::binary_form::{answer_to_line, request_to_bytes};
+use crate::chart::Chart;
+use crate::chart_machine::{self, ChartConfiguration};
+use crate::check::check;
+use crate::coverage::{features, Counts, Features};
+use crate::damage::{damage_chart, damage_file, Form};
+use crate::expression::Expression;
+use crate::flatten::network_of;
+use crate::generate::{chart_from_wish, Wish};
+use crate::guard::{Guard, Relation};
+use crate::layout::Layout;
+use crate::network_machine::{self, NetworkConfiguration};
+use crate::random::Random;
+use crate::request::Request;
+use crate::special;
+use crate::values::Values;
+use crate::walk::{chart_requests, network_requests};
+
+/// Most bytes of one input.
+pub const MOST_INPUT_BYTES: usize = 60_000;
+
+/// How many requests with one feature are wanted.
+const WANTED_OF_EACH: usize = 3;
+
+/// Longer networks are not looked at.
+const MOST_NETWORK_BYTES: usize = 4_000;
+
+/// How many charts the requests are chosen from.
+const CHARTS: u64 = 400;
+
+/// The input of one program and the output that is right.
+pub struct VectorFile {
+    pub name: &'static str,
+    pub input: Vec<u8>,
+    pub output: String,
+    /// How many requests the input has, and how many have each feature.
+    pub requests: usize,
+    pub counts: Counts,
+}
+
+/// A request that may be chosen, with its features.
+struct Candidate {
+    request: Request,
+    features: Features,
+    taken: bool,
+}
+
+impl Candidate {
+    fn new(request: Request) -> Candidate {
+        Candidate { features: features(&request, None), request, taken: false }
+    }
+
+    /// With the layout of the network, which came from a chart.
+    fn with_layout(request: Request, layout: &Layout) -> Candidate {
+        Candidate { features: features(&request, Some(layout)), request, taken: false }
+    }
+}
+
+/// All vector files. They are the same at every call.
+pub fn vector_files() -> Vec<VectorFile> {
+    let mut network = Vec::new();
+    let mut chart = Vec::new();
+    let mut flatten = Vec::new();
+    let mut random = Random::new(0x5645_4354);
+    let mut charts = special_charts();
+    charts.extend((0..CHARTS).map(|seed| chart_from_wish(&small_wish(seed), seed)));
+    for one in &charts {
+        add_chart_candidates(one, &mut chart, &mut random);
+        add_flatten_candidates(one, &mut flatten, &mut random);
+        add_network_candidates(one, &mut network, &mut random);
+    }
+    for guard in all_guards() {
+        add_guard_candidates(guard, &mut chart, &mut network);
+    }
+    let changed_charts = changed_bytes(&special::dense().write(), 200, &mut random);
+    let checks = changed_charts.iter().cloned().map(Request::Check).collect();
+    let flattens = changed_charts.into_iter().map(|file| Request::Flatten(file, 65_536)).collect();
+    let dense_network = network_of(&special::dense()).map(|network| network.write());
+    let starts = changed_bytes(&dense_network.unwrap_or_default(), 100, &mut random)
+        .into_iter()
+        .map(Request::NetworkStart)
+        .collect();
+    vec![
+        choose("chart", checks, chart),
+        choose("flatten", flattens, flatten),
+        choose("network", starts, network),
+    ]
+}
+
+fn special_charts() -> Vec<Chart> {
+    vec![
+        special::sample_1(),
+        special::sample_3(),
+        special::dense(),
+        special::broadcast_of_self_loops(),
+        special::chart_with_edges(1024),
+        special::chart_with_edges(1025),
+        special::many_equal_choices(),
+        special::nested_channel(),
+        special::chart_with_sequential_children(15),
+        special::chart_with_sequential_children(16),
+    ]
+}
+
+/// Wishes for charts that are small enough for many requests to fit in a file.
+fn small_wish(seed: u64) -> Wish {
+    let wish = Wish::from_seed(seed);
+    Wish {
+        states: wish.states.min(14),
+        transitions: wish.transitions.min(8),
+        entries: wish.entries.min(3),
+        exits: wish.exits.min(2),
+        clocks: wish.clocks.min(2),
+        variables: wish.variables.min(3),
+        rendezvous: wish.rendezvous.min(1),
+        broadcast: wish.broadcast.min(1),
+        ..wish
+    }
+}
+
+fn add_chart_candidates(chart: &Chart, list: &mut Vec<Candidate>, random: &mut Random) {
+    let file = chart.write();
+    list.push(Candidate::new(Request::Check(file.clone())));
+    if check(&file).is_err() {
+        return;
+    }
+    list.extend(chart_requests(chart, 30, random).into_iter().map(Candidate::new));
+    for _ in 0..6 {
+        let damaged = damage_chart(chart, random).write();
+        let start = chart_machine::start(chart);
+        list.push(Candidate::new(Request::Check(damaged.clone())));
+        list.push(Candidate::new(Request::ChartStart(damaged.clone())));
+        list.push(Candidate::new(Request::ChartStep(damaged.clone(), start, vec![0])));
+        list.push(Candidate::new(Request::ChartWait(damaged, start, 1)));
+        let damaged = damage_file(Form::Chart, &file, random);
+        list.push(Candidate::new(Request::Check(damaged.clone())));
+        list.push(Candidate::new(Request::ChartStart(damaged)));
+    }
+}
+
+fn add_flatten_candidates(chart: &Chart, list: &mut Vec<Candidate>, random: &mut Random) {
+    let mut add = |file: Vec<u8>, room: usize| {
+        list.push(Candidate::new(Request::Flatten(file, room as u32)));
+    };
+    let file = chart.write();
+    match check(&file).and_then(|chart| network_of(&chart)) {
+        Err(_) => add(file, 65_536),
+        Ok(network) => {
+            let length = network.write().len();
+            add(file.clone(), length);
+            add(file.clone(), length - 1);
+            add(file.clone(), 65_536);
+            for _ in 0..6 {
+                add(damage_chart(chart, random).write(), 65_536);
+                add(damage_file(Form::Chart, &file, random), 65_536);
+            }
+        }
+    }
+}
+
+fn add_network_candidates(chart: &Chart, list: &mut Vec<Candidate>, random: &mut Random) {
+    let Ok(network) = check(&chart.write()).and_then(|chart| network_of(&chart)) else {
+        return;
+    };
+    let file = network.write();
+    if file.len() > MOST_NETWORK_BYTES {
+        return;
+    }
+    let layout = Layout::of(chart);
+    let start = network_machine::start(&network);
+    for request in network_requests(&network, 40, random) {
+        list.push(Candidate::with_layout(request, &layout));
+    }
+    for _ in 0..4 {
+        let damaged = damage_file(Form::Network, &file, random);
+        for request in [
+            Request::NetworkStart(damaged.clone()),
+            Request::NetworkStep(damaged.clone(), start, vec![0]),
+            Request::NetworkWait(damaged, start, 1),
+        ] {
+            list.push(Candidate::new(request));
+        }
+    }
+}
+
+/// Every kind of guard with every relation, each against 2.
+fn all_guards() -> Vec<Guard> {
+    let of_relation = |relation: Relation| {
+        let left = Expression::Variable(0);
+        let right = Expression::Constant(2);
+        [
+            Guard::Data { relation, left, right },
+            Guard::Clock { clock: 0, relation, constant: 2 },
+            Guard::Difference { first: 0, second: 1, relation, constant: 2 },
+        ]
+    };
+    Relation::ALL.into_iter().flat_map(of_relation).collect()
+}
+
+/// A guarded rendezvous on both machines, with values less than, equal to and greater than 2.
+fn add_guard_candidates(guard: Guard, charts: &mut Vec<Candidate>, networks: &mut Vec<Candidate>) {
+    let chart = special::rendezvous_with_swap(guard);
+    let Ok(network) = network_of(&chart) else {
+        return;
+    };
+    for value in 1..=3 {
+        let mut values = Values::default();
+        values.variables[..2].copy_from_slice(&[value, 7]);
+        values.clocks[..2].copy_from_slice(&[value as u32 + 1, 1]);
+        if matches!(chart.transitions[0].label.guards[0], Guard::Clock { .. }) {
+            values.clocks[0] = value as u32;
+        }
+        let given = ChartConfiguration { values, ..chart_machine::start(&chart) };
+        charts.push(Candidate::new(Request::ChartStep(chart.write(), given, vec![0, 1])));
+        let given = NetworkConfiguration { values, ..network_machine::start(&network) };
+        networks.push(Candidate::new(Request::NetworkStep(network.write(), given, vec![0, 1])));
+    }
+}
+
+/// Copies of a file, each with one byte changed: at every place of it, or at `most` places spread
+/// over it.
+fn changed_bytes(file: &[u8], most: usize, random: &mut Random) -> Vec<Vec<u8>> {
+    let count = file.len().min(most);
+    (0..count)
+        .map(|index| {
+            let mut damaged = file.to_vec();
+            let place = index * file.len() / count;
+            damaged[place] = match random.below(3) {
+                0 => damaged[place].wrapping_add(1),
+                1 => damaged[place] ^ 0x80,
+                _ => damaged[place] ^ 0xFF,
+            };
+            damaged
+        })
+        .collect()
+}
+
+/// Takes the fixed requests, and of the candidates, shortest first, those that have a feature of
+/// which not enough were taken yet: first one of each, then more.
+fn choose(name: &'static str, fixed: Vec<Request>, mut candidates: Vec<Candidate>) -> VectorFile {
+    let mut file = VectorFile {
+        name,
+        input: Vec::new(),
+        output: String::new(),
+        requests: 0,
+        counts: Counts::new(),
+    };
+    for request in fixed {
+        take(&mut file, &mut Candidate::new(request));
+    }
+    candidates.sort_by_cached_key(|candidate| request_to_bytes(&candidate.request).len());
+    for enough in 1..=WANTED_OF_EACH {
+        for candidate in candidates.iter_mut().filter(|candidate| !candidate.taken) {
+            let too_few = |feature| file.counts.get(feature).is_none_or(|&count| count < enough);
+            if candidate.features.iter().any(too_few) {
+                take(&mut file, candidate);
+            }
+        }
+    }
+    file
+}
+
+/// Adds a request to a file if it has room.
+fn take(file: &mut VectorFile, candidate: &mut Candidate) {
+    let bytes = request_to_bytes(&candidate.request);
+    if file.input.len() + bytes.len() > MOST_INPUT_BYTES {
+        return;
+    }
+    file.input.extend(bytes);
+    file.output.push_str(&answer_to_line(&candidate.request.answer()));
+    file.output.push('\n');
+    file.requests += 1;
+    candidate.taken = true;
+    for feature in &candidate.features {
+        *file.counts.entry(feature.clone()).or_insert(0) += 1;
+    }
+}

@@ -1,0 +1,152 @@
+//! The seeded charts pass the check and have the features that are promised.
+
+use reference::chart::{Chart, Kind};
+use reference::check::check;
+use reference::expression::Expression;
+use reference::flatten::network_of;
+use reference::generate::chart_from_seed;
+use reference::label::Signal;
+use reference::limits::{CLOCKS, STATES, VARIABLES};
+use reference::network::Network;
+
+const CHARTS: u64 = 4_000;
+
+fn depth(chart: &Chart, state: usize) -> usize {
+    chart.parent(state).map_or(0, |parent| 1 + depth(chart, parent))
+}
+
+fn count_of(chart: &Chart, kind: Kind) -> usize {
+    chart.states.iter().filter(|state| state.kind == kind).count()
+}
+
+/// How many sequential states can receive on one broadcast channel.
+fn most_receivers(chart: &Chart) -> usize {
+    let channels = chart.declared.rendezvous..chart.declared.channels();
+    let receivers = |channel: usize| {
+        let mut parents: Vec<usize> = (0..chart.transitions.len())
+            .filter(|&number| chart.transitions[number].label.signal == Signal::Receive(channel))
+            .map(|number| chart.parent_of_transition(number))
+            .collect();
+        parents.sort();
+        parents.dedup();
+        parents.len()
+    };
+    channels.map(receivers).max().unwrap_or(0)
+}
+
+fn has_parallel_in_parallel(chart: &Chart) -> bool {
+    (0..chart.states.len()).any(|state| {
+        chart.states[state].kind == Kind::Parallel
+            && chart.parent(state).is_some_and(|parent| chart.states[parent].kind == Kind::Parallel)
+    })
+}
+
+fn has_composite_self_loop(chart: &Chart) -> bool {
+    chart.transitions.iter().any(|one| one.exit.is_some() && one.source == one.destination)
+}
+
+fn has_swap(chart: &Chart) -> bool {
+    chart.transitions.iter().any(|one| match &one.label.assignments[..] {
+        [first, second] => {
+            first.expression == Expression::Variable(second.variable)
+                && second.expression == Expression::Variable(first.variable)
+        }
+        _ => false,
+    })
+}
+
+fn has_division(chart: &Chart) -> bool {
+    let divides = |expression: &Expression| {
+        matches!(expression, Expression::Quotient(..) | Expression::Remainder(..))
+    };
+    chart
+        .transitions
+        .iter()
+        .flat_map(|one| &one.label.assignments)
+        .any(|assignment| divides(&assignment.expression))
+}
+
+fn most_alternatives(chart: &Chart, network: &Network) -> usize {
+    (0..chart.transitions.len())
+        .filter(|&number| chart.transitions[number].exit.is_some())
+        .map(|number| network.edges.iter().filter(|edge| edge.transition == Some(number)).count())
+        .max()
+        .unwrap_or(0)
+}
+
+#[test]
+fn seeded_charts_pass_and_have_the_promised_features() {
+    let mut flattened = 0;
+    let mut sizes = [0; STATES + 1];
+    let mut deepest = 0;
+    let mut most_sequential = 0;
+    let mut receivers = [0; 17];
+    let mut several_alternatives = 0;
+    let mut highest_alternatives = 0;
+    let mut parallel_in_parallel = 0;
+    let mut composite_self_loops = 0;
+    let mut swaps = 0;
+    let mut divisions = 0;
+    let mut parallel_roots = 0;
+    let mut bounds_on_every_level = 0;
+    for seed in 0..CHARTS {
+        let chart = chart_from_seed(seed);
+        let file = chart.write();
+        match check(&file) {
+            Ok(read) => assert!(read == chart, "seed {seed} is read as it was written"),
+            Err(refusal) => panic!("seed {seed}: {refusal:?}"),
+        }
+        if let Ok(network) = network_of(&chart) {
+            flattened += 1;
+            let bytes = network.write();
+            assert_eq!(Network::read(&bytes).as_ref(), Ok(&network), "seed {seed}");
+            let most = most_alternatives(&chart, &network);
+            several_alternatives += u64::from(most >= 2);
+            highest_alternatives = highest_alternatives.max(most);
+        }
+        sizes[chart.states.len()] += 1;
+        let levels: Vec<usize> =
+            (0..chart.states.len()).map(|state| depth(&chart, state)).collect();
+        let deepest_here = levels.iter().copied().max().unwrap_or(0);
+        deepest = deepest.max(deepest_here);
+        most_sequential = most_sequential.max(count_of(&chart, Kind::Sequential));
+        receivers[most_receivers(&chart)] += 1;
+        parallel_in_parallel += u64::from(has_parallel_in_parallel(&chart));
+        composite_self_loops += u64::from(has_composite_self_loop(&chart));
+        swaps += u64::from(has_swap(&chart));
+        divisions += u64::from(has_division(&chart));
+        parallel_roots += u64::from(chart.states[0].kind == Kind::Parallel);
+        let bounded = |level: usize| {
+            (0..chart.states.len()).any(|state| {
+                levels[state] == level
+                    && chart.states[state].bounds != reference::values::Bounds::NONE
+            })
+        };
+        bounds_on_every_level += u64::from(deepest_here >= 3 && (0..=deepest_here).all(bounded));
+        assert!(chart.declared.clocks <= CLOCKS && chart.declared.variables <= VARIABLES);
+    }
+    println!(
+        "{flattened} of {CHARTS} flattened; deepest {deepest}; most sequential {most_sequential}"
+    );
+    println!("receivers of one broadcast: {receivers:?}");
+    println!("several alternatives {several_alternatives}, at most {highest_alternatives}");
+    println!("parallel in parallel {parallel_in_parallel}, parallel roots {parallel_roots}");
+    println!("self-loops {composite_self_loops}, swaps {swaps}, divisions {divisions}");
+    println!("bounds on every level {bounds_on_every_level}");
+    assert!(flattened > CHARTS * 9 / 10);
+    assert!(sizes[2] > 0 && sizes[48] > 100 && sizes[2..].iter().all(|&count| count > 0));
+    assert!(deepest >= 12);
+    assert_eq!(most_sequential, 16);
+    assert!(receivers[4..].iter().sum::<u64>() > 100);
+    assert!(several_alternatives > 200 && highest_alternatives >= 8);
+    assert!(parallel_in_parallel > 200 && parallel_roots > 200);
+    assert!(composite_self_loops > 500 && swaps > 500 && divisions > 500);
+    assert!(bounds_on_every_level > 50);
+}
+
+#[test]
+fn equal_seeds_give_equal_charts() {
+    for seed in 0..50 {
+        assert!(chart_from_seed(seed) == chart_from_seed(seed));
+    }
+}

@@ -1,0 +1,192 @@
+//! Where two refusals fit, the first in the paper's order is given.
+
+use std::rc::Rc;
+
+use reference::chart::{Chart, Kind, Transition};
+use reference::chart_machine::{self, ChartConfiguration};
+use reference::check::check;
+use reference::flatten::network_of;
+use reference::guard::{Guard, Relation};
+use reference::label::{Declared, Label, Signal};
+use reference::limits::{LARGEST, NONE};
+use reference::network::Network;
+use reference::network_machine::{self, NetworkConfiguration};
+use reference::refusal::Refusal;
+use reference::special::{dense, nested_channel, state, transition};
+
+/// Two sequential states in parallel. The first enters a composite state; the second has a
+/// transition to itself that resets the clock, one that does not and is guarded, and two with
+/// signals. The composite state has a bound of 5.
+fn chart() -> Chart {
+    let mut states = vec![
+        state(NONE, Kind::Parallel, 1, 0),
+        state(0, Kind::Sequential, 1, 0),
+        state(1, Kind::Basic, 1, 0),
+        state(1, Kind::Sequential, 2, 0),
+        state(3, Kind::Basic, 2, 0),
+        state(0, Kind::Sequential, 1, 0),
+        state(5, Kind::Basic, 1, 0),
+    ];
+    states[3].bounds.0[0] = 5;
+    let labelled = |label: Label| Transition {
+        source: 6,
+        destination: 6,
+        exit: None,
+        entry: None,
+        label: Rc::new(label),
+    };
+    let late = Guard::Clock { clock: 0, relation: Relation::AtLeast, constant: 3 };
+    let transitions = vec![
+        transition(2, 3, None, Some(1), Signal::None),
+        labelled(Label::of_signal(Signal::None)),
+        labelled(Label { guards: vec![late], ..Label::of_signal(Signal::None) }),
+        labelled(Label::of_signal(Signal::Send(0))),
+        labelled(Label::of_signal(Signal::Receive(0))),
+    ];
+    let declared = Declared { clocks: 1, rendezvous: 1, ..Declared::default() };
+    let chart = Chart::new(declared, 2, 0, states, transitions);
+    check(&chart.write()).expect("the chart passes")
+}
+
+/// The numbers of the edges that bear a transition.
+fn edge(network: &Network, transition: usize) -> u16 {
+    let found = network.edges.iter().position(|edge| edge.transition == Some(transition));
+    found.expect("the transition has an edge") as u16
+}
+
+#[test]
+fn a_chart_step() {
+    let chart = chart();
+    let start = chart_machine::start(&chart);
+    let step = |configuration: &ChartConfiguration, list: &[u16]| {
+        chart_machine::step(&chart, configuration, list)
+    };
+    let mut broken = start;
+    broken.active[6] = false;
+    // 17 before 18.
+    assert_eq!(step(&broken, &[]), Err(Refusal::ChartConfiguration));
+    // 18 before 19: 2 is inactive, 9 is unknown.
+    assert_eq!(step(&start, &[2, 9]), Err(Refusal::List));
+    assert_eq!(step(&start, &[1, 1]), Err(Refusal::List));
+    assert_eq!(step(&start, &[0; 17]), Err(Refusal::List));
+    // 19 before 20: two transitions without signal are not allowed together.
+    assert_eq!(step(&start, &[1, 2]), Err(Refusal::Inactive));
+    assert_eq!(step(&start, &[0, 1]), Err(Refusal::NotAllowed));
+    // A sender and a receiver of one parent are not independent.
+    assert_eq!(step(&start, &[3, 4]), Err(Refusal::NotAllowed));
+    assert_eq!(step(&start, &[3]), Err(Refusal::NotAllowed));
+    // 20 before 21: entering the composite state breaks its bound.
+    let mut late = start;
+    late.values.clocks[0] = 6;
+    assert_eq!(step(&late, &[0, 1]), Err(Refusal::NotAllowed));
+    assert_eq!(step(&late, &[0]), Err(Refusal::BoundBroken));
+}
+
+#[test]
+fn a_chart_wait() {
+    let chart = chart();
+    let mut inside = chart_machine::step(&chart, &chart_machine::start(&chart), &[0]).unwrap();
+    let wait = |configuration: &ChartConfiguration, ticks| {
+        chart_machine::wait(&chart, configuration, ticks)
+    };
+    assert_eq!(wait(&inside, 0), Err(Refusal::Ticks));
+    // 22 before 21.
+    assert_eq!(wait(&inside, LARGEST + 1), Err(Refusal::Ticks));
+    assert_eq!(wait(&inside, LARGEST), Err(Refusal::BoundBroken));
+    assert_eq!(wait(&inside, 6), Err(Refusal::BoundBroken));
+    assert!(wait(&inside, 5).is_ok());
+    // 17 before 22.
+    inside.values.clocks[0] = 6;
+    assert_eq!(wait(&inside, 0), Err(Refusal::ChartConfiguration));
+}
+
+#[test]
+fn a_network_step() {
+    let chart = chart();
+    let network = network_of(&chart).unwrap();
+    let start = network_machine::start(&network);
+    let step = |configuration: &NetworkConfiguration, list: &[u16]| {
+        network_machine::step(&network, configuration, list)
+    };
+    let edges: Vec<u16> = (0..5).map(|transition| edge(&network, transition)).collect();
+    let mut broken = start;
+    broken.locations[0] = broken.locations[1];
+    // 26 before 18.
+    assert_eq!(step(&broken, &[]), Err(Refusal::NetworkConfiguration));
+    let at_pre = step(&start, &edges[..1]).unwrap();
+    assert!(network_machine::urgent_is_occupied(&network, &at_pre));
+    // 18 before 19 before 27 before 20.
+    assert_eq!(step(&at_pre, &[edges[2], 1_000]), Err(Refusal::List));
+    assert_eq!(step(&at_pre, &[edges[2]]), Err(Refusal::Inactive));
+    assert_eq!(step(&at_pre, &[edges[1]]), Err(Refusal::Urgency));
+    assert_eq!(step(&at_pre, &[edges[3]]), Err(Refusal::Urgency));
+    assert_eq!(step(&at_pre, &[edges[3], edges[4]]), Err(Refusal::Urgency));
+    // With an edge that leaves the urgent location, 20.
+    let leaving = network.edges.iter().position(|edge| network.locations[edge.source].urgent);
+    let leaving = leaving.unwrap() as u16;
+    let mut both = vec![leaving, edges[1]];
+    both.sort();
+    assert_eq!(step(&at_pre, &both), Err(Refusal::NotAllowed));
+    // The set of the broadcast "enter" must include the receiver, which is active.
+    assert_eq!(step(&at_pre, &[leaving]), Err(Refusal::NotAllowed));
+    // 21: pre has the bound of what is entered.
+    let mut late = start;
+    late.values.clocks[0] = 6;
+    assert_eq!(step(&late, &edges[..1]), Err(Refusal::BoundBroken));
+}
+
+#[test]
+fn a_network_wait() {
+    let chart = chart();
+    let network = network_of(&chart).unwrap();
+    let start = network_machine::start(&network);
+    let at_pre = network_machine::step(&network, &start, &[edge(&network, 0)]).unwrap();
+    let wait = |configuration: &NetworkConfiguration, ticks| {
+        network_machine::wait(&network, configuration, ticks)
+    };
+    // 22 before 27 before 21.
+    assert_eq!(wait(&at_pre, 0), Err(Refusal::Ticks));
+    assert_eq!(wait(&at_pre, LARGEST + 1), Err(Refusal::Ticks));
+    assert_eq!(wait(&at_pre, 6), Err(Refusal::Urgency));
+    assert_eq!(wait(&at_pre, 1), Err(Refusal::Urgency));
+    assert_eq!(wait(&start, LARGEST).map(|new| new.values.clocks[0]), Ok(LARGEST));
+    let mut broken = at_pre;
+    broken.flags[15] = 1;
+    // 26 before 22.
+    assert_eq!(wait(&broken, 0), Err(Refusal::NetworkConfiguration));
+}
+
+#[test]
+fn records_are_read_from_left_to_right() {
+    let refusal = |file: &[u8]| check(file).map(|_| ()).unwrap_err();
+    let file = dense().write();
+    // The first state's kind (out of range) comes before its end (too long).
+    let mut both = file.clone();
+    both[11] += 1;
+    both[13] = 3;
+    assert_eq!(refusal(&both), Refusal::ChartField);
+    // A length that passes the file is wrong at its own bytes, before the field.
+    both[11] = 255;
+    assert_eq!(refusal(&both), Refusal::ChartLength);
+    // A field that passes its record comes before a later field out of range.
+    let mut both = file.clone();
+    both[11] = 3;
+    both[13] = 0;
+    assert_eq!(refusal(&both), Refusal::ChartLength);
+    // Bytes after the last record come last, so an earlier field wins.
+    let mut both = file.clone();
+    both.push(0);
+    both[2] += 1;
+    assert_eq!(refusal(&both), Refusal::ChartLength);
+    both[13] = 3;
+    assert_eq!(refusal(&both), Refusal::ChartField);
+    // Rules are tried one after the other on the whole chart: 5 before 14.
+    let mut chart = nested_channel();
+    assert_eq!(refusal(&chart.write()), Refusal::NestedChannel);
+    chart.states[1].exit_marks = 1;
+    assert_eq!(refusal(&chart.write()), Refusal::ExitMarks);
+    chart.states[0].entry_marks = 0;
+    assert_eq!(refusal(&chart.write()), Refusal::EntryMarks);
+    chart.states[2].parent = 2;
+    assert_eq!(refusal(&chart.write()), Refusal::Parent);
+}

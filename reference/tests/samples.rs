@@ -1,0 +1,228 @@
+//! The samples S1 to S10 of the paper, and the sizes that it names.
+
+use std::rc::Rc;
+
+use reference::chart::{Chart, Kind, Transition};
+use reference::chart_machine;
+use reference::check::check;
+use reference::expression::Expression;
+use reference::flatten::{flatten, network_of};
+use reference::guard::{Guard, Relation};
+use reference::label::{Assignment, Declared, Label, Signal};
+use reference::limits::{NONE, VARIABLES};
+use reference::network_machine;
+use reference::refusal::Refusal;
+use reference::special::{
+    broadcast_of_self_loops, chart_with_edges, chart_with_sequential_children, largest,
+    many_equal_choices, sample_1, sample_3, state, transition,
+};
+
+const S1_CHART: [u8; 40] = [
+    0x01, 0x00, 0x25, 0x03, 0x00, 0x00, 0x00, 0x00, 0x01, 0x00, 0x01, //
+    0x05, 0xFF, 0x01, 0x00, 0x01, 0x00, //
+    0x05, 0x00, 0x00, 0x00, 0x01, 0x00, //
+    0x05, 0x00, 0x00, 0x00, 0x00, 0x00, //
+    0x00, 0x09, 0x01, 0x02, 0xFF, 0xFF, 0x00, 0xFF, 0x00, 0x00, 0x00,
+];
+
+const S1_NETWORK: [u8; 42] = [
+    0x01, 0x00, 0x00, 0x00, 0x25, 0x01, 0x03, 0x00, 0x01, 0x00, 0x00, 0x00, 0x00, //
+    0x03, 0x00, 0x00, 0x00, //
+    0x03, 0x00, 0x00, 0x01, //
+    0x03, 0x00, 0x00, 0x00, //
+    0x00, 0x0F, 0x01, 0x02, 0x00, 0xFF, 0x00, 0x00, 0x00, 0x00, 0x00, 0x00, 0x00, 0xFF, 0x00, 0x00,
+    0x00,
+];
+
+/// A chart of one sequential state with one basic child, which has a transition to itself.
+fn one_loop(declared: Declared, label: Label) -> Chart {
+    let states = vec![state(NONE, Kind::Sequential, 1, 0), state(0, Kind::Basic, 1, 0)];
+    let transitions = vec![Transition {
+        source: 1,
+        destination: 1,
+        exit: None,
+        entry: None,
+        label: Rc::new(label),
+    }];
+    Chart::new(declared, 1, 0, states, transitions)
+}
+
+#[test]
+fn s1_and_s2() {
+    assert_eq!(sample_1().write(), S1_CHART);
+    for room in [42, 43, 100] {
+        let mut buffer = vec![0xAA; room];
+        assert_eq!(flatten(&S1_CHART, &mut buffer), Ok(42));
+        assert_eq!(buffer[..42], S1_NETWORK);
+        assert!(buffer[42..].iter().all(|&byte| byte == 0xAA));
+    }
+    let mut buffer = vec![0xAA; 41];
+    assert_eq!(flatten(&S1_CHART, &mut buffer), Err(Refusal::BufferLength));
+    assert_eq!(buffer, vec![0xAA; 41]);
+}
+
+#[test]
+fn s3() {
+    let chart = check(&sample_3().write()).unwrap();
+    let network = network_of(&chart).unwrap();
+    assert_eq!((network.automata, network.locations.len(), network.edges.len()), (2, 7, 6));
+    // Each chart step takes two network moves, and two steps lead back to the start.
+    let start = network_machine::start(&network);
+    let mut configuration = start;
+    for moves in 1..=4 {
+        let next: Vec<_> = (0..6)
+            .flat_map(|first| (first..6).map(move |second| (first, second)))
+            .map(|(first, second)| if first == second { vec![first] } else { vec![first, second] })
+            .filter_map(|list| network_machine::step(&network, &configuration, &list).ok())
+            .collect();
+        assert_eq!(next.len(), 1);
+        configuration = next[0];
+        assert_eq!(configuration == start, moves == 4);
+    }
+}
+
+#[test]
+fn s4_and_s5() {
+    let declared = Declared { clocks: 1, ..Declared::default() };
+    let mut chart = one_loop(declared, Label::of_signal(Signal::None));
+    chart.states[1].bounds.0[0] = 3;
+    let at = |clock| {
+        let mut configuration = chart_machine::start(&chart);
+        configuration.values.clocks[0] = clock;
+        configuration
+    };
+    assert_eq!(chart_machine::wait(&chart, &at(3), 1), Err(Refusal::BoundBroken));
+    assert_eq!(chart_machine::wait(&chart, &at(2), 1), Ok(at(3)));
+    assert_eq!(chart_machine::wait(&chart, &at(2), 0), Err(Refusal::Ticks));
+}
+
+#[test]
+fn s6() {
+    let assignments = vec![
+        Assignment { variable: 0, expression: Expression::Variable(1) },
+        Assignment { variable: 1, expression: Expression::Variable(0) },
+    ];
+    let declared = Declared { variables: 2, ..Declared::default() };
+    let chart = one_loop(declared, Label { assignments, ..Label::of_signal(Signal::None) });
+    let mut configuration = chart_machine::start(&chart);
+    configuration.values.variables[..2].copy_from_slice(&[5, -8]);
+    let new = chart_machine::step(&chart, &configuration, &[0]).unwrap();
+    assert_eq!(new.values.variables[..2], [-8, 5]);
+}
+
+#[test]
+fn s7_and_s9() {
+    let value = |expression: Expression| expression.value(&[0; VARIABLES]);
+    let constant = |value: i32| Box::new(Expression::Constant(value));
+    assert_eq!(value(Expression::Quotient(constant(-7), 2)), -4);
+    assert_eq!(value(Expression::Remainder(constant(-7), 2)), 1);
+    assert_eq!(value(Expression::Sum(constant(i32::MAX), constant(1))), i32::MIN);
+    assert_eq!(value(Expression::Quotient(constant(i32::MIN), 1)), i32::MIN);
+    assert_eq!(value(Expression::Product(constant(i32::MIN), constant(-1))), i32::MIN);
+}
+
+#[test]
+fn s8() {
+    let nested = |levels: usize| {
+        let left = (1..levels)
+            .fold(Expression::Constant(0), |inner, _| Expression::Remainder(Box::new(inner), 3));
+        assert_eq!(left.levels(), levels);
+        let guard = Guard::Data { relation: Relation::Equal, left, right: Expression::Constant(0) };
+        let label = Label { guards: vec![guard], ..Label::of_signal(Signal::None) };
+        check(&one_loop(Declared::default(), label).write()).map(|_| ())
+    };
+    assert_eq!(nested(8), Ok(()));
+    assert_eq!(nested(9), Err(Refusal::ChartField));
+}
+
+#[test]
+fn s10() {
+    let declared = Declared { broadcast: 1, ..Declared::default() };
+    let chart = one_loop(declared, Label::of_signal(Signal::Send(0)));
+    assert!(chart_machine::step(&chart, &chart_machine::start(&chart), &[0]).is_ok());
+    // Active receivers in other sequential states must be in the set.
+    let chart = broadcast_of_self_loops();
+    let start = chart_machine::start(&chart);
+    assert_eq!(chart_machine::step(&chart, &start, &[0]), Err(Refusal::NotAllowed));
+    assert_eq!(chart_machine::step(&chart, &start, &[0, 1, 2, 3, 4, 5, 6, 7]), Ok(start));
+}
+
+#[test]
+fn sizes() {
+    let mut chart = sample_1();
+    while chart.states.len() < 48 {
+        chart.states.push(state(0, Kind::Basic, 0, 0));
+    }
+    assert!(check(&chart.write()).is_ok());
+    chart.states.push(state(0, Kind::Basic, 0, 0));
+    assert_eq!(check(&chart.write()).unwrap_err(), Refusal::ChartCount);
+    assert!(check(&chart_with_sequential_children(15).write()).is_ok());
+    let refused = check(&chart_with_sequential_children(16).write());
+    assert_eq!(refused.unwrap_err(), Refusal::SequentialCount);
+}
+
+#[test]
+fn alternatives_are_counted_before_they_are_listed() {
+    assert_eq!(network_of(&chart_with_edges(1024)).unwrap().edges.len(), 1024);
+    assert_eq!(network_of(&chart_with_edges(1025)), Err(Refusal::EdgeCount));
+    // 2^15 choices that are one alternative: one edge to post, one from it, 30 that hear the exit.
+    assert_eq!(network_of(&many_equal_choices()).unwrap().edges.len(), 32);
+}
+
+/// A state that cannot complete has no alternatives, however many its children have.
+#[test]
+fn branches_that_cannot_complete_are_left_out() {
+    let mut chart = chart_with_edges(1024);
+    // The last of the five children in parallel loses its marks.
+    let last = chart.children[2][4];
+    for state in chart.at_or_below(last) {
+        chart.states[state].exit_marks = 0;
+    }
+    let transitions = vec![transition(2, 1, Some(0), None, Signal::None); 60];
+    let chart = Chart::new(chart.declared, 1, 1, chart.states, transitions);
+    let network = network_of(&chart).unwrap();
+    // One edge from each post, and 20 that hear the exit.
+    assert_eq!(network.edges.len(), 60 + 20);
+    assert!(network.edges.iter().all(|edge| edge.transition.is_none()));
+}
+
+#[test]
+fn the_largest_chart_passes() {
+    let chart = largest();
+    let file = chart.write();
+    assert!(file.len() <= 65_536 && file.len() > 65_000);
+    let mut buffer = vec![0; 200_000];
+    let length = flatten(&file, &mut buffer).unwrap();
+    let network = reference::network::Network::read(&buffer[..length]).unwrap();
+    assert_eq!(network.edges.len(), 1024);
+}
+
+/// Every alternative has the whole label, so a network can be far longer than its chart.
+#[test]
+fn a_long_network() {
+    let mut chart = chart_with_edges(1001);
+    let guard = Guard::Data {
+        relation: Relation::Equal,
+        left: full_sum(8),
+        right: Expression::Constant(0),
+    };
+    let label = Label { guards: vec![guard; 20], ..Label::of_signal(Signal::None) };
+    for transition in &mut chart.transitions[..4] {
+        transition.label = Rc::new(label.clone());
+    }
+    let file = chart.write();
+    let mut buffer = vec![0; 16_000_000];
+    let length = flatten(&file, &mut buffer).unwrap();
+    assert!(length > 15_000_000, "{length}");
+    assert_eq!(flatten(&file, &mut buffer[..length - 1]), Err(Refusal::BufferLength));
+    // The length in the header is that of the file.
+    assert_eq!(buffer[1..5], ((length - 5) as u32).to_be_bytes());
+}
+
+/// A sum of this many levels with constants only.
+fn full_sum(levels: usize) -> Expression {
+    if levels == 1 {
+        return Expression::Constant(0);
+    }
+    Expression::Sum(Box::new(full_sum(levels - 1)), Box::new(full_sum(levels - 1)))
+}

@@ -1,0 +1,211 @@
+//! Random runs of charts and their networks side by side.
+
+use std::rc::Rc;
+
+use reference::chart::{Chart, Kind};
+use reference::check::check;
+use reference::damage::damage_chart;
+use reference::flatten::network_of;
+use reference::generate::chart_from_seed;
+use reference::label::Signal;
+use reference::layout::{Layout, Place};
+use reference::limits::NONE;
+use reference::random::Random;
+use reference::side_by_side::{run_chart_list, run_network_list, Failure, Machines, Tally};
+use reference::special;
+
+const CHARTS: u64 = 2_000;
+const CALLS: usize = 40;
+
+fn machines(chart: Chart) -> Machines {
+    let network = network_of(&chart).expect("flattening accepts the chart");
+    let layout = Layout::of(&chart);
+    Machines { chart, layout, network }
+}
+
+/// One network list and one chart list.
+fn run(machines: &Machines, seed: u64, calls: usize) -> Result<Tally, Failure> {
+    let mut random = Random::new(seed);
+    let mut tally = run_network_list(machines, calls, &mut random)?;
+    tally.add(&run_chart_list(machines, calls, &mut random)?);
+    Ok(tally)
+}
+
+#[test]
+fn every_clause_holds_on_random_runs() {
+    let mut tally = Tally::default();
+    for seed in 0..CHARTS {
+        match run(&machines(chart_from_seed(seed)), seed, CALLS) {
+            Ok(one) => tally.add(&one),
+            Err(failure) => panic!("seed {seed}: {failure}"),
+        }
+    }
+    println!("{tally:#?}");
+    assert_eq!(tally.runs, 2 * CHARTS);
+    assert!(tally.moves > 10_000 && tally.urgent_moves > 5_000 && tally.waits > 5_000);
+    assert!(tally.broadcasts_with_several_receivers > 1_000);
+    for number in [18, 19, 20, 21, 22] {
+        assert!(tally.chart_refusals[number] > 100, "chart refusal {number}");
+        assert!(tally.network_refusals[number] > 100, "network refusal {number}");
+    }
+    assert!(tally.network_refusals[27] > 100);
+    assert!(tally.most_owed >= 6);
+}
+
+#[test]
+fn every_clause_holds_on_special_charts() {
+    let charts = [
+        special::sample_1(),
+        special::sample_3(),
+        special::dense(),
+        special::broadcast_of_self_loops(),
+        special::chart_with_edges(1024),
+        special::many_equal_choices(),
+        special::chart_with_sequential_children(15),
+    ];
+    let mut most_owed = 0;
+    for chart in charts {
+        let machines = machines(chart);
+        for seed in 0..5 {
+            let tally = run(&machines, seed, CALLS).unwrap_or_else(|failure| panic!("{failure}"));
+            most_owed = most_owed.max(tally.most_owed);
+        }
+    }
+    assert_eq!(most_owed, 16);
+}
+
+/// Charts with one field changed are odd but may pass: marks that lead nowhere, unused channels.
+#[test]
+fn every_clause_holds_on_changed_charts() {
+    let mut passed = 0;
+    for seed in 0..600 {
+        let changed = damage_chart(&chart_from_seed(seed), &mut Random::new(seed));
+        let Ok(chart) = check(&changed.write()) else {
+            continue;
+        };
+        passed += 1;
+        if let Err(failure) = run(&machines(chart), seed, CALLS / 2) {
+            panic!("seed {seed}: {failure}");
+        }
+    }
+    assert!(passed > 100, "{passed}");
+}
+
+/// How many of the seeds show a fault that was put into the network.
+fn seeds_that_show(put_fault: impl Fn(&mut Machines)) -> usize {
+    let shows = |&seed: &u64| {
+        let mut machines = machines(chart_from_seed(seed));
+        put_fault(&mut machines);
+        run(&machines, seed, CALLS).is_err()
+    };
+    (0..120).filter(shows).count()
+}
+
+#[test]
+fn nested_automata_left_running_are_noticed() {
+    let shown = seeds_that_show(|machines| {
+        let places = &machines.layout.places;
+        machines.network.edges.retain(|edge| {
+            let hears = matches!(edge.label.signal, Signal::Receive(_));
+            !(hears && places[edge.target] == Place::Idle)
+        });
+    });
+    assert!(shown > 5, "{shown}");
+}
+
+#[test]
+fn missing_flag_tests_are_noticed() {
+    let shown = seeds_that_show(|machines| {
+        for edge in &mut machines.network.edges {
+            edge.automata_tested = 0;
+            edge.values_needed = 0;
+        }
+    });
+    assert!(shown > 5, "{shown}");
+}
+
+#[test]
+fn unwritten_flags_are_noticed() {
+    let shown = seeds_that_show(|machines| {
+        for edge in &mut machines.network.edges {
+            edge.exits_written = 0;
+            edge.values_written = 0;
+        }
+    });
+    assert!(shown > 5, "{shown}");
+}
+
+#[test]
+fn dropped_bounds_of_parallel_parents_are_noticed() {
+    let shown = seeds_that_show(|machines| {
+        for (location, place) in machines.network.locations.iter_mut().zip(&machines.layout.places)
+        {
+            if let Place::Child(child) = place {
+                location.bounds = machines.chart.states[*child].bounds;
+            }
+        }
+    });
+    assert!(shown > 5, "{shown}");
+}
+
+#[test]
+fn bounds_missing_from_pre_and_post_are_noticed() {
+    let shown = seeds_that_show(|machines| {
+        for location in machines.network.locations.iter_mut().filter(|location| location.urgent) {
+            location.bounds = reference::values::Bounds::NONE;
+        }
+    });
+    assert!(shown > 0, "{shown}");
+}
+
+#[test]
+fn locations_that_are_not_urgent_are_noticed() {
+    let shown = seeds_that_show(|machines| {
+        for location in &mut machines.network.locations {
+            location.urgent = false;
+        }
+    });
+    assert!(shown > 5, "{shown}");
+}
+
+#[test]
+fn lost_receivers_are_noticed() {
+    let shown = seeds_that_show(|machines| {
+        let declared = machines.chart.declared;
+        let broadcast = declared.rendezvous..declared.channels();
+        machines.network.edges.retain(|edge| match edge.label.signal {
+            Signal::Receive(channel) => !broadcast.contains(&channel),
+            _ => true,
+        });
+    });
+    assert!(shown > 5, "{shown}");
+}
+
+/// A composite state that leaves and enters itself must exit first.
+#[test]
+fn entering_before_exiting_is_noticed() {
+    let states = vec![
+        special::state(NONE, Kind::Sequential, 1, 0),
+        special::state(0, Kind::Sequential, 1, 0),
+        special::state(1, Kind::Basic, 1, 1),
+    ];
+    let transitions = vec![special::transition(1, 1, Some(0), Some(0), Signal::None)];
+    let chart = Chart::new(Default::default(), 1, 1, states, transitions);
+    let mut machines = machines(chart);
+    assert!(run(&machines, 1, CALLS).is_ok());
+    // Let post send "enter" and pre send "exit".
+    let sends: Vec<usize> = (0..machines.network.edges.len())
+        .filter(|&number| {
+            let edge = &machines.network.edges[number];
+            machines.network.locations[edge.source].urgent
+        })
+        .collect();
+    let [first, second] = sends[..] else {
+        panic!("one pre and one post");
+    };
+    let edges = &mut machines.network.edges;
+    let label = Rc::clone(&edges[first].label);
+    edges[first].label = Rc::clone(&edges[second].label);
+    edges[second].label = label;
+    assert!(run(&machines, 1, CALLS).is_err());
+}

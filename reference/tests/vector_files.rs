@@ -1,0 +1,170 @@
+//! The vector files for programs: what is in the repository is what is written, and it covers
+//! every refusal and every kind of guard, relation, signal and place.
+
+use std::fs;
+use std::path::Path;
+use std::sync::OnceLock;
+
+use reference::binary_form::{answer_to_line, request_to_bytes, requests_from_bytes};
+use reference::coverage::Counts;
+use reference::vector_files::{vector_files, VectorFile, MOST_INPUT_BYTES};
+
+/// The files, written once for all tests.
+fn files() -> &'static [VectorFile] {
+    static FILES: OnceLock<Vec<VectorFile>> = OnceLock::new();
+    FILES.get_or_init(vector_files)
+}
+
+fn file(name: &str) -> &'static VectorFile {
+    files().iter().find(|file| file.name == name).expect("the file is written")
+}
+
+fn assert_covered(counts: &Counts, wanted: impl IntoIterator<Item = String>) {
+    let missing: Vec<String> =
+        wanted.into_iter().filter(|feature| !counts.contains_key(feature)).collect();
+    assert!(missing.is_empty(), "missing: {missing:#?}");
+}
+
+fn refusals(operation: &str, numbers: impl IntoIterator<Item = u8>) -> Vec<String> {
+    numbers.into_iter().map(|number| format!("{operation}: refusal {number}")).collect()
+}
+
+/// The names of all kinds of guard with all relations.
+fn guards() -> Vec<String> {
+    let relations = ["Less", "AtMost", "Greater", "AtLeast", "Equal", "Different"];
+    ["Data", "Clock", "Difference"]
+        .iter()
+        .flat_map(|kind| relations.iter().map(move |relation| format!("{kind} {relation}")))
+        .collect()
+}
+
+fn guards_both_ways(operation: &str) -> Vec<String> {
+    guards()
+        .iter()
+        .flat_map(|guard| {
+            [true, false].map(|truth| format!("{operation}: guard {guard} is {truth}"))
+        })
+        .collect()
+}
+
+fn parts(operation: &str, parts: &[&str]) -> Vec<String> {
+    parts.iter().map(|part| format!("{operation}: {part}")).collect()
+}
+
+const LABEL_PARTS: [&str; 12] = [
+    "signal none",
+    "signal send",
+    "signal receive",
+    "expression code 0",
+    "expression code 1",
+    "expression code 2",
+    "expression code 3",
+    "expression code 4",
+    "expression code 5",
+    "expression code 6",
+    "several assignments",
+    "resets",
+];
+
+const SETS: [&str; 6] = [
+    "set without signal",
+    "set on a rendezvous channel",
+    "set on a broadcast channel, 0 receivers",
+    "set on a broadcast channel, 1 receivers",
+    "set on a broadcast channel, 2 receivers",
+    "set on a broadcast channel, 3 or more receivers",
+];
+
+#[test]
+fn the_repository_has_the_files_as_written() {
+    let folder = Path::new(env!("CARGO_MANIFEST_DIR")).join("vectors");
+    for file in files() {
+        let input = fs::read(folder.join(format!("{}.stdin", file.name))).unwrap();
+        let output = fs::read_to_string(folder.join(format!("{}.stdout", file.name))).unwrap();
+        assert!(input == file.input && output == file.output, "{} differs", file.name);
+    }
+}
+
+#[test]
+fn the_files_can_be_read_and_answered() {
+    for file in files() {
+        assert!(file.input.len() <= MOST_INPUT_BYTES);
+        let requests = requests_from_bytes(&file.input).expect("whole requests");
+        assert_eq!(requests.len(), file.requests);
+        let again: Vec<u8> = requests.iter().flat_map(request_to_bytes).collect();
+        assert!(again == file.input);
+        let lines = requests.iter().map(|request| answer_to_line(&request.answer()) + "\n");
+        assert!(lines.collect::<String>() == file.output);
+    }
+}
+
+#[test]
+fn the_chart_file_covers_everything() {
+    let counts = &file("chart").counts;
+    assert_covered(counts, refusals("check", 1..=14));
+    assert_covered(counts, parts("check", &["ok"]));
+    assert_covered(counts, parts("check", &LABEL_PARTS));
+    assert_covered(counts, parts("chart start", &["ok"]));
+    assert_covered(counts, refusals("chart step", 17..=21));
+    assert_covered(counts, guards_both_ways("chart step"));
+    assert_covered(counts, parts("chart step", &LABEL_PARTS));
+    assert_covered(counts, parts("chart step", &SETS));
+    let ends = ["from Basic", "from Sequential", "from Parallel"];
+    assert_covered(counts, parts("chart step", &ends));
+    let ends = ["to Basic", "to Sequential", "to Parallel", "composite self-loop"];
+    assert_covered(counts, parts("chart step", &ends));
+    assert_covered(counts, refusals("chart wait", [17, 21, 22]));
+    assert_covered(counts, parts("chart wait", &["ok"]));
+}
+
+#[test]
+fn the_flatten_file_covers_everything() {
+    let counts = &file("flatten").counts;
+    assert_covered(counts, refusals("flatten", 1..=16));
+    assert_covered(counts, parts("flatten", &LABEL_PARTS));
+    assert_covered(counts, guards().iter().map(|guard| format!("flatten: guard {guard}")));
+    assert_covered(counts, parts("flatten", &["has idle", "has child", "has pre", "has post"]));
+    let alternatives = [
+        "0 alternatives",
+        "1 alternatives",
+        "2 alternatives",
+        "3 alternatives",
+        "4 or more alternatives",
+    ];
+    assert_covered(counts, parts("flatten", &alternatives));
+    let flags = [
+        "flag test of 0: true, of 1: false",
+        "flag test of 0: false, of 1: true",
+        "flag test of 0: true, of 1: true",
+        "flag written 0",
+        "flag written 1",
+    ];
+    assert_covered(counts, parts("flatten", &flags));
+}
+
+#[test]
+fn the_network_file_covers_everything() {
+    let counts = &file("network").counts;
+    for operation in ["network start", "network step", "network wait"] {
+        assert_covered(counts, refusals(operation, [24, 25]));
+        assert_covered(counts, parts(operation, &["ok"]));
+    }
+    assert_covered(counts, refusals("network step", [18, 19, 20, 21, 26, 27]));
+    assert_covered(counts, refusals("network wait", [21, 22, 26, 27]));
+    assert_covered(counts, guards_both_ways("network step"));
+    assert_covered(counts, parts("network step", &LABEL_PARTS));
+    assert_covered(counts, parts("network step", &SETS));
+    let places = ["idle", "child", "pre", "post"];
+    let leaves = places.map(|place| format!("network step: leaves {place}"));
+    let reaches = places.map(|place| format!("network step: reaches {place}"));
+    assert_covered(counts, leaves);
+    assert_covered(counts, reaches);
+    let flags = [
+        "flag test false",
+        "flag test of 0: true, of 1: false",
+        "flag test of 0: false, of 1: true",
+        "flag written 0",
+        "flag written 1",
+    ];
+    assert_covered(counts, parts("network step", &flags));
+}
