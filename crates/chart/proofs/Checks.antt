@@ -7,14 +7,14 @@ use native.Mathlib.Omega.{arith}
 use native.Mathlib.Decide.{decLt}
 use borrow.Author.Tests.{lt-leb}
 use lib.Bits as Words
-use lib.Dec.{leb, ltb, eqb}
-use lib.ListN.{length, getD, drop, drop-of-length-le}
+use lib.Dec.{leb}
+use lib.ListN.{length, drop}
 use lib.Pow.{pow-pos}
 use Rattle.expr.specs.Lists.{has, all, any, keep, below, implies, subset}
-use Rattle.expr.proofs.Bools.{clash, fails, both}
+use Rattle.expr.proofs.Bools.{clash}
 use Rattle.expr.proofs.Lists.{below-by, below-next, below-end, keep-keep, some-kept, all-same, not-all, all-next, all-stop, any-next, any-stop, counted-next, counted-left, counted-all}
 use Rattle.expr.proofs.Bits.{has-zero, has-high, and-apart, and-shared, tally, or-apart}
-use Rattle.chart.specs.Chart.{Chart, State, stateAt, states, sequential}
+use Rattle.chart.specs.Chart.{Chart, State, stateAt, states}
 use Rattle.chart.specs.Tree.{isChild, children}
 use Rattle.chart.specs.Rules.{marked, childrenMarked}
 use Rattle.chart.specs.Layout.{Stated}
@@ -159,6 +159,7 @@ module _ (m : ℕ) (rest : List ℕ) (n : Counts) where
     where
       once : (e : ℕ) → marked c m e ≡ tally (has seen e)
       once e = let z : length (keep (markedChild m e c) (drop i (states c))) ≡ 0 = ap (λ (l : List ℕ). length (keep (markedChild m e c) l)) (states-end S i h) in omega (arith, z, t c S e)
+
       go : (a b : Bool) → (leb (tally b) 1 && implies a (leb 1 (tally b))) ≡ implies a b
       go a true = refl
       go a false = refl

@@ -2,12 +2,11 @@
 use mathlib.Core.Path.{_≡_, refl, sym, ap, _∙_, subst}
 use mathlib.Core.Bool.{true}
 use mathlib.Core.List.{List, []}
-use Prim.Native.Nat.{ℕ, _+_, _*_, _^_, _≤_, _<_}
+use Prim.Native.Nat.{ℕ, _+_, _*_, _≤_, _<_}
 use native.Mathlib.Omega.{arith}
 use native.Mathlib.Nat.{mul-le-mul}
-use lib.Dec.{ltb}
-use lib.ListN.{length, getD, List·getD-eq-default}
-use Rattle.expr.specs.Reading.{got, Reader, byte, byte2, such, recorded}
+use lib.ListN.{getD, List·getD-eq-default}
+use Rattle.expr.specs.Reading.{got, byte, byte2, recorded}
 use Rattle.expr.specs.Answer.{done}
 use Rattle.expr.specs.Clocks.{row}
 use Rattle.expr.specs.Places.{onward}
@@ -16,7 +15,7 @@ use Rattle.expr.proofs.Reading.{bind-at, then-at, yield-at, yield-rest, such-at
 use Rattle.expr.proofs.Places.{onward-all, onward-onward}
 use Rattle.expr.proofs.Many.{many-nth}
 use Rattle.expr.proofs.InFront.{InFront, yield-front, bind-front, such-front, byte-front, byte2-front}
-use Rattle.chart.specs.Chart.{Chart, State, state, records, numbered, inRange, countsOf, readChart, stateAt}
+use Rattle.chart.specs.Chart.{Chart, State, state, records, inRange, countsOf, readChart, stateAt}
 use Rattle.chart.specs.Layout.{stateSize, statePlace, Stated}
 use Rattle.chart.specs.declared.header.Counts.{Counts}
 use Rattle.expr.proofs.Sizes.{Takes, byte-takes, byte2-takes, row-takes, onto, byte-value, row-front, recorded-inside}

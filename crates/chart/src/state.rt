@@ -134,6 +134,10 @@ pub fn bounds_of(rest: &[u8], counts: Counts, s: u8) -> [u32; 8]
     if counts.clocks > 8 {
         return [4294967295; 8];
     }
-    let read = expr::clock::read_row(rest, state_place(counts.clocks, s) + 6, counts.clocks as usize);
+    let read = expr::clock::read_row(
+        rest,
+        state_place(counts.clocks, s) + 6,
+        counts.clocks as usize,
+    );
     read.row
 }

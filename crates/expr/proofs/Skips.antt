@@ -16,9 +16,11 @@ skipped-recorded {A} size r s = mapped-bind _ (framed size) (whole r) s ∙ go (
     closed : (t : List ℕ) (a : A) (e : Read (Unit {0})) → mapped {B = Unit {0}} (λ a. tt) (next e (λ x y. got a t)) ≡ next e (λ x y. got tt t)
     closed t a (got x y) = refl
     closed t a (fault f) = refl
+
     used : (t : List ℕ) (q : Read A) → mapped {B = Unit {0}} (λ a. tt) (next q (λ a u. next (end u) (λ x y. got a t))) ≡ next (mapped {B = Unit {0}} (λ a. tt) q) (λ a u. next (end u) (λ x y. got a t))
     used t (got a u) = closed t a (end u)
     used t (fault f) = refl
+
     go : (q : Read (List ℕ)) → next q (λ p t. mapped {B = Unit {0}} (λ a. tt) (whole r p t)) ≡ next q (whole (λ p. mapped {B = Unit {0}} (λ a. tt) (r p)))
     go (got p t) = used t (r p)
     go (fault f) = refl

@@ -1,8 +1,8 @@
-use mathlib.Core.Path.{sym, _∙_, ap}
+use mathlib.Core.Path.{sym, _∙_}
 use borrow.Author.Tests.{not-true, not-false}
 use Rattle.expr.specs.Answer.{unless}
 use Rattle.expr.proofs.Answer.{refused-not}
-use Rattle.chart.specs.Chart.{countsOf, inRange}
+use Rattle.chart.specs.Chart.{countsOf}
 use Rattle.chart.proofs.Ranges.{headed-long}
 use borrow.Author.Needs.{needs}
 use Rattle.chart.proofs.header.read_header.Statement.{statement}

@@ -1,19 +1,14 @@
-use mathlib.Core.Path.{_≡_, refl, sym, ap, _∙_, subst}
+use mathlib.Core.Path.{sym, ap, _∙_, subst}
 use native.Mathlib.Omega.{arith}
 use borrow.Author.Needs.{needs}
 use mathlib.Core.Logic.{⊎-elim}
-use Prim.Native.Nat.{ℕ, _-_, _≤_, _<_, _^_}
+use Prim.Native.Nat.{ℕ, _-_, _<_, _^_}
 use lib.Bits.{or-lt}
 use Rattle.expr.specs.Lists.{subset}
 use Rattle.expr.proofs.Bits.{subset-width}
 use Rattle.chart.proofs.Checks.{Seen, seen-none, seen-left, seen-more, seen-stop, seen-all, entries-small}
 use Rattle.chart.proofs.rule.children_marked.Statement.{statement}
 use Rattle.chart.proofs.rule.children_marked.Tie as tie
-use Rattle.chart.proofs.rule.children_marked.Reads as reads
-use Rattle.chart.proofs.rule.children_marked.Lts as lts
-use Rattle.chart.proofs.rule.is_child.Reads as is-child-reads
-use Rattle.chart.proofs.state.entries_of.Reads as entries-of-reads
-use Rattle.expr.proofs.mark.subset.Reads as subset-reads
 
 abbrev Inv-loop : tie.InvT-loop
 Inv-loop rest counts m seen₀ s₀ seen s = (seen < 65536) × Seen m rest counts seen s
@@ -21,31 +16,24 @@ Inv-loop rest counts m seen₀ s₀ seen s = (seen < 65536) × Seen m rest count
 abbrev μ-loop : tie.MeasureT-loop
 μ-loop rest counts m seen₀ s₀ seen s = counts .states - s
 
--- src/rule.rt:140:5
 loop-holds : tie.Need-loop-holds Inv-loop μ-loop
 loop-holds c = (omega arith, seen-none _ _ _)
 
--- src/rule.rt:141:12
 is-child-requires : tie.Need-is-child-requires Inv-loop μ-loop
 is-child-requires c κs = search needs
 
--- src/rule.rt:142:17
 entries-of-requires : tie.Need-entries-of-requires Inv-loop μ-loop
 entries-of-requires c κs = search needs
 
--- src/rule.rt:144:17
 returns : tie.Need-returns Inv-loop μ-loop
 returns c = seen-stop _ _ _ _ (c .before .before .before .before .before .before .loop .inv .1) (c .before .before .before .before .if1 .taken) (c .before .before .before .is-child .ensures) (c .before .before .if2 .taken) (c .before .entries-of .ensures) (c .if3 .taken)
 
--- src/rule.rt:148:9
 add-s : tie.Need-add-s Inv-loop μ-loop
 add-s c = omega arith
 
--- src/rule.rt:140:5
 loop-less : tie.Need-loop-less Inv-loop μ-loop
 loop-less c = omega arith
 
--- src/rule.rt:140:5
 loop-again : tie.Need-loop-again Inv-loop μ-loop
 loop-again c =
     let l = c .before .before .before .before .loop .inv in
@@ -56,23 +44,18 @@ loop-again c =
     (λ w. (omega (arith, w .1), seen-left _ _ _ _ (l .1) h f (w .0 .left) (w .1)))
     (c .if2 .came)
 
--- src/rule.rt:150:24
 entries-of-requires-2 : tie.Need-entries-of-requires-2 Inv-loop μ-loop
 entries-of-requires-2 c κs = search needs
 
--- src/rule.rt:150:24
 cast-subset : tie.Need-cast-subset Inv-loop μ-loop
 cast-subset c = omega arith
 
--- src/rule.rt:150:60
 cast-subset-2 : tie.Need-cast-subset-2 Inv-loop μ-loop
 cast-subset-2 c = omega arith
 
--- src/rule.rt:150:5
 subset-requires : tie.Need-subset-requires Inv-loop μ-loop
 subset-requires c κs = search needs
 
--- src/rule.rt:135:1
 returns-2 : tie.Need-returns-2 Inv-loop μ-loop
 returns-2 c = λ k S.
     let i = c .before .before .before .before .loop .inv in

@@ -1,21 +1,16 @@
-use Prim.Native.Nat.{ℕ}
+use Prim.Native.Nat.{ℕ, _-_, _≤_}
 use lib.Dec.{eqb}
-use Rattle.chart.specs.Chart.{Chart}
+use Rattle.chart.specs.Chart.{Chart, sequential}
 use Rattle.chart.specs.Layout.{Stated}
-use mathlib.Core.Path.{_≡_, refl, sym, ap, _∙_}
+use mathlib.Core.Path.{_≡_, ap}
 use native.Mathlib.Omega.{arith}
 use borrow.Author.Needs.{needs}
 use borrow.Author.Tests.{eq-eqb, ne-eqb}
 use mathlib.Core.Logic.{⊎-elim}
-use Prim.Native.Nat.{_-_, _≤_}
-use Rattle.chart.specs.Chart.{sequential}
 use Rattle.chart.specs.Tree.{sequentials}
 use Rattle.chart.proofs.Checks.{Counted, counted-none, counted-more, counted-not, counted-end}
 use Rattle.chart.proofs.rule.count_sequentials.Statement.{statement}
 use Rattle.chart.proofs.rule.count_sequentials.Tie as tie
-use Rattle.chart.proofs.rule.count_sequentials.Reads as reads
-use Rattle.chart.proofs.rule.count_sequentials.Lts as lts
-use Rattle.chart.proofs.state.kind_of.Reads as kind-of-reads
 
 abbrev Inv-loop : tie.InvT-loop
 Inv-loop rest counts count₀ s₀ count s = (count ≤ s) × Counted sequential rest counts count s
@@ -23,27 +18,21 @@ Inv-loop rest counts count₀ s₀ count s = (count ≤ s) × Counted sequential
 abbrev μ-loop : tie.MeasureT-loop
 μ-loop rest counts count₀ s₀ count s = counts .states - s
 
--- src/rule.rt:78:5
 loop-holds : tie.Need-loop-holds Inv-loop μ-loop
 loop-holds c = (omega arith, counted-none sequential _ _)
 
--- src/rule.rt:79:12
 kind-of-requires : tie.Need-kind-of-requires Inv-loop μ-loop
 kind-of-requires c κs = search needs
 
--- src/rule.rt:80:13
 add-count : tie.Need-add-count Inv-loop μ-loop
 add-count c = omega arith
 
--- src/rule.rt:82:9
 add-s : tie.Need-add-s Inv-loop μ-loop
 add-s c = omega arith
 
--- src/rule.rt:78:5
 loop-less : tie.Need-loop-less Inv-loop μ-loop
 loop-less c = omega arith
 
--- src/rule.rt:78:5
 loop-again : tie.Need-loop-again Inv-loop μ-loop
 unfolding sequential
 loop-again c =
@@ -55,7 +44,6 @@ loop-again c =
     (λ w. (omega (arith, w .1), counted-not sequential _ _ _ (l .1) h is (ne-eqb _ 1 (w .0 .left)) (w .1)))
     (c .if2 .came)
 
--- src/rule.rt:73:1
 returns : tie.Need-returns Inv-loop μ-loop
 unfolding sequentials
 returns c = counted-end sequential _ _ _ (c .before .before .loop .inv .1) (c .if1 .left)

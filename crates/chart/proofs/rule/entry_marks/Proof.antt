@@ -1,16 +1,11 @@
-use mathlib.Core.Path.{_≡_, refl, sym, ap, _∙_, subst}
 use borrow.Author.Tests.{eq-eqb, ne-eqb, not-true, not-false}
 use native.Mathlib.Omega.{arith}
 use borrow.Author.Needs.{needs}
-use Prim.Native.Nat.{_-_, _≤_}
+use Prim.Native.Nat.{_-_}
 use Rattle.chart.specs.Rules.{entryMarks, entriesFit}
 use Rattle.chart.proofs.Checks.{Tested, tested-none, tested-more, tested-stop, tested-all}
 use Rattle.chart.proofs.rule.entry_marks.Statement.{statement}
 use Rattle.chart.proofs.rule.entry_marks.Tie as tie
-use Rattle.chart.proofs.rule.entry_marks.Reads as reads
-use Rattle.chart.proofs.rule.entry_marks.Lts as lts
-use Rattle.chart.proofs.rule.entries_fit.Reads as entries-fit-reads
-use Rattle.chart.proofs.state.entries_of.Reads as entries-of-reads
 
 abbrev Inv-loop : tie.InvT-loop
 Inv-loop rest counts s₀ s = Tested entriesFit rest counts s
@@ -18,42 +13,33 @@ Inv-loop rest counts s₀ s = Tested entriesFit rest counts s
 abbrev μ-loop : tie.MeasureT-loop
 μ-loop rest counts s₀ s = counts .states - s
 
--- src/rule.rt:169:8
 entries-of-requires : tie.Need-entries-of-requires Inv-loop μ-loop
 entries-of-requires c κs = search needs
 
--- src/rule.rt:170:9
 returns : tie.Need-returns Inv-loop μ-loop
 unfolding entryMarks
 returns c = λ k S. rw (← c .before .entries-of .ensures k S, ne-eqb _ 1 (c .if1 .taken))
 
--- src/rule.rt:173:5
 loop-holds : tie.Need-loop-holds Inv-loop μ-loop
 loop-holds c = tested-none entriesFit _ _
 
--- src/rule.rt:174:13
 entries-fit-requires : tie.Need-entries-fit-requires Inv-loop μ-loop
 entries-fit-requires c κs = search needs
 
--- src/rule.rt:175:13
 returns-2 : tie.Need-returns-2 Inv-loop μ-loop
 unfolding entryMarks
 returns-2 c = λ k S. rw (← c .before .before .before .before .before .before .entries-of .ensures k S, eq-eqb _ 1 (c .before .before .before .before .before .if1 .left))
     (tested-stop entriesFit _ _ (c .before .before .before .before .loop .inv) (c .before .before .if2 .taken) (c .before .entries-fit .ensures) (not-true _ (c .if3 .taken)) k S)
 
--- src/rule.rt:177:9
 add-s : tie.Need-add-s Inv-loop μ-loop
 add-s c = omega arith
 
--- src/rule.rt:173:5
 loop-less : tie.Need-loop-less Inv-loop μ-loop
 loop-less c = omega arith
 
--- src/rule.rt:173:5
 loop-again : tie.Need-loop-again Inv-loop μ-loop
 loop-again c = tested-more entriesFit _ _ (c .before .before .before .before .loop .inv) (c .before .before .if2 .taken) (c .before .entries-fit .ensures) (not-false _ (c .if3 .left))
 
--- src/rule.rt:166:1
 returns-3 : tie.Need-returns-3 Inv-loop μ-loop
 unfolding entryMarks
 returns-3 c = λ k S. rw (← c .before .before .before .before .entries-of .ensures k S, eq-eqb _ 1 (c .before .before .before .if1 .left))

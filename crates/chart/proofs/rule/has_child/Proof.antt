@@ -1,14 +1,11 @@
-use mathlib.Core.Path.{_≡_, refl, sym, ap, _∙_}
+use mathlib.Core.Path.{sym, _∙_}
 use native.Mathlib.Omega.{arith}
 use borrow.Author.Needs.{needs}
-use Prim.Native.Nat.{_-_, _≤_}
+use Prim.Native.Nat.{_-_}
 use Rattle.chart.specs.Tree.{isChild}
 use Rattle.chart.proofs.Checks.{Sought, sought-none, sought-more, sought-stop, sought-all, child-sought}
 use Rattle.chart.proofs.rule.has_child.Statement.{statement}
 use Rattle.chart.proofs.rule.has_child.Tie as tie
-use Rattle.chart.proofs.rule.has_child.Reads as reads
-use Rattle.chart.proofs.rule.has_child.Lts as lts
-use Rattle.chart.proofs.rule.is_child.Reads as is-child-reads
 
 abbrev Inv-loop : tie.InvT-loop
 Inv-loop rest counts m s₀ s = Sought (λ c. isChild c m) rest counts s
@@ -16,31 +13,24 @@ Inv-loop rest counts m s₀ s = Sought (λ c. isChild c m) rest counts s
 abbrev μ-loop : tie.MeasureT-loop
 μ-loop rest counts m s₀ s = counts .states - s
 
--- src/rule.rt:25:5
 loop-holds : tie.Need-loop-holds Inv-loop μ-loop
 loop-holds c = sought-none (λ k. isChild k _) _ _
 
--- src/rule.rt:26:12
 is-child-requires : tie.Need-is-child-requires Inv-loop μ-loop
 is-child-requires c κs = search needs
 
--- src/rule.rt:27:13
 returns : tie.Need-returns Inv-loop μ-loop
 returns c = λ k S. sought-stop (λ k. isChild k _) _ _ (c .before .before .before .before .loop .inv) (c .before .before .if1 .taken) (c .before .is-child .ensures) (c .if2 .taken) k S ∙ sym (child-sought k _)
 
--- src/rule.rt:29:9
 add-s : tie.Need-add-s Inv-loop μ-loop
 add-s c = omega arith
 
--- src/rule.rt:25:5
 loop-less : tie.Need-loop-less Inv-loop μ-loop
 loop-less c = omega arith
 
--- src/rule.rt:25:5
 loop-again : tie.Need-loop-again Inv-loop μ-loop
 loop-again c = sought-more (λ k. isChild k _) _ _ (c .before .before .before .before .loop .inv) (c .before .before .if1 .taken) (c .before .is-child .ensures) (c .if2 .left)
 
--- src/rule.rt:21:1
 returns-2 : tie.Need-returns-2 Inv-loop μ-loop
 returns-2 c = λ k S. sought-all (λ k. isChild k _) _ _ (c .before .before .loop .inv) (c .if1 .left) k S ∙ sym (child-sought k _)
 

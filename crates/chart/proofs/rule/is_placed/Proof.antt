@@ -1,37 +1,26 @@
-use mathlib.Core.Path.{_≡_, refl, sym, ap, _∙_, subst}
+use mathlib.Core.Path.{sym, _∙_}
 use borrow.Author.Tests.{eq-eqb, ne-eqb, not-true, not-false}
-use Rattle.chart.specs.Chart.{basic, sequential}
+use Rattle.chart.specs.Chart.{basic}
 use borrow.Author.Needs.{needs}
 use Rattle.chart.proofs.rule.is_placed.Statement.{statement}
 use Rattle.chart.proofs.rule.is_placed.Tie as tie
-use Rattle.chart.proofs.rule.is_placed.Reads as reads
-use Rattle.chart.proofs.rule.is_placed.Lts as lts
-use Rattle.chart.proofs.rule.has_child.Reads as has-child-reads
-use Rattle.chart.proofs.rule.parent_fits.Reads as parent-fits-reads
-use Rattle.chart.proofs.state.kind_of.Reads as kind-of-reads
 
--- src/rule.rt:50:9
 parent-fits-requires : tie.Need-parent-fits-requires
 parent-fits-requires c κs = search needs
 
--- src/rule.rt:51:9
 returns : tie.Need-returns
 returns c = λ k S. rw (sym (c .before .parent-fits .ensures k S) ∙ not-true _ (c .if1 .taken))
 
--- src/rule.rt:53:8
 kind-of-requires : tie.Need-kind-of-requires
 kind-of-requires c κs = search needs
 
--- src/rule.rt:54:9
 returns-2 : tie.Need-returns-2
 unfolding basic
 returns-2 c = λ k S. rw (sym (c .before .before .before .parent-fits .ensures k S) ∙ not-false _ (c .before .before .if1 .left), ← c .before .kind-of .ensures k S, eq-eqb _ 0 (c .if2 .taken))
 
--- src/rule.rt:56:5
 has-child-requires : tie.Need-has-child-requires
 has-child-requires c κs = search needs
 
--- src/rule.rt:47:1
 returns-3 : tie.Need-returns-3
 unfolding basic
 returns-3 c = λ k S. rw (sym (c .before .before .before .before .parent-fits .ensures k S) ∙ not-false _ (c .before .before .before .if1 .left), ← c .before .before .kind-of .ensures k S, ne-eqb _ 0 (c .before .if2 .left)) (c .has-child .ensures k S)

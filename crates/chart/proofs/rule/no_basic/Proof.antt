@@ -1,15 +1,11 @@
-use mathlib.Core.Path.{_≡_, refl, sym, ap, _∙_}
-use borrow.Author.Tests.{eq-eqb, ne-eqb, lt-ltb, le-ltb, not-true, not-false}
+use borrow.Author.Tests.{not-true, not-false}
 use native.Mathlib.Omega.{arith}
 use borrow.Author.Needs.{needs}
-use Prim.Native.Nat.{_-_, _≤_}
+use Prim.Native.Nat.{_-_}
 use Rattle.chart.specs.Rules.{noBasic, noBasicChild}
 use Rattle.chart.proofs.Checks.{Tested, tested-none, tested-more, tested-stop, tested-all}
 use Rattle.chart.proofs.rule.no_basic.Statement.{statement}
 use Rattle.chart.proofs.rule.no_basic.Tie as tie
-use Rattle.chart.proofs.rule.no_basic.Reads as reads
-use Rattle.chart.proofs.rule.no_basic.Lts as lts
-use Rattle.chart.proofs.rule.no_basic_child.Reads as no-basic-child-reads
 
 abbrev Inv-loop : tie.InvT-loop
 Inv-loop rest counts s₀ s = Tested noBasicChild rest counts s
@@ -17,32 +13,25 @@ Inv-loop rest counts s₀ s = Tested noBasicChild rest counts s
 abbrev μ-loop : tie.MeasureT-loop
 μ-loop rest counts s₀ s = counts .states - s
 
--- src/rule.rt:111:5
 loop-holds : tie.Need-loop-holds Inv-loop μ-loop
 loop-holds c = tested-none noBasicChild _ _
 
--- src/rule.rt:112:13
 no-basic-child-requires : tie.Need-no-basic-child-requires Inv-loop μ-loop
 no-basic-child-requires c κs = search needs
 
--- src/rule.rt:113:13
 returns : tie.Need-returns Inv-loop μ-loop
 unfolding noBasic
 returns c = tested-stop noBasicChild _ _ (c .before .before .before .before .loop .inv) (c .before .before .if1 .taken) (c .before .no-basic-child .ensures) (not-true _ (c .if2 .taken))
 
--- src/rule.rt:115:9
 add-s : tie.Need-add-s Inv-loop μ-loop
 add-s c = omega arith
 
--- src/rule.rt:111:5
 loop-less : tie.Need-loop-less Inv-loop μ-loop
 loop-less c = omega arith
 
--- src/rule.rt:111:5
 loop-again : tie.Need-loop-again Inv-loop μ-loop
 loop-again c = tested-more noBasicChild _ _ (c .before .before .before .before .loop .inv) (c .before .before .if1 .taken) (c .before .no-basic-child .ensures) (not-false _ (c .if2 .left))
 
--- src/rule.rt:107:1
 returns-2 : tie.Need-returns-2 Inv-loop μ-loop
 unfolding noBasic
 returns-2 c = tested-all noBasicChild _ _ (c .before .before .loop .inv) (c .if1 .left)

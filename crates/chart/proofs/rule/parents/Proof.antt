@@ -1,15 +1,11 @@
-use mathlib.Core.Path.{_≡_, refl, sym, ap, _∙_, subst}
-use borrow.Author.Tests.{eq-eqb, ne-eqb, not-true, not-false}
+use borrow.Author.Tests.{not-true, not-false}
 use native.Mathlib.Omega.{arith}
 use borrow.Author.Needs.{needs}
-use Prim.Native.Nat.{_-_, _≤_}
+use Prim.Native.Nat.{_-_}
 use Rattle.chart.specs.Rules.{parents, placed}
 use Rattle.chart.proofs.Checks.{Tested, tested-none, tested-more, tested-stop, tested-all}
 use Rattle.chart.proofs.rule.parents.Statement.{statement}
 use Rattle.chart.proofs.rule.parents.Tie as tie
-use Rattle.chart.proofs.rule.parents.Reads as reads
-use Rattle.chart.proofs.rule.parents.Lts as lts
-use Rattle.chart.proofs.rule.is_placed.Reads as is-placed-reads
 
 abbrev Inv-loop : tie.InvT-loop
 Inv-loop rest counts s₀ s = Tested placed rest counts s
@@ -17,32 +13,25 @@ Inv-loop rest counts s₀ s = Tested placed rest counts s
 abbrev μ-loop : tie.MeasureT-loop
 μ-loop rest counts s₀ s = counts .states - s
 
--- src/rule.rt:64:5
 loop-holds : tie.Need-loop-holds Inv-loop μ-loop
 loop-holds c = tested-none placed _ _
 
--- src/rule.rt:65:13
 is-placed-requires : tie.Need-is-placed-requires Inv-loop μ-loop
 is-placed-requires c κs = search needs
 
--- src/rule.rt:66:13
 returns : tie.Need-returns Inv-loop μ-loop
 unfolding parents
 returns c = tested-stop placed _ _ (c .before .before .before .before .loop .inv) (c .before .before .if1 .taken) (c .before .is-placed .ensures) (not-true _ (c .if2 .taken))
 
--- src/rule.rt:68:9
 add-s : tie.Need-add-s Inv-loop μ-loop
 add-s c = omega arith
 
--- src/rule.rt:64:5
 loop-less : tie.Need-loop-less Inv-loop μ-loop
 loop-less c = omega arith
 
--- src/rule.rt:64:5
 loop-again : tie.Need-loop-again Inv-loop μ-loop
 loop-again c = tested-more placed _ _ (c .before .before .before .before .loop .inv) (c .before .before .if1 .taken) (c .before .is-placed .ensures) (not-false _ (c .if2 .left))
 
--- src/rule.rt:60:1
 returns-2 : tie.Need-returns-2 Inv-loop μ-loop
 unfolding parents
 returns-2 c = tested-all placed _ _ (c .before .before .loop .inv) (c .if1 .left)

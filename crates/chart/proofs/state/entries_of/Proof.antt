@@ -1,31 +1,22 @@
-use mathlib.Core.Path.{_≡_, sym, ap, _∙_}
+use mathlib.Core.Path.{sym, ap}
 use Rattle.chart.specs.Chart.{State}
 use Rattle.chart.proofs.States.{unknown, entries-here}
 use borrow.Author.Needs.{needs}
 use Rattle.chart.proofs.state.entries_of.Statement.{statement}
 use Rattle.chart.proofs.state.entries_of.Tie as tie
-use Rattle.chart.proofs.state.entries_of.Reads as reads
-use Rattle.chart.proofs.state.entries_of.Lts as lts
-use Rattle.chart.proofs.state.state_place.Reads as state-place-reads
-use Rattle.expr.proofs.field.short_at.Reads as short-at-reads
 
--- src/state.rt:116:9
 returns : tie.Need-returns
 returns c = λ k S. sym (ap (λ (x : State). x .entries) (unknown S _ (c .if1 .taken)))
 
--- src/state.rt:118:33
 state-place-requires : tie.Need-state-place-requires
 state-place-requires c κs = search needs
 
--- src/state.rt:118:33
 add-short-at : tie.Need-add-short-at
 add-short-at c = search needs
 
--- src/state.rt:118:5
 short-at-requires : tie.Need-short-at-requires
 short-at-requires c κs = search needs
 
--- src/state.rt:112:1
 returns-2 : tie.Need-returns-2
 returns-2 c = λ k S. c .short-at .ensures _ _ (entries-here S _ (c .before .before .if1 .left) _ (c .before .state-place .ensures .0))
 

@@ -1,31 +1,22 @@
-use mathlib.Core.Path.{_≡_, sym, ap, _∙_}
+use mathlib.Core.Path.{sym, ap, _∙_}
 use Rattle.chart.specs.Chart.{State}
 use Rattle.chart.proofs.States.{unknown, parent-here}
 use borrow.Author.Needs.{needs}
 use Rattle.chart.proofs.state.parent_of.Statement.{statement}
 use Rattle.chart.proofs.state.parent_of.Tie as tie
-use Rattle.chart.proofs.state.parent_of.Reads as reads
-use Rattle.chart.proofs.state.parent_of.Lts as lts
-use Rattle.chart.proofs.state.state_place.Reads as state-place-reads
-use Rattle.expr.proofs.field.byte_at.Reads as byte-at-reads
 
--- src/state.rt:98:9
 returns : tie.Need-returns
 returns c = λ k S. sym (ap (λ (x : State). x .parent) (unknown S _ (c .if1 .taken)))
 
--- src/state.rt:100:32
 state-place-requires : tie.Need-state-place-requires
 state-place-requires c κs = search needs
 
--- src/state.rt:100:32
 add-byte-at : tie.Need-add-byte-at
 add-byte-at c = search needs
 
--- src/state.rt:100:5
 byte-at-requires : tie.Need-byte-at-requires
 byte-at-requires c κs = search needs
 
--- src/state.rt:94:1
 returns-2 : tie.Need-returns-2
 returns-2 c = λ k S. c .byte-at .ensures ∙ parent-here S _ (c .before .before .if1 .left) _ (c .before .state-place .ensures .0)
 

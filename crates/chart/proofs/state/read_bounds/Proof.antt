@@ -1,7 +1,7 @@
-use mathlib.Core.Path.{_≡_, sym, ap, _∙_}
+use mathlib.Core.Path.{sym, ap, _∙_}
 use native.Mathlib.Omega.{arith}
 use borrow.Author.Needs.{needs}
-use Prim.Native.Nat.{_-_, _≤_}
+use Prim.Native.Nat.{_-_}
 use Rattle.expr.specs.Reading.{byte4, such, skipped}
 use Rattle.expr.specs.Clocks.{isBound}
 use Rattle.expr.specs.Places.{onward, wordOf, wordFault}
@@ -10,10 +10,6 @@ use Rattle.expr.proofs.Reading.{mapped-got, mapped-fault}
 use Rattle.expr.proofs.Skips.{Skipping, skipping-none, skipping-more, skipping-stop, skipping-all, skipped-row}
 use Rattle.chart.proofs.state.read_bounds.Statement.{statement}
 use Rattle.chart.proofs.state.read_bounds.Tie as tie
-use Rattle.chart.proofs.state.read_bounds.Reads as reads
-use Rattle.chart.proofs.state.read_bounds.Lts as lts
-use Rattle.expr.proofs.clock.read_bound.Reads as read-bound-reads
-use Rattle.expr.proofs.field.word_fault.Reads as word-fault-reads
 
 abbrev Inv-loop : tie.InvT-loop
 Inv-loop s at clocks place₀ i₀ place i = Skipping (such byte4 isBound) clocks (onward s at) (onward s place) i
@@ -21,48 +17,38 @@ Inv-loop s at clocks place₀ i₀ place i = Skipping (such byte4 isBound) clock
 abbrev μ-loop : tie.MeasureT-loop
 μ-loop s at clocks place₀ i₀ place i = clocks - i
 
--- src/state.rt:20:5
 loop-holds : tie.Need-loop-holds Inv-loop μ-loop
 loop-holds c = skipping-none _ _ _
 
--- src/state.rt:21:13
 read-bound-requires : tie.Need-read-bound-requires Inv-loop μ-loop
 read-bound-requires c κs = search needs
 
--- src/state.rt:22:32
 enum-known-w : tie.Need-enum-known-w Inv-loop μ-loop
 enum-known-w c = search needs
 
--- src/state.rt:23:35
 enum-told : tie.Need-enum-told Inv-loop μ-loop
 enum-told c = search needs
 
--- src/state.rt:23:35
 word-fault-requires : tie.Need-word-fault-requires Inv-loop μ-loop
 word-fault-requires c κs = search needs
 
--- src/state.rt:23:13
 returns : tie.Need-returns Inv-loop μ-loop
 unfolding skipped
 returns c = let l = c .before .before .before in
     rw (c .word-fault .ensures ∙ ap wordFault (c .before .enum-told .given .1))
     (sym (skipped-row _ _ ∙ skipping-stop _ _ _ (l .before .before .loop .inv) (l .before .loop-test .taken) (mapped-fault _ (answered (wordOf _) (l .read-bound .ensures) (c .before .enum-told .given .1)))))
 
--- src/state.rt:26:9
 add-i : tie.Need-add-i Inv-loop μ-loop
 add-i c = omega arith
 
--- src/state.rt:20:5
 loop-less : tie.Need-loop-less Inv-loop μ-loop
 loop-less c = omega arith
 
--- src/state.rt:20:5
 loop-again : tie.Need-loop-again Inv-loop μ-loop
 unfolding skipped
 loop-again c = let l = c .before .before .before in
     skipping-more _ _ _ (l .before .before .loop .inv) (l .before .loop-test .taken) (mapped-got _ (answered (wordOf _) (l .read-bound .ensures) (c .before .w .given .1)))
 
--- src/state.rt:15:1
 returns-2 : tie.Need-returns-2 Inv-loop μ-loop
 returns-2 c = sym (skipped-row _ _ ∙ skipping-all _ _ _ (c .before .loop .inv) (c .loop-test .left))
 

@@ -1,4 +1,4 @@
-use mathlib.Core.Path.{_≡_, sym, ap, _∙_}
+use mathlib.Core.Path.{sym, ap, _∙_}
 use Rattle.expr.specs.Reading.{skipped}
 use Rattle.expr.specs.Places.{byteOf, byteFault, shortOf, shortFault}
 use Rattle.expr.proofs.Places.{bind-got, bind-fault, answered}
@@ -7,78 +7,54 @@ use Rattle.chart.specs.Chart.{state}
 use borrow.Author.Needs.{needs}
 use Rattle.chart.proofs.state.read_state.Statement.{statement}
 use Rattle.chart.proofs.state.read_state.Tie as tie
-use Rattle.chart.proofs.state.read_state.Reads as reads
-use Rattle.chart.proofs.state.read_state.Lts as lts
-use Rattle.chart.proofs.state.read_bounds.Reads as read-bounds-reads
-use Rattle.expr.proofs.field.byte_fault.Reads as byte-fault-reads
-use Rattle.expr.proofs.field.read_byte.Reads as read-byte-reads
-use Rattle.expr.proofs.field.read_byte_below.Reads as read-byte-below-reads
-use Rattle.expr.proofs.field.read_long_marks.Reads as read-long-marks-reads
-use Rattle.expr.proofs.field.read_marks.Reads as read-marks-reads
-use Rattle.expr.proofs.field.short_fault.Reads as short-fault-reads
 
--- src/state.rt:35:9
 read-byte-requires : tie.Need-read-byte-requires
 read-byte-requires c κs = search needs
 
--- src/state.rt:36:28
 enum-known-p : tie.Need-enum-known-p
 enum-known-p c = search needs
 
--- src/state.rt:37:31
 enum-told : tie.Need-enum-told
 enum-told c = search needs
 
--- src/state.rt:37:31
 byte-fault-requires : tie.Need-byte-fault-requires
 byte-fault-requires c κs = search needs
 
--- src/state.rt:37:9
 returns : tie.Need-returns
 unfolding state skipped
 returns c = rw (c .byte-fault .ensures ∙ ap byteFault (c .before .enum-told .given .1))
     (sym (mapped-fault _ (bind-fault _ _ _ (answered (byteOf _) (c .before .before .before .read-byte .ensures .0) (c .before .enum-told .given .1)))))
 
--- src/state.rt:39:9
 read-byte-below-requires : tie.Need-read-byte-below-requires
 read-byte-below-requires c κs = search needs
 
--- src/state.rt:40:28
 enum-known-k : tie.Need-enum-known-k
 enum-known-k c = search needs
 
--- src/state.rt:41:31
 enum-told-2 : tie.Need-enum-told-2
 enum-told-2 c = search needs
 
--- src/state.rt:41:31
 byte-fault-requires-2 : tie.Need-byte-fault-requires-2
 byte-fault-requires-2 c κs = search needs
 
--- src/state.rt:41:9
 returns-2 : tie.Need-returns-2
 unfolding state skipped
 returns-2 c = rw (c .byte-fault2 .ensures ∙ ap byteFault (c .before .enum-told2 .given .1))
     (sym (mapped-fault _ (bind-got _ _ _ (answered (byteOf _) (c .before .before .before .before .before .before .before .read-byte .ensures .0) (c .before .before .before .before .before .p .given .1))
     ∙ bind-fault _ _ _ (answered (byteOf _) (c .before .before .before .read-byte-below .ensures) (c .before .enum-told2 .given .1)))))
 
--- src/state.rt:43:9
 read-long-marks-requires : tie.Need-read-long-marks-requires
 read-long-marks-requires c κs = search needs
 
--- src/state.rt:44:29
 enum-known-i : tie.Need-enum-known-i
 enum-known-i c = search needs
 
--- src/state.rt:45:31
 enum-told-3 : tie.Need-enum-told-3
 enum-told-3 c = search needs
 
--- src/state.rt:45:31
 short-fault-requires : tie.Need-short-fault-requires
 short-fault-requires c κs = search needs
 
--- src/state.rt:45:9
 returns-3 : tie.Need-returns-3
 unfolding state skipped
 returns-3 c = rw (c .short-fault .ensures ∙ ap shortFault (c .before .enum-told3 .given .1))
@@ -86,23 +62,18 @@ returns-3 c = rw (c .short-fault .ensures ∙ ap shortFault (c .before .enum-tol
     ∙ bind-got _ _ _ (answered (byteOf _) (c .before .before .before .before .before .before .before .read-byte-below .ensures) (c .before .before .before .before .before .k .given .1))
     ∙ bind-fault _ _ _ (answered (shortOf _) (c .before .before .before .read-long-marks .ensures) (c .before .enum-told3 .given .1)))))
 
--- src/state.rt:47:9
 read-marks-requires : tie.Need-read-marks-requires
 read-marks-requires c κs = search needs
 
--- src/state.rt:48:28
 enum-known-o : tie.Need-enum-known-o
 enum-known-o c = search needs
 
--- src/state.rt:49:31
 enum-told-4 : tie.Need-enum-told-4
 enum-told-4 c = search needs
 
--- src/state.rt:49:31
 byte-fault-requires-3 : tie.Need-byte-fault-requires-3
 byte-fault-requires-3 c κs = search needs
 
--- src/state.rt:49:9
 returns-4 : tie.Need-returns-4
 unfolding state skipped
 returns-4 c = rw (c .byte-fault3 .ensures ∙ ap byteFault (c .before .enum-told4 .given .1))
@@ -111,11 +82,9 @@ returns-4 c = rw (c .byte-fault3 .ensures ∙ ap byteFault (c .before .enum-told
     ∙ bind-got _ _ _ (answered (shortOf _) (c .before .before .before .before .before .before .before .read-long-marks .ensures) (c .before .before .before .before .before .i .given .1))
     ∙ bind-fault _ _ _ (answered (byteOf _) (c .before .before .before .read-marks .ensures) (c .before .enum-told4 .given .1)))))
 
--- src/state.rt:51:5
 read-bounds-requires : tie.Need-read-bounds-requires
 read-bounds-requires c κs = search needs
 
--- src/state.rt:32:1
 returns-5 : tie.Need-returns-5
 unfolding state skipped
 returns-5 c = c .read-bounds .ensures

@@ -1,7 +1,7 @@
-use mathlib.Core.Path.{_≡_, sym, ap, _∙_}
+use mathlib.Core.Path.{sym}
 use native.Mathlib.Omega.{arith}
 use borrow.Author.Needs.{needs}
-use Prim.Native.Nat.{_-_, _≤_}
+use Prim.Native.Nat.{_-_}
 use Rattle.expr.specs.Reading.{byte, recorded}
 use Rattle.expr.specs.Places.{onward, reached}
 use Rattle.expr.proofs.Places.{answered}
@@ -9,9 +9,6 @@ use Rattle.chart.specs.Chart.{state}
 use Rattle.expr.proofs.Skips.{Skipping, skipping-none, skipping-more, skipping-stop, skipping-all}
 use Rattle.chart.proofs.state.read_states.Statement.{statement}
 use Rattle.chart.proofs.state.read_states.Tie as tie
-use Rattle.chart.proofs.state.read_states.Reads as reads
-use Rattle.chart.proofs.state.read_states.Lts as lts
-use Rattle.chart.proofs.state.state_at.Reads as state-at-reads
 
 abbrev Inv-loop : tie.InvT-loop
 Inv-loop s at counts place₀ i₀ place i = Skipping (recorded byte (state (counts .clocks) (counts .entries) (counts .exits))) (counts .states) (onward s at) (onward s place) i
@@ -19,42 +16,33 @@ Inv-loop s at counts place₀ i₀ place i = Skipping (recorded byte (state (cou
 abbrev μ-loop : tie.MeasureT-loop
 μ-loop s at counts place₀ i₀ place i = counts .states - i
 
--- src/state.rt:72:5
 loop-holds : tie.Need-loop-holds Inv-loop μ-loop
 loop-holds c = skipping-none _ _ _
 
--- src/state.rt:73:13
 state-at-requires : tie.Need-state-at-requires Inv-loop μ-loop
 state-at-requires c κs = search needs
 
--- src/state.rt:74:25
 enum-known-q : tie.Need-enum-known-q Inv-loop μ-loop
 enum-known-q c = search needs
 
--- src/state.rt:75:13
 enum-told : tie.Need-enum-told Inv-loop μ-loop
 enum-told c = search needs
 
--- src/state.rt:75:13
 returns : tie.Need-returns Inv-loop μ-loop
 returns c = let l = c .before .before in
     rw (c .enum-told .given .1)
     (sym (skipping-stop _ _ _ (l .before .before .before .loop .inv) (l .before .if1 .taken) (answered (reached _ tt) (l .state-at .ensures) (c .enum-told .given .1))))
 
--- src/state.rt:78:9
 add-i : tie.Need-add-i Inv-loop μ-loop
 add-i c = omega arith
 
--- src/state.rt:72:5
 loop-less : tie.Need-loop-less Inv-loop μ-loop
 loop-less c = omega arith
 
--- src/state.rt:72:5
 loop-again : tie.Need-loop-again Inv-loop μ-loop
 loop-again c = let l = c .before .before .before in
     skipping-more _ _ _ (l .before .before .before .loop .inv) (l .before .if1 .taken) (answered (reached _ tt) (l .state-at .ensures) (c .before .q .given .1))
 
--- src/state.rt:67:1
 returns-2 : tie.Need-returns-2 Inv-loop μ-loop
 returns-2 c = sym (skipping-all _ _ _ (c .before .before .loop .inv) (c .if1 .left))
 

@@ -1,4 +1,4 @@
-use mathlib.Core.Path.{_≡_, sym, ap, _∙_}
+use mathlib.Core.Path.{sym, ap, _∙_}
 use native.Mathlib.Omega.{arith}
 use Prim.Native.Nat.{_≤_}
 use lib.ListN.{length}
@@ -10,63 +10,45 @@ use Rattle.expr.proofs.Skips.{skipped-recorded}
 use borrow.Author.Needs.{needs}
 use Rattle.chart.proofs.state.state_at.Statement.{statement}
 use Rattle.chart.proofs.state.state_at.Tie as tie
-use Rattle.chart.proofs.state.state_at.Reads as reads
-use Rattle.chart.proofs.state.state_at.Lts as lts
-use Rattle.chart.proofs.state.read_state.Reads as read-state-reads
-use Rattle.expr.proofs.field.frame_fault.Reads as frame-fault-reads
-use Rattle.expr.proofs.field.read_frame.Reads as read-frame-reads
-use Rattle.expr.proofs.field.whole.Reads as whole-reads
 
 fits : (c : tie.After-known-told) → (c .before .p .given .0 .0 ≤ c .before .p .given .0 .1 .0) × (c .before .p .given .0 .1 .0 ≤ length (c .before .before .before .before .before .args .s .now))
 fits c = frame-fits _ (c .before .before .before .read-frame .ensures .1) (c .before .p .given .1)
 
--- src/state.rt:58:9
 read-frame-requires : tie.Need-read-frame-requires
 read-frame-requires c κs = search needs
 
--- src/state.rt:59:21
 enum-known-p : tie.Need-enum-known-p
 enum-known-p c = search needs
 
--- src/state.rt:60:31
 enum-told : tie.Need-enum-told
 enum-told c = search needs
 
--- src/state.rt:60:31
 frame-fault-requires : tie.Need-frame-fault-requires
 frame-fault-requires c κs = search needs
 
--- src/state.rt:60:9
 returns : tie.Need-returns
 unfolding skipped
 returns c = rw (c .frame-fault .ensures ∙ ap frameFault (c .before .enum-told .given .1))
     (sym (mapped-fault _ (recorded-fault _ _ _ (answered (frameOf _) (c .before .before .before .read-frame .ensures .0) (c .before .enum-told .given .1)))))
 
--- src/state.rt:62:24
 sub-read-state : tie.Need-sub-read-state
 sub-read-state c = fits c .0
 
--- src/state.rt:62:24
 part-read-state-start : tie.Need-part-read-state-start
 part-read-state-start c = omega (arith, fits c)
 
--- src/state.rt:62:24
 part-read-state-end : tie.Need-part-read-state-end
 part-read-state-end c = omega (arith, fits c)
 
--- src/state.rt:62:9
 read-state-requires : tie.Need-read-state-requires
 read-state-requires c κs = search needs
 
--- src/state.rt:63:27
 sub-whole : tie.Need-sub-whole
 sub-whole c = fits (c .before .before) .0
 
--- src/state.rt:63:5
 whole-requires : tie.Need-whole-requires
 whole-requires c κs = search needs
 
--- src/state.rt:55:1
 returns-2 : tie.Need-returns-2
 returns-2 c = let l = c .before .read-state in
     let k = fits (c .before .before .before) in
