@@ -1,12 +1,11 @@
 -- Readers that take a fixed number of bytes: what they leave, and where the parts of a record stand.
-use mathlib.Core.Path.{_≡_, refl, sym, ap, _∙_}
+use mathlib.Core.Path.{_≡_, sym, ap, _∙_}
 use mathlib.Core.Bool.{Bool, true, false, cond}
 use mathlib.Core.List.{List, [], _∷_, _++_}
 use Prim.Native.Nat.{ℕ, zero, suc, _+_, _*_}
 use native.Mathlib.Omega.{arith}
 use native.Mathlib.Nat.{zero-mul, suc-mul}
-use borrow.Author.Tests.{eqb-true}
-use lib.Dec.{leb, eqb}
+use lib.Dec.{leb}
 use lib.ListN.{length, getD, take, drop, take-append-drop}
 use Rattle.expr.specs.Reading.{Fault, got, fault, Reader, yield, _>>=_, field, byte, byte2, byte4, such, many, end, framed, whole, recorded}
 use Rattle.expr.specs.Clocks.{row, isBound}
@@ -16,6 +15,7 @@ use Rattle.expr.specs.declared.field.Reached.the-variants as Rd
 use Rattle.expr.proofs.Reading.{no-answer, got-value, next-at, bind-at, yield-rest, such-at}
 use Rattle.expr.proofs.Places.{onward-all, onward-onward, getD-here}
 use Rattle.expr.proofs.InFront.{InFront, field-at, yield-front, bind-front, such-front, many-front, byte4-front}
+use Rattle.expr.proofs.Lengths.{end-at}
 use Rattle.expr.proofs.Rows.{bounds}
 
 -- what follows a value that is read stands so many bytes on
@@ -80,25 +80,22 @@ pub row-front : (n : ℕ) → InFront (row n)
 unfolding row
 row-front n = bind-front (bounds n) _ (many-front n _ (such-front byte4 isBound byte4-front)) (λ bs. yield-front _)
 
--- a record's bytes, where they stand in the file: the content is read after the length
-pub recorded-front : {A : Type 0} (size : Reader ℕ) (r : Reader A) → InFront r → (s : List ℕ) {a : A} {t : List ℕ} → recorded size r s ≡ got a t → (n : ℕ) × (u : List ℕ) × (size s ≡ got n u) × (r u ≡ got a t)
-unfolding recorded framed whole end
-recorded-front {A} size r f s {a} {t} h =
+-- a record's content, where it stands in the file: it is read after the length
+pub recorded-inside : {A : Type 0} (size : Reader ℕ) (r : Reader A) → InFront r → (s : List ℕ) {a : A} {t : List ℕ} → recorded size r s ≡ got a t → (n : ℕ) × (u : List ℕ) × (size s ≡ got n u) × (r u ≡ got a t)
+unfolding recorded framed whole
+recorded-inside {A} size r f s {a} {t} h =
     let w = bind-at (framed size) _ s h in
     let z = bind-at size _ s (w .2) in
     let x = next-at (r (w .0)) _ (w .3) in
     let e = next-at (end (x .1)) _ (x .3) in
-    let p = part (z .0) (z .1) (leb (z .0) (length (z .1))) refl (z .3) in
-    (z .0, z .1, z .2, joined (z .0) (z .1) (w .0) (w .1) (x .0) (x .1) (p .0) (p .1) (x .2) (none (x .1) (eqb (length (x .1)) 0) refl (e .2)) (e .3))
+    let p = part (z .0) (z .1) (leb (z .0) (length (z .1))) (z .3) in
+    (z .0, z .1, z .2, joined (z .0) (z .1) (w .0) (w .1) (x .0) (x .1) (p .0) (p .1) (x .2) (end-at (x .1) (e .2)) (e .3))
   where
-    part : {p v : List ℕ} (n : ℕ) (u : List ℕ) (b : Bool) → leb n (length u) ≡ b → cond b (got (take n u) (drop n u)) (fault Fault.length-fault) ≡ got p v → (p ≡ take n u) × (v ≡ drop n u)
-    part n u true e k = (cc, cc)
-    part n u false e k = no-answer k
-
-    none : {x : Unit {0}} {y : List ℕ} (v : List ℕ) (b : Bool) → eqb (length v) 0 ≡ b → cond b (got tt v) (fault Fault.length-fault) ≡ got x y → v ≡ []
-    none [] b e k = refl
-    none (x ∷ v) true e k = absurd (omega (arith, eqb-true (length (x ∷ v)) 0 e))
-    none (x ∷ v) false e k = no-answer k
+    part : {p v : List ℕ} (n : ℕ) (u : List ℕ) (b : Bool) → cond b (got (take n u) (drop n u)) (fault Fault.length-fault) ≡ got p v → (p ≡ take n u) × (v ≡ drop n u)
+    part n u true k = (cc, cc)
+    part n u false k = no-answer k
 
     joined : (n : ℕ) (u p v : List ℕ) (b : A) (q : List ℕ) → p ≡ take n u → v ≡ drop n u → r p ≡ got b q → q ≡ [] → got b v ≡ got a t → r u ≡ got a t
-    joined n u p v b q e g k o l = ap r (sym (take-append-drop n u)) ∙ ap (λ (m : List ℕ). r (m ++ drop n u)) (sym e) ∙ f .alike p (drop n u) k ∙ ap (λ (m : List ℕ). got b (m ++ drop n u)) o ∙ ap (got b) (sym g) ∙ l
+    joined n u p v b q e g k o l =
+        ap r (sym (take-append-drop n u)) ∙ ap (λ (m : List ℕ). r (m ++ drop n u)) (sym e) ∙ f .alike p (drop n u) k
+        ∙ ap (λ (m : List ℕ). got b (m ++ drop n u)) o ∙ ap (got b) (sym g) ∙ l

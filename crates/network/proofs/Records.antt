@@ -17,7 +17,7 @@ use Rattle.expr.proofs.Answer.{unless-at, refused-not}
 use Rattle.expr.proofs.Places.{onward-all, onward-onward}
 use Rattle.expr.proofs.Reading.{bind-at, then-at, yield-at, yield-rest, such-at, many-at}
 use Rattle.expr.proofs.InFront.{InFront, bind-front, yield-front, such-front, byte-front}
-use Rattle.expr.proofs.Sizes.{Takes, byte-takes, row-takes, row-front, recorded-front, onto, byte-value}
+use Rattle.expr.proofs.Sizes.{Takes, byte-takes, row-takes, row-front, recorded-inside, onto, byte-value}
 use Rattle.expr.proofs.Many.{many-nth}
 use Rattle.network.specs.Network.{Location, Network, location, records, numbered, countsOf, readNetwork, networkOf, sound, locationAt, zeroLocation, inRange}
 use Rattle.network.specs.Layout.{locationSize, locationPlace, Located}
@@ -61,7 +61,7 @@ module _ (automata clocks : ℕ) where
   -- a record is as long as locationSize says
   pub record-takes : Takes (recorded byte (location automata clocks)) (locationSize clocks)
   record-takes s l t h =
-      let w = recorded-front byte _ location-front s h in
+      let w = recorded-inside byte _ location-front s h in
       location-takes (w .1) l t (w .3) ∙ ap (λ (b : List ℕ). onward b (3 + 4 * clocks)) (byte-takes s (w .0) (w .1) (w .2)) ∙ onward-onward s 1 (3 + 4 * clocks) ∙ ap (onward s) (omega arith)
 
 -- where the locations are read, they stand at their places
@@ -125,7 +125,7 @@ module _ {rest : List ℕ} {k : Counts} {n : Network} (L : Located rest k n) whe
     module _ (h : i < k .locations) where
       there : Fields (k .clocks) rest (locationPlace (k .clocks) i + 1) (locationAt n i) (onward rest (locationPlace (k .clocks) i + locationSize (k .clocks)))
       there =
-          let w = recorded-front byte _ (location-front (k .automata) (k .clocks)) (onward rest (locationPlace (k .clocks) i)) (L .here i h) in
+          let w = recorded-inside byte _ (location-front (k .automata) (k .clocks)) (onward rest (locationPlace (k .clocks) i)) (L .here i h) in
           let e : w .1 ≡ onward rest (locationPlace (k .clocks) i + 1) = byte-takes _ (w .0) (w .1) (w .2) ∙ onward-onward rest (locationPlace (k .clocks) i) 1 in
           fields (k .automata) (k .clocks) rest _ (locationAt n i) _ (ap (location (k .automata) (k .clocks)) (sym e) ∙ w .3)
 
