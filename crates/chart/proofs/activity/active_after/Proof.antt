@@ -1,9 +1,10 @@
 use lib.ListN.{length}
 use Prim.Native.Nat.{_-_}
-use Rattle.chart.proofs.Tables.{someEntered, count-is, after-is}
+use Rattle.chart.proofs.Entries.{someEntered, count-is}
+use Rattle.chart.proofs.Activities.{after-is}
 use Rattle.chart.specs.Table.{adding}
 use native.Mathlib.Omega.{arith}
-use mathlib.Core.Path.{_≡_, refl, sym, ap, _∙_}
+use mathlib.Core.Path.{_≡_, ap, _∙_}
 use borrow.Author.Needs.{needs}
 use Rattle.chart.proofs.activity.active_after.Statement.{statement}
 use Rattle.chart.proofs.activity.active_after.Tie as tie

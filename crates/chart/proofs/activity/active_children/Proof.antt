@@ -1,4 +1,5 @@
-use Rattle.chart.proofs.Tables.{activeChild, active-child, children-first, below-next, below-end}
+use Rattle.chart.proofs.Tables.{below-next, below-end}
+use Rattle.chart.proofs.Activities.{activeChild, active-child, children-first}
 use Rattle.chart.specs.declared.configuration.Configuration.{Configuration}
 use Rattle.chart.specs.Table.{Rooted}
 use Rattle.chart.specs.Machine.{isActive}
@@ -11,7 +12,7 @@ use borrow.Author.Needs.{needs}
 use native.Mathlib.Omega.{arith}
 use Prim.Native.Nat.{_+_, _-_, _<_}
 use mathlib.Core.Logic.{⊎-elim}
-use mathlib.Core.Path.{_≡_, refl, sym, ap, _∙_}
+use mathlib.Core.Path.{_≡_, _∙_}
 use Rattle.chart.proofs.activity.active_children.Statement.{statement}
 use Rattle.chart.proofs.activity.active_children.Tie as tie
 

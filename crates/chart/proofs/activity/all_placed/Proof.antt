@@ -1,6 +1,5 @@
-use mathlib.Core.Bool.{Bool}
-use Rattle.chart.proofs.Tables.{never}
-use Rattle.chart.proofs.Tables.{below-next, below-end}
+use mathlib.Core.Bool.{Bool, _&&_}
+use Rattle.chart.proofs.Tables.{never, below-next, below-end}
 use Rattle.chart.specs.declared.configuration.Configuration.{Configuration}
 use Rattle.chart.specs.Table.{Shown, linked, single}
 use Rattle.chart.specs.Chart.{Chart}
@@ -11,8 +10,7 @@ use lib.ListN.{length, drop}
 use borrow.Author.Tests.{not-true, not-false}
 use borrow.Author.Needs.{needs}
 use native.Mathlib.Omega.{arith}
-use Prim.Native.Nat.{_-_, _<_}
-use mathlib.Core.Bool.{_&&_}
+use Prim.Native.Nat.{_-_}
 use mathlib.Core.Path.{_≡_, refl, sym, ap, _∙_}
 use Rattle.chart.proofs.activity.all_placed.Statement.{statement}
 use Rattle.chart.proofs.activity.all_placed.Tie as tie

@@ -1,4 +1,5 @@
-use Rattle.chart.proofs.Tables.{shown-of, completed-is, below-next, below-end}
+use Rattle.chart.proofs.Tables.{shown-of, below-next, below-end}
+use Rattle.chart.proofs.Activities.{completed-is}
 use Rattle.chart.specs.declared.configuration.Configuration.{Configuration}
 use Rattle.chart.specs.Table.{Column, Shown, exitsBelow}
 use Rattle.chart.specs.Chart.{Chart}
@@ -8,7 +9,7 @@ use lib.ListN.{length, drop}
 use borrow.Author.Tests.{not-true, not-false}
 use borrow.Author.Needs.{needs}
 use native.Mathlib.Omega.{arith}
-use Prim.Native.Nat.{_-_, _<_}
+use Prim.Native.Nat.{_-_}
 use mathlib.Core.Path.{_≡_, refl, sym, ap, _∙_}
 use Rattle.chart.proofs.activity.completed.Statement.{statement}
 use Rattle.chart.proofs.activity.completed.Tie as tie

@@ -1,5 +1,5 @@
 use native.Mathlib.Omega.{arith}
-use Rattle.chart.proofs.Tables.{exits-idle, exits-composite, exits-elsewhere, exits-marked}
+use Rattle.chart.proofs.Activities.{exits-idle, exits-composite, exits-elsewhere, exits-marked}
 use borrow.Author.Tests.{not-true, not-false}
 use mathlib.Core.Path.{sym, _∙_}
 use borrow.Author.Needs.{needs}

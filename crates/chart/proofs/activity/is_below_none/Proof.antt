@@ -7,7 +7,6 @@ use lib.ListN.{length, drop, drop-of-length-le}
 use borrow.Author.Needs.{needs}
 use native.Mathlib.Omega.{arith}
 use Prim.Native.Nat.{_-_, _<_}
-use mathlib.Core.Bool.{not}
 use mathlib.Core.Path.{_≡_, refl, sym, ap, _∙_}
 use Rattle.chart.proofs.activity.is_below_none.Statement.{statement}
 use Rattle.chart.proofs.activity.is_below_none.Tie as tie

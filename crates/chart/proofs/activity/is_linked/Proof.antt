@@ -1,4 +1,4 @@
-use Rattle.chart.proofs.Tables.{linked-root, linked-active, linked-alone, linked-parallel}
+use Rattle.chart.proofs.Activities.{linked-root, linked-active, linked-alone, linked-parallel}
 use borrow.Author.Needs.{needs}
 use Rattle.chart.proofs.activity.is_linked.Statement.{statement}
 use Rattle.chart.proofs.activity.is_linked.Tie as tie

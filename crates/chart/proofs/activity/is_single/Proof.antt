@@ -1,6 +1,5 @@
-use Rattle.chart.proofs.Tables.{single-other, single-idle, single-is}
+use Rattle.chart.proofs.Activities.{single-other, single-idle, single-is}
 use borrow.Author.Tests.{not-true, not-false}
-use mathlib.Core.Path.{sym}
 use borrow.Author.Needs.{needs}
 use Rattle.chart.proofs.activity.is_single.Statement.{statement}
 use Rattle.chart.proofs.activity.is_single.Tie as tie

@@ -1,4 +1,5 @@
-use Rattle.chart.proofs.Tables.{shown-of, tree-rootless, tree-unplaced, tree-rest}
+use Rattle.chart.proofs.Tables.{shown-of}
+use Rattle.chart.proofs.Activities.{tree-rootless, tree-unplaced, tree-rest}
 use borrow.Author.Tests.{not-true, not-false}
 use borrow.Author.Needs.{needs}
 use Rattle.chart.proofs.activity.is_tree.Statement.{statement}

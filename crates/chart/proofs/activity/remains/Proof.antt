@@ -1,5 +1,5 @@
 use native.Mathlib.Omega.{arith}
-use Rattle.chart.proofs.Tables.{remains-past, remains-idle, remains-by}
+use Rattle.chart.proofs.Activities.{remains-past, remains-idle, remains-by}
 use borrow.Author.Tests.{not-true, not-false}
 use borrow.Author.Needs.{needs}
 use Rattle.chart.proofs.activity.remains.Statement.{statement}

@@ -1,4 +1,4 @@
-use mathlib.Core.Path.{_≡_, refl, sym, ap, _∙_}
+use mathlib.Core.Path.{_≡_, sym, _∙_}
 use mathlib.Core.Bool.{true}
 use mathlib.Core.Logic.{⊎-elim}
 use Prim.Native.Nat.{ℕ, _-_, _≤_, _<_}
@@ -6,7 +6,7 @@ use native.Mathlib.Omega.{arith}
 use borrow.Author.Needs.{needs}
 use Rattle.chart.specs.Chart.{Chart, parallel}
 use Rattle.chart.specs.Table.{Enters, adding}
-use Rattle.chart.proofs.Tables.{childrenEnter, opens-marked, opens-every, enters-child, kind-basic, kind-parallel, grown-none, grown-skip, grown-more, grown-leaf, grown-all}
+use Rattle.chart.proofs.Entries.{childrenEnter, opens-marked, opens-every, enters-child, kind-basic, kind-parallel, grown-none, grown-skip, grown-more, grown-leaf, grown-all}
 use borrow.Fn.Kinds.{In}
 use borrow.Fn.PlainCycle.{Measures, is, falls, and}
 use Rattle.chart.proofs.entry.enter_parallel.Reads as enter-parallel

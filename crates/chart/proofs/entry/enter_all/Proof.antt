@@ -1,14 +1,14 @@
-use Rattle.chart.proofs.Tables.{someEntered, entered-first, entered-next, entered-last, count-is}
+use Rattle.chart.proofs.Entries.{someEntered, entered-first, entered-next, entered-last, count-is}
 use Rattle.chart.specs.Table.{Tabled, Moved, adding}
 use Rattle.chart.specs.Rules.{parents, entryMarks}
 use Rattle.chart.specs.Chart.{Chart, Transition}
-use lib.ListN.{length, take}
+use lib.ListN.{take}
 use borrow.Author.Needs.{needs}
 use native.Mathlib.Omega.{arith}
-use Prim.Native.Nat.{_-_, _≤_, _<_, min}
+use Prim.Native.Nat.{_-_}
 use mathlib.Core.List.{List}
 use mathlib.Core.Bool.{true}
-use mathlib.Core.Path.{_≡_, refl, sym, ap, _∙_}
+use mathlib.Core.Path.{_≡_}
 use Rattle.chart.proofs.entry.enter_all.Statement.{statement}
 use Rattle.chart.proofs.entry.enter_all.Tie as tie
 

@@ -1,4 +1,4 @@
-use Rattle.chart.proofs.Tables.{entered-unknown, entered-unmarked, entered-single, enters-of, kind-parallel}
+use Rattle.chart.proofs.Entries.{entered-unknown, entered-unmarked, entered-single, enters-of, kind-parallel}
 use borrow.Author.Tests.{not-true, not-false}
 use native.Mathlib.Omega.{arith}
 use mathlib.Core.Path.{sym, _∙_}
