@@ -19,7 +19,6 @@ use Rattle.chart.specs.Table.{Rooted, Shown, Moved, linked, single, exit
 use Rattle.chart.specs.declared.configuration.Configuration.{Configuration}
 use Rattle.chart.specs.declared.table.Moves.{Moves}
 use Rattle.chart.proofs.Tree.{size, parents-at}
-
 use Rattle.chart.proofs.Tables.{below-next, below-end, adding-passing, parent-at}
 use Rattle.chart.proofs.Entries.{someEntered}
 

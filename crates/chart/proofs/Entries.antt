@@ -23,7 +23,6 @@ use Rattle.chart.specs.declared.table.Tree.{Tree}
 use Rattle.chart.specs.declared.table.Moves.{Moves}
 use Rattle.chart.proofs.Tree.{size, Parents, parents-at, Child, unknown-parent, under-refl, under-down, under-known, under-transitive, under-antisymmetric, comparable, child-under, child-above, child-towards}
 use Rattle.chart.proofs.Entered.{entered-at, entered-by, entered-alone, entry-marks-at}
-
 use Rattle.chart.proofs.Tables.{below-more, length-adding, adding-same, adding-none, adding-more, adding-one, parent-at, rooted-of}
 
 -- entering s by e enters its child k: one that is marked
@@ -114,9 +113,11 @@ module _ (c : Chart) (above kinds marks : List ℕ) (e s : ℕ) (E : Enters c ab
   enters-by y h n f =
       let r = entered-at c s some-entry y f in
       let t = child-towards c tree-of s y h (r .below) n in
-      let k = t .0 in
-      (k, opens-by k (t .1) (r .marks k (child-under c tree-of (t .1)) (t .2)),
-      entered-by c k some-entry y (record { below = t .2; marks = λ p u v. r .marks p (under-transitive c tree-of s k p (under-known c tree-of p y h v) (child-under c tree-of (t .1)) u) v }))
+      let k = t .0 in (
+        k,
+        opens-by k (t .1) (r .marks k (child-under c tree-of (t .1)) (t .2)),
+        entered-by c k some-entry y (record { below = t .2; marks = λ p u v. r .marks p (under-transitive c tree-of s k p (under-known c tree-of p y h v) (child-under c tree-of (t .1)) u) v }),
+      )
 
   enters-all : (x y : ℕ) → size c ≤ x → y < size c → (eqb y s || childrenEnter c e s x y) ≡ entered c s e y
   unfolding childrenEnter

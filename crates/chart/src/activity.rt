@@ -12,15 +12,15 @@ ghost use Rattle.chart.specs.Rules.{parents, entryMarks};
 ghost use Rattle.chart.specs.Machine.{isActive, isTree, completed, activeAfter};
 ghost use Rattle.chart.specs.Table.{Column, Tabled, Rooted, Shown, Moved, linked, single, exitsBelow, belowNone, passing};
 ghost use Rattle.chart.specs.declared.configuration.Configuration.{Configuration};
-use expr::field::byte_at;
-use expr::mark::has;
-use crate::table::Tree;
+use crate::entry::enter_all;
 use crate::table::Moves;
-use crate::table::under;
+use crate::table::Tree;
+use crate::table::at_most_sixteen;
 use crate::table::is_child;
 use crate::table::is_in;
-use crate::table::at_most_sixteen;
-use crate::entry::enter_all;
+use crate::table::under;
+use expr::field::byte_at;
+use expr::mark::has;
 
 // Whether the state's parent is active if it is, and the state if its parent is active and parallel.
 fn is_linked(parents: &[u8], kinds: &[u8], active: &[bool], s: usize) -> bool
@@ -122,7 +122,15 @@ pub fn is_tree(t: Tree, active: [bool; 48]) -> bool
 }
 
 // Whether the state is marked with the exit, if it is active, basic and at or below m.
-fn exits_below(parents: &[u8], kinds: &[u8], exits: &[u8], active: &[bool], m: usize, exit: u8, s: usize) -> bool
+fn exits_below(
+    parents: &[u8],
+    kinds: &[u8],
+    exits: &[u8],
+    active: &[bool],
+    m: usize,
+    exit: u8,
+    s: usize,
+) -> bool
     ensures { λ r. ⌜ ((c : Chart) (σ : Configuration) → Shown c σ (now (parents .entry)) (now (kinds .entry)) (now (active .entry)) → Column (λ x. x .exits) c (now (exits .entry)) → s < length (c .states) → r ≡ exitsBelow c σ m exit s) ⌝ }
 {
     if !is_in(active, s) {

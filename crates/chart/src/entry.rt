@@ -10,13 +10,13 @@ ghost use Rattle.chart.specs.Chart.{Chart, Transition, parallel};
 ghost use Rattle.chart.specs.Tree.{entered};
 ghost use Rattle.chart.specs.Rules.{parents, entryMarks};
 ghost use Rattle.chart.specs.Table.{Tabled, Enters, Moved, adding};
+use crate::table::Moves;
+use crate::table::Tree;
+use crate::table::at_most_sixteen;
+use crate::table::is_child;
+use crate::table::marks_at;
 use expr::field::byte_at;
 use expr::mark::has;
-use crate::table::Tree;
-use crate::table::Moves;
-use crate::table::marks_at;
-use crate::table::is_child;
-use crate::table::at_most_sixteen;
 
 // Whether x, which is not the root, is a child of s that is marked with the entry.
 fn is_marked_child(parents: &[u8], entries: &[u16], entry: u8, s: usize, x: usize) -> bool
@@ -26,7 +26,14 @@ fn is_marked_child(parents: &[u8], entries: &[u16], entry: u8, s: usize, x: usiz
 }
 
 // The set with the states that entering the sequential state s enters: s, and what its marked child enters.
-fn enter_sequential(parents: &[u8], kinds: &[u8], entries: &[u16], entry: u8, s: usize, set: [bool; 48]) -> [bool; 48]
+fn enter_sequential(
+    parents: &[u8],
+    kinds: &[u8],
+    entries: &[u16],
+    entry: u8,
+    s: usize,
+    set: [bool; 48],
+) -> [bool; 48]
     requires { ⌜ s < 48 ⌝ }
     ensures { λ r. ⌜ ((c : Chart) → Enters c (now (parents .entry)) (now (kinds .entry)) (now (entries .entry)) entry s → r ≡ adding 48 c (entered c s entry) set) ⌝ }
 {
@@ -35,7 +42,7 @@ fn enter_sequential(parents: &[u8], kinds: &[u8], entries: &[u16], entry: u8, s:
     let mut x = s + 1;
     while x < Tree::STATES {
         if is_marked_child(parents, entries, entry, s, x) {
-            let kind = byte_at(kinds, x);
+            let kind = byte_at(kinds, x); // of the marked child
             match kind {
                 0 => out[x] = true,
                 2 => out = enter_parallel(parents, kinds, entries, entry, x, out),
@@ -48,7 +55,14 @@ fn enter_sequential(parents: &[u8], kinds: &[u8], entries: &[u16], entry: u8, s:
 }
 
 // The same of a parallel state: s, and what each of its children enters.
-fn enter_parallel(parents: &[u8], kinds: &[u8], entries: &[u16], entry: u8, s: usize, set: [bool; 48]) -> [bool; 48]
+fn enter_parallel(
+    parents: &[u8],
+    kinds: &[u8],
+    entries: &[u16],
+    entry: u8,
+    s: usize,
+    set: [bool; 48],
+) -> [bool; 48]
     requires { ⌜ s < 48 ⌝ }
     ensures { λ r. ⌜ ((c : Chart) → Enters c (now (parents .entry)) (now (kinds .entry)) (now (entries .entry)) entry s → parallel c s ≡ true → r ≡ adding 48 c (entered c s entry) set) ⌝ }
 {
@@ -57,7 +71,7 @@ fn enter_parallel(parents: &[u8], kinds: &[u8], entries: &[u16], entry: u8, s: u
     let mut x = s + 1;
     while x < Tree::STATES {
         if is_child(parents, s, x) {
-            let kind = byte_at(kinds, x);
+            let kind = byte_at(kinds, x); // of each child
             match kind {
                 0 => out[x] = true,
                 2 => out = enter_parallel(parents, kinds, entries, entry, x, out),

@@ -1,5 +1,5 @@
 // The check of charts, and the chart machine.
-pub mod configuration;
-pub mod table;
-pub mod entry;
 pub mod activity;
+pub mod configuration;
+pub mod entry;
+pub mod table;

@@ -38,16 +38,22 @@ loop-less : tie.Need-loop-less Inv-loop μ-loop
 loop-less c = omega arith
 
 loop-again : tie.Need-loop-again Inv-loop μ-loop
-loop-again c = 
+loop-again c =
     let l = c .before .before in
     let i = l .before .loop .inv in
     ⊎-elim
-    (λ w. (omega (arith, w .1, i .0), λ d σ R a e.
-    let h : l .before .loop .s < length (d .states) = omega (arith, e, l .loop-test .taken) in
-    counted-next _ (below-next _ _ h) _ (i .1 d σ R a e) (active-child d σ _ _ R a _ (l .before .loop .s) (omega (arith, i .0)) h (c .before .is-active-child .ensures) ∙ w .0 .taken) (w .1)))
-    (λ w. (omega (arith, w .1, i .0), λ d σ R a e.
-    let h : l .before .loop .s < length (d .states) = omega (arith, e, l .loop-test .taken) in
-    counted-left _ (below-next _ _ h) _ (i .1 d σ R a e) (active-child d σ _ _ R a _ (l .before .loop .s) (omega (arith, i .0)) h (c .before .is-active-child .ensures) ∙ w .0 .left) (w .1)))
+    (λ w. (
+      omega (arith, w .1, i .0),
+      λ d σ R a e.
+          let h : l .before .loop .s < length (d .states) = omega (arith, e, l .loop-test .taken) in
+          counted-next _ (below-next _ _ h) _ (i .1 d σ R a e) (active-child d σ _ _ R a _ (l .before .loop .s) (omega (arith, i .0)) h (c .before .is-active-child .ensures) ∙ w .0 .taken) (w .1),
+    ))
+    (λ w. (
+      omega (arith, w .1, i .0),
+      λ d σ R a e.
+          let h : l .before .loop .s < length (d .states) = omega (arith, e, l .loop-test .taken) in
+          counted-left _ (below-next _ _ h) _ (i .1 d σ R a e) (active-child d σ _ _ R a _ (l .before .loop .s) (omega (arith, i .0)) h (c .before .is-active-child .ensures) ∙ w .0 .left) (w .1),
+    ))
     (c .if1 .came)
 
 returns : tie.Need-returns Inv-loop μ-loop
