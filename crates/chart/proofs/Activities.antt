@@ -19,8 +19,14 @@ use Rattle.chart.specs.Table.{Rooted, Shown, Moved, linked, single, exit
 use Rattle.chart.specs.declared.configuration.Configuration.{Configuration}
 use Rattle.chart.specs.declared.table.Moves.{Moves}
 use Rattle.chart.proofs.Tree.{size, parents-at}
-use Rattle.chart.proofs.Tables.{below-next, below-end, adding-passing, parent-at}
+use Rattle.chart.proofs.Tables.{never, below-next, below-end, adding-passing, parent-at}
 use Rattle.chart.proofs.Entries.{someEntered}
+
+-- what a test that fails implies
+implies-never : (a b : Bool) → implies (a && false) b ≡ true
+unfolding implies
+implies-never true b = refl
+implies-never false b = refl
 
 -- how the active states lie
 module _ (c : Chart) (σ : Configuration) (above kinds : List ℕ) (active : List Bool) (S : Shown c σ above kinds active) where
@@ -63,12 +69,7 @@ module _ (c : Chart) (σ : Configuration) (above kinds : List ℕ) (active : Lis
   single-other q h k z = rw (kind-is q h k, ne-eqb _ 1 z)
 
   pub single-idle : (q : ℕ) {a : Bool} → a ≡ getD active q false → a ≡ false → true ≡ single c σ q
-  unfolding implies
-  single-idle q a t = rw (active-is q (sym t ∙ a)) (sym (go (sequential c q)))
-    where
-      go : (b : Bool) → (not (b && false) || eqb (length (keep (isActive σ) (children c q))) 1) ≡ true
-      go true = refl
-      go false = refl
+  single-idle q a t = rw (active-is q (sym t ∙ a)) (sym (implies-never (sequential c q) _))
 
   pub single-is : (q : ℕ) {k n : ℕ} {a : Bool} → q < size c → k ≡ getD kinds q 0 → k ≡ 1 → a ≡ getD active q false → a ≡ true → n ≡ length (keep (isActive σ) (children c q)) → eqb n 1 ≡ single c σ q
   unfolding implies sequential
@@ -81,21 +82,11 @@ module _ (c : Chart) (σ : Configuration) (above kinds : List ℕ) (active : Lis
     exits-idle a t = rw (active-is s (sym t ∙ a))
 
     pub exits-composite : {k : ℕ} → k ≡ getD kinds s 0 → k ≢ 0 → true ≡ exitsBelow c σ m e s
-    unfolding implies basic
-    exits-composite k z = rw (kind-is s h k, ne-eqb _ 0 z) (sym (go (isActive σ s)))
-      where
-        go : (b : Bool) → (not (b && false) || has (stateAt c s .exits) e) ≡ true
-        go true = refl
-        go false = refl
+    unfolding basic
+    exits-composite k z = rw (kind-is s h k, ne-eqb _ 0 z) (sym (implies-never (isActive σ s) _))
 
     pub exits-elsewhere : under c m s ≡ false → true ≡ exitsBelow c σ m e s
-    unfolding implies
-    exits-elsewhere u = rw u (sym (go (isActive σ s) (basic c s)))
-      where
-        go : (a b : Bool) → (not (a && (b && false)) || has (stateAt c s .exits) e) ≡ true
-        go true true = refl
-        go true false = refl
-        go false b = refl
+    exits-elsewhere u = rw (u, never (basic c s)) (sym (implies-never (isActive σ s) _))
 
     pub exits-marked : {a : Bool} {k x : ℕ} → a ≡ getD active s false → a ≡ true → k ≡ getD kinds s 0 → k ≡ 0 → under c m s ≡ true → x ≡ stateAt c s .exits → has x e ≡ exitsBelow c σ m e s
     unfolding implies basic
@@ -118,12 +109,13 @@ activeChild c σ q s = (not (eqb s 0) && eqb (parentOf c s) q) && isActive σ s
 module _ (c : Chart) (σ : Configuration) (above : List ℕ) (active : List Bool) (R : Rooted c above) (a : σ .active ≡ active) (q : ℕ) where
   pub children-first : 0 + length (keep (activeChild c σ q) (drop 1 (below (size c)))) ≡ length (keep (isActive σ) (children c q))
   unfolding activeChild children states keep
-  children-first = omega (arith, ap length (keep-keep (isActive σ) (λ s. not (eqb s 0) && eqb (parentOf c s) q) (below (size c))), go (size c))
+  children-first = omega (arith, ap length (keep-keep (isActive σ) (λ s. not (eqb s 0) && eqb (parentOf c s) q) (below (size c))), not-root (size c))
     where
-      go : (n : ℕ) → length (keep (λ s. (not (eqb s 0) && eqb (parentOf c s) q) && isActive σ s) (below n)) ≡ length (keep (λ s. (not (eqb s 0) && eqb (parentOf c s) q) && isActive σ s) (drop 1 (below n)))
-      go n = elim (decLt 0 n) [
-        | yes h ↦ ap (λ (l : List ℕ). length (keep (λ s. (not (eqb s 0) && eqb (parentOf c s) q) && isActive σ s) l)) (below-next n 0 h)
-        | no h ↦ ap (λ (l : List ℕ). length (keep (λ s. (not (eqb s 0) && eqb (parentOf c s) q) && isActive σ s) l)) (below-end n 0 (omega arith) ∙ sym (below-end n 1 (omega arith)))
+      -- the root is no child
+      not-root : (n : ℕ) → length (keep (activeChild c σ q) (below n)) ≡ length (keep (activeChild c σ q) (drop 1 (below n)))
+      not-root n = elim (decLt 0 n) [
+        | yes h ↦ ap (λ (l : List ℕ). length (keep (activeChild c σ q) l)) (below-next n 0 h)
+        | no h ↦ ap (λ (l : List ℕ). length (keep (activeChild c σ q) l)) (below-end n 0 (omega arith) ∙ sym (below-end n 1 (omega arith)))
       ]
 
   pub active-child : (s : ℕ) {x : Bool} → 0 < s → s < size c → x ≡ (eqb (getD above s 0) q && getD active s false) → activeChild c σ q s ≡ x

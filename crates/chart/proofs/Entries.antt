@@ -169,6 +169,7 @@ grown-leaf c above kinds marks e s E w fits x first l g o b =
     grown-more c above kinds marks e s E w fits x first l _ g o
     (grown-basic c above kinds marks e x (enters-child c above kinds marks e s E x o) w fits l (ap length g ∙ length-adding w c _ first) b)
 
+-- a destination that is marked with the entry
 pub enters-of : (c : Chart) (t : Tree) → Tabled c t → parents c ≡ true → entryMarks c ≡ true → (d e : ℕ) → e ≢ 255 → d < 48 → d < t .states → has (getD (t .entries) d 0) e ≡ true → Enters c (t .parents) (t .kinds) (t .entries) e d
 enters-of c t T rule5 rule8 d e z h k m = record {
   rooted = rooted-of c t T rule5;
@@ -198,6 +199,7 @@ module _ (c : Chart) (t : Tree) (T : Tabled c t) (rule5 : parents c ≡ true) (r
 abbrev pub someEntered : Chart → List Transition → ℕ → Bool
 someEntered c ts s = any (λ t. entered c (t .destination) (t .entry) s) ts
 
+-- an element of a list's image
 getD-image : {A B : Type 0} (f : A → B) (l : List A) (i : ℕ) (a : A) (b : B) → i < length l → getD (map f l) i b ≡ f (getD l i a)
 getD-image f [] i a b h = absurd (omega arith)
 getD-image f (x ∷ xs) zero a b h = refl

@@ -108,6 +108,7 @@ module _ (c : Chart) (above : List ℕ) (r : Rooted c above) where
     | no d ↦ fails (under c m x) (λ u. omega (arith, under-le c tree m x h u)) ∙ sym (ne-eqb x m d)
   ]
 
+-- the states that pass a test
 module _ (w : ℕ) (c : Chart) (f : ℕ → Bool) where
   pub length-passing : length (passing w c f) ≡ w
   unfolding passing

@@ -71,6 +71,7 @@ pub fn is_in(set: &[bool], s: usize) -> bool
     if s < set.len() { set[s] } else { false }
 }
 
+// A count of moves, as far as there is a place for them.
 pub fn at_most_sixteen(n: u8) -> usize
     ensures { λ r. ⌜ r ≡ min n 16 ⌝ }
 {
