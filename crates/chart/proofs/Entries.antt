@@ -2,7 +2,7 @@
 use mathlib.Core.Path.{_≡_, refl, sym, ap, _∙_, subst}
 use mathlib.Core.Bool.{Bool, true, false, _&&_, _||_, or-false}
 use mathlib.Core.Logic.{⊎-elim, _≢_}
-use mathlib.Core.List.{List, [], _∷_, map}
+use mathlib.Core.List.{List, [], _∷_, _++_, map, map-append}
 use Prim.Native.Nat.{ℕ, zero, suc, _+_, _≤_, _<_, min}
 use native.Mathlib.Omega.{arith}
 use native.Mathlib.Decide.{ℕ-discrete, decLt}
@@ -10,8 +10,8 @@ use native.Mathlib.Nat.{min-eq-left}
 use native.Mathlib.Numerals.{add-one}
 use borrow.Author.Tests.{eqb-true, eqb-false, eq-eqb, ne-eqb, lt-ltb, le-ltb, ltb-true}
 use lib.Dec.{ltb, eqb}
-use lib.ListN.{length, getD, set, take}
-use lib.Seq.{getD-take, take-suc, take-all}
+use lib.ListN.{length, getD, set, take, length-append}
+use lib.Seq.{getD-take, take-suc, take-suc-set, take-all}
 use Rattle.expr.specs.Lists.{has, any, below}
 use Rattle.expr.proofs.Bools.{clash, fails, both, and-l, and-r, or-l, or-r, or-cases, same}
 use Rattle.expr.proofs.Lists.{none-any, below-at, any-below, below-any, any-more}
@@ -198,6 +198,12 @@ module _ (c : Chart) (t : Tree) (T : Tabled c t) (rule5 : parents c ≡ true) (r
 -- the destinations of several transitions
 abbrev pub someEntered : Chart → List Transition → ℕ → Bool
 someEntered c ts s = any (λ t. entered c (t .destination) (t .entry) s) ts
+
+-- one more move
+pub field-more : (f : Transition → ℕ) (ts : List Transition) (t : Transition) (l : List ℕ) (v i : ℕ) → map f ts ≡ take (length ts) l → i ≡ length ts → i < length l → v ≡ f t → map f (ts ++ (t ∷ [])) ≡ take (length (ts ++ (t ∷ []))) (set l i v)
+field-more f ts t l v i e q h k =
+    map-append f ts (t ∷ []) ∙ ap (λ (x : List ℕ). x ++ (f t ∷ [])) (e ∙ ap (λ (n : ℕ). take n l) (sym q)) ∙ ap (λ (x : ℕ). take i l ++ (x ∷ [])) (sym k)
+    ∙ sym (take-suc-set l i v h) ∙ ap (λ (n : ℕ). take n (set l i v)) (let z : suc i ≡ length (ts ++ (t ∷ [])) = omega (arith, length-append ts (t ∷ [])) in z)
 
 -- an element of a list's image
 getD-image : {A B : Type 0} (f : A → B) (l : List A) (i : ℕ) (a : A) (b : B) → i < length l → getD (map f l) i b ≡ f (getD l i a)

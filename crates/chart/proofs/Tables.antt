@@ -1,6 +1,6 @@
 -- Laws of the tables of states: loops over the states, sets of them, and the way up.
 use mathlib.Core.Path.{_≡_, refl, sym, ap, _∙_, subst}
-use mathlib.Core.Bool.{Bool, true, false, _&&_, _||_, or-false, or-assoc}
+use mathlib.Core.Bool.{Bool, true, false, cond, _&&_, _||_, or-false, or-assoc}
 use mathlib.Core.Logic.{_≢_}
 use mathlib.Core.List.{List, [], _∷_, _++_, map}
 use Prim.Native.Nat.{ℕ, zero, suc, _+_, _≤_, _<_}
@@ -9,15 +9,15 @@ use native.Mathlib.Decide.{ℕ-discrete, decLt}
 use native.Mathlib.Numerals.{add-one}
 use borrow.Author.Tests.{eq-eqb, ne-eqb, lt-ltb, le-ltb}
 use lib.Dec.{ltb, eqb}
-use lib.ListN.{length, getD, set, drop, replicate, length-set, length-map, drop-of-length-le}
+use lib.ListN.{length, getD, set, drop, replicate, length-set, length-map, drop-of-length-le, List·getD-eq-default}
 use lib.Seq.{ext-getD, getD-set-same, getD-set-other}
 use Rattle.expr.specs.Lists.{range, below}
-use Rattle.expr.proofs.Bools.{fails, both, or-r}
+use Rattle.expr.proofs.Bools.{fails, both, or-r, cond-yes, cond-no}
 use Rattle.expr.proofs.Lists.{drop-next, length-below, getD-below, getD-mapped}
-use Rattle.chart.specs.Chart.{Chart, parentOf}
+use Rattle.chart.specs.Chart.{Chart, State, stateAt, parentOf}
 use Rattle.chart.specs.Tree.{under}
 use Rattle.chart.specs.Rules.{parents}
-use Rattle.chart.specs.Table.{Tabled, Rooted, Shown, adding, passing}
+use Rattle.chart.specs.Table.{Column, ColumnTo, Begun, Tabled, Rooted, Shown, adding, passing}
 use Rattle.chart.specs.declared.configuration.Configuration.{Configuration}
 use Rattle.chart.specs.declared.table.Tree.{Tree}
 use Rattle.chart.proofs.Tree.{size, Parents, parents-at, under-refl, under-step, under-le}
@@ -137,3 +137,43 @@ rooted-of c t T r = record { few = T .few; parent = T .parent; rule = r }
 
 pub shown-of : (c : Chart) (σ : Configuration) (t : Tree) (active : List Bool) → Tabled c t → parents c ≡ true → σ .active ≡ active → Shown c σ (t .parents) (t .kinds) active
 shown-of c σ t active T r a = record { rooted = rooted-of c t T r; kind = T .kind; set = a }
+
+-- tables that are filled state by state
+module _ (c : Chart) (d : ℕ) (field : State → ℕ) where
+  pub column-none : ColumnTo 0 d field c (replicate 48 d)
+  column-none s h = go 48 s h ∙ rw (le-ltb s 0 (omega arith))
+    where
+      go : (w s : ℕ) → s < w → getD (replicate w d) s 0 ≡ d
+      go zero s h = absurd (omega arith)
+      go (suc w) zero h = refl
+      go (suc w) (suc s) h = go w s (omega arith)
+
+  pub column-more : (n v : ℕ) (l : List ℕ) → ColumnTo n d field c l → length l ≡ 48 → n < 48 → v ≡ field (stateAt c n) → ColumnTo (n + 1) d field c (set l n v)
+  column-more n v l f e h q s k = elim (ℕ-discrete s n) [
+    | yes z ↦ ap (λ (x : ℕ). getD (set l n v) x 0) z ∙ getD-set-same l n v 0 (omega arith) ∙ q ∙ ap (λ (x : ℕ). field (stateAt c x)) (sym z) ∙ sym (cond-yes _ d (lt-ltb s (n + 1) (omega arith)))
+    | no z ↦ getD-set-other l n s v 0 z ∙ f s k ∙ ap (λ (b : Bool). cond b (field (stateAt c s)) d) (other s z)
+  ]
+    where
+      other : (s : ℕ) → s ≢ n → ltb s n ≡ ltb s (n + 1)
+      other s z = elim (decLt s n) [
+        | yes y ↦ lt-ltb s n y ∙ sym (lt-ltb s (n + 1) (omega arith))
+        | no y ↦ le-ltb s n (omega arith) ∙ sym (le-ltb s (n + 1) (omega arith))
+      ]
+
+  column-all : (n : ℕ) (l : List ℕ) → ((s : ℕ) → size c ≤ s → field (stateAt c s) ≡ d) → size c ≤ n → ColumnTo n d field c l → Column field c l
+  column-all n l past h f s k = f s k ∙ elim (decLt s n) [ yes y ↦ cond-yes _ d (lt-ltb s n y) | no y ↦ cond-no (field (stateAt c s)) d (le-ltb s n (omega arith)) ∙ sym (past s (omega arith)) ]
+
+-- with every state they hold the chart's
+pub tabled : (c : Chart) (t : Tree) (n : ℕ) → Begun c t n → size c ≤ n → Tabled c t
+unfolding stateAt
+tabled c t n B h = record {
+  count = B .count;
+  few = B .few;
+  parent = column-all c 255 (λ x. x .parent) n (t .parents) (past (λ x. x .parent)) h (B .parent);
+  kind = column-all c 0 (λ x. x .kind) n (t .kinds) (past (λ x. x .kind)) h (B .kind);
+  entries = column-all c 0 (λ x. x .entries) n (t .entries) (past (λ x. x .entries)) h (B .entries);
+  exits = column-all c 0 (λ x. x .exits) n (t .exits) (past (λ x. x .exits)) h (B .exits);
+}
+  where
+    past : (f : State → ℕ) {d : State} (s : ℕ) → size c ≤ s → f (getD (c .states) s d) ≡ f d
+    past f s k = ap f (List·getD-eq-default (c .states) _ k)

@@ -1,7 +1,7 @@
 -- The states of a chart as tables of 48 places, and sets of its states.
 use Prim.Native.Nat.{ℕ, _≤_, _<_}
 use mathlib.Core.Path.{_≡_}
-use mathlib.Core.Bool.{Bool, true, false, not, _&&_, _||_}
+use mathlib.Core.Bool.{Bool, true, false, cond, not, _&&_, _||_}
 use mathlib.Core.List.{List, map}
 use lib.Dec.{ltb, eqb}
 use lib.ListN.{getD, length, take}
@@ -26,6 +26,19 @@ pub record Tabled (c : Chart) (t : Tree) : Type 0 where
   pub kind : Column (λ x. x .kind) c (t .kinds)
   pub entries : Column (λ x. x .entries) c (t .entries)
   pub exits : Column (λ x. x .exits) c (t .exits)
+
+-- the same of the first n states; past them stands d
+abbrev pub ColumnTo : ℕ → ℕ → (State → ℕ) → Chart → List ℕ → Type 0
+ColumnTo n d field c l = (s : ℕ) → s < 48 → getD l s 0 ≡ cond (ltb s n) (field (stateAt c s)) d
+
+-- the tables hold the first n states
+pub record Begun (c : Chart) (t : Tree) (n : ℕ) : Type 0 where
+  pub count : t .states ≡ length (c .states)
+  pub few : length (c .states) ≤ 48
+  pub parent : ColumnTo n 255 (λ x. x .parent) c (t .parents)
+  pub kind : ColumnTo n 0 (λ x. x .kind) c (t .kinds)
+  pub entries : ColumnTo n 0 (λ x. x .entries) c (t .entries)
+  pub exits : ColumnTo n 0 (λ x. x .exits) c (t .exits)
 
 -- the list has the parents of a chart that keeps rule 5
 pub record Rooted (c : Chart) (above : List ℕ) : Type 0 where

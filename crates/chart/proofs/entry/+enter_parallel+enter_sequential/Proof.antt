@@ -105,18 +105,21 @@ enter-parallel-loop-less t c = omega arith
 enter-parallel-loop-again : (t : ℕ) → enter-parallel-lts.Need-loop-again (enter-parallel-cs t) (enter-parallel-at t) enter-parallel.Post enter-parallel-Inv-loop enter-parallel-μ-loop
 enter-parallel-loop-again t c =
     let l = c .before .before in
-    let h = l .loop-test .taken in
-    (omega arith, omega arith, λ d E p.
-    let i = l .before .loop .inv .2 d E p in
-    let o = opens-every d _ _ _ _ _ E _ p (l .before .loop .inv .0) h (c .before .is-child .ensures) in
-    ⊎-elim
-    (λ w. rw (w .3) (grown-leaf d _ _ _ _ _ E 48 (E .rooted .few) _ _ _ i (o ∙ w .0 .taken) (kind-basic d _ _ _ _ _ E _ h (sym (w .1 .ensures) ∙ w .2 .keys1))))
-    (⊎-elim
-    (λ w. rw (w .4) (grown-more d _ _ _ _ _ E 48 (E .rooted .few) _ _ _ _ i (o ∙ w .0 .taken) (w .3 .ensures d (enters-child d _ _ _ _ _ E _ (o ∙ w .0 .taken)) (kind-parallel d _ _ _ _ _ E _ h (sym (w .1 .ensures) ∙ w .2 .keys2)))))
-    (⊎-elim
-    (λ w. rw (w .4) (grown-more d _ _ _ _ _ E 48 (E .rooted .few) _ _ _ _ i (o ∙ w .0 .taken) (w .3 .ensures d (enters-child d _ _ _ _ _ E _ (o ∙ w .0 .taken)))))
-    (λ w. rw (w .1) (grown-skip d _ _ _ _ _ E 48 (E .rooted .few) _ _ _ i (o ∙ w .0 .left)))))
-    (c .if1 .came))
+    let h = l .loop-test .taken in (
+      omega arith,
+      omega arith,
+      λ d E p.
+          let i = l .before .loop .inv .2 d E p in
+          let o = opens-every d _ _ _ _ _ E _ p (l .before .loop .inv .0) h (c .before .is-child .ensures) in
+          ⊎-elim
+          (λ w. rw (w .3) (grown-leaf d _ _ _ _ _ E 48 (E .rooted .few) _ _ _ i (o ∙ w .0 .taken) (kind-basic d _ _ _ _ _ E _ h (sym (w .1 .ensures) ∙ w .2 .keys1))))
+          (⊎-elim
+          (λ w. rw (w .4) (grown-more d _ _ _ _ _ E 48 (E .rooted .few) _ _ _ _ i (o ∙ w .0 .taken) (w .3 .ensures d (enters-child d _ _ _ _ _ E _ (o ∙ w .0 .taken)) (kind-parallel d _ _ _ _ _ E _ h (sym (w .1 .ensures) ∙ w .2 .keys2)))))
+          (⊎-elim
+          (λ w. rw (w .4) (grown-more d _ _ _ _ _ E 48 (E .rooted .few) _ _ _ _ i (o ∙ w .0 .taken) (w .3 .ensures d (enters-child d _ _ _ _ _ E _ (o ∙ w .0 .taken)))))
+          (λ w. rw (w .1) (grown-skip d _ _ _ _ _ E 48 (E .rooted .few) _ _ _ i (o ∙ w .0 .left)))))
+          (c .if1 .came),
+    )
 
 enter-parallel-returns : (t : ℕ) → enter-parallel-lts.Need-returns (enter-parallel-cs t) (enter-parallel-at t) enter-parallel.Post enter-parallel-Inv-loop enter-parallel-μ-loop
 enter-parallel-returns t c = λ d E p. grown-all d _ _ _ _ _ E 48 (E .rooted .few) _ _ _ (search needs) (omega (arith, E .rooted .few, c .loop-test .left)) (c .before .loop .inv .2 d E p)
@@ -175,18 +178,21 @@ enter-sequential-loop-less t c = omega arith
 enter-sequential-loop-again : (t : ℕ) → enter-sequential-lts.Need-loop-again (enter-sequential-cs t) (enter-sequential-at t) enter-sequential.Post enter-sequential-Inv-loop enter-sequential-μ-loop
 enter-sequential-loop-again t c =
     let l = c .before .before in
-    let h = l .loop-test .taken in
-    (omega arith, omega arith, λ d E.
-    let i = l .before .loop .inv .2 d E in
-    let o = opens-marked d _ _ _ _ _ E _ (l .before .loop .inv .0) h (c .before .is-marked-child .ensures) in
-    ⊎-elim
-    (λ w. rw (w .3) (grown-leaf d _ _ _ _ _ E 48 (E .rooted .few) _ _ _ i (o ∙ w .0 .taken) (kind-basic d _ _ _ _ _ E _ h (sym (w .1 .ensures) ∙ w .2 .keys1))))
-    (⊎-elim
-    (λ w. rw (w .4) (grown-more d _ _ _ _ _ E 48 (E .rooted .few) _ _ _ _ i (o ∙ w .0 .taken) (w .3 .ensures d (enters-child d _ _ _ _ _ E _ (o ∙ w .0 .taken)) (kind-parallel d _ _ _ _ _ E _ h (sym (w .1 .ensures) ∙ w .2 .keys2)))))
-    (⊎-elim
-    (λ w. rw (w .4) (grown-more d _ _ _ _ _ E 48 (E .rooted .few) _ _ _ _ i (o ∙ w .0 .taken) (w .3 .ensures d (enters-child d _ _ _ _ _ E _ (o ∙ w .0 .taken)))))
-    (λ w. rw (w .1) (grown-skip d _ _ _ _ _ E 48 (E .rooted .few) _ _ _ i (o ∙ w .0 .left)))))
-    (c .if1 .came))
+    let h = l .loop-test .taken in (
+      omega arith,
+      omega arith,
+      λ d E.
+          let i = l .before .loop .inv .2 d E in
+          let o = opens-marked d _ _ _ _ _ E _ (l .before .loop .inv .0) h (c .before .is-marked-child .ensures) in
+          ⊎-elim
+          (λ w. rw (w .3) (grown-leaf d _ _ _ _ _ E 48 (E .rooted .few) _ _ _ i (o ∙ w .0 .taken) (kind-basic d _ _ _ _ _ E _ h (sym (w .1 .ensures) ∙ w .2 .keys1))))
+          (⊎-elim
+          (λ w. rw (w .4) (grown-more d _ _ _ _ _ E 48 (E .rooted .few) _ _ _ _ i (o ∙ w .0 .taken) (w .3 .ensures d (enters-child d _ _ _ _ _ E _ (o ∙ w .0 .taken)) (kind-parallel d _ _ _ _ _ E _ h (sym (w .1 .ensures) ∙ w .2 .keys2)))))
+          (⊎-elim
+          (λ w. rw (w .4) (grown-more d _ _ _ _ _ E 48 (E .rooted .few) _ _ _ _ i (o ∙ w .0 .taken) (w .3 .ensures d (enters-child d _ _ _ _ _ E _ (o ∙ w .0 .taken)))))
+          (λ w. rw (w .1) (grown-skip d _ _ _ _ _ E 48 (E .rooted .few) _ _ _ i (o ∙ w .0 .left)))))
+          (c .if1 .came),
+    )
 
 enter-sequential-returns : (t : ℕ) → enter-sequential-lts.Need-returns (enter-sequential-cs t) (enter-sequential-at t) enter-sequential.Post enter-sequential-Inv-loop enter-sequential-μ-loop
 enter-sequential-returns t c = λ d E. grown-all d _ _ _ _ _ E 48 (E .rooted .few) _ _ _ (search needs) (omega (arith, E .rooted .few, c .loop-test .left)) (c .before .loop .inv .2 d E)
