@@ -1,5 +1,8 @@
 // The check of charts, and the chart machine.
+pub mod activity;
 pub mod configuration;
 pub mod header;
 pub mod rule;
 pub mod state;
+pub mod entry;
+pub mod table;
