@@ -1,3 +1,5 @@
 -- The proof of demand 3, a file for each step.
 pub mod Relation
 pub mod Claims
+pub mod Temporary
+pub mod Bearing
