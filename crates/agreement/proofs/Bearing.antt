@@ -258,7 +258,7 @@ module _ (c : Chart) (passed : Passed c) (ranges : Ranges c) where
       unfolding activeTransition
       source-active = and-l (isActive σ (transitionAt c t .source)) _ k
 
-      exit-completed : hasExit c t ≡ true → completed c σ (transitionAt c t .source) (transitionAt c t .exit) ≡ true
+      pub exit-completed : hasExit c t ≡ true → completed c σ (transitionAt c t .source) (transitionAt c t .exit) ≡ true
       unfolding activeTransition
       exit-completed z = or-else (basic c (transitionAt c t .source)) _ (and-r (guardsHold (σ .variables) (σ .clocks) (transitionAt c t .label)) _ (and-r (isActive σ (transitionAt c t .source)) _ k)) (source-composite t h z)
 

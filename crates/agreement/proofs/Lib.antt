@@ -3,3 +3,4 @@ pub mod Relation
 pub mod Claims
 pub mod Temporary
 pub mod Bearing
+pub mod Departing
