@@ -3,3 +3,5 @@ pub mod Sets
 pub mod Relation
 pub mod Claims
 pub mod Standing
+pub mod Temporary
+pub mod Bearing
