@@ -5,3 +5,4 @@ pub mod Claims
 pub mod Standing
 pub mod Temporary
 pub mod Bearing
+pub mod Accepted
