@@ -37,7 +37,7 @@ use Rattle.flattener.proofs.Bounds.{active-child}
 use Rattle.flattener.proofs.Edges.{Bears, BearsFrom, Leaves, edges-at, edges-by, source-of, owner-of}
 use Rattle.agreement.specs.Agreement.{ChartConfiguration, NetworkConfiguration}
 use Rattle.agreement.proofs.Relation.{standing}
-use Rattle.agreement.proofs.Temporary.{Fits, place-standing, flag-standing}
+use Rattle.agreement.proofs.Standing.{Fits, place-standing, flag-standing}
 
 -- the picture is a standing configuration
 pub picture-stands : (c : Chart) (σ : ChartConfiguration) → picture c σ ≡ standing c (pictured c σ) (σ .variables) (σ .clocks)

@@ -33,7 +33,7 @@ use Rattle.flattener.proofs.Numbers.{PlaceOf}
 use Rattle.flattener.proofs.Arrivals.{ends, departure-place}
 use Rattle.agreement.specs.Agreement.{ChartConfiguration, named}
 use Rattle.agreement.proofs.Relation.{Pending, entryPair, owes, owesAll, Concerns, Hearing, IsPending, Placed}
-use Rattle.agreement.proofs.Temporary.{Fits}
+use Rattle.agreement.proofs.Standing.{Fits}
 use Rattle.agreement.proofs.Bearing.{pictured-idle, pictured-child, pictured-cases, pictured-fits, source-composite, source-basic, exit-completed}
 
 neither-l : (a b : Bool) → (a || b) ≡ false → a ≡ false
