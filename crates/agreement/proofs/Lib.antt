@@ -6,3 +6,4 @@ pub mod Standing
 pub mod Temporary
 pub mod Bearing
 pub mod Accepted
+pub mod Broadcast
