@@ -7,3 +7,4 @@ pub mod Temporary
 pub mod Bearing
 pub mod Accepted
 pub mod Broadcast
+pub mod Pending
