@@ -8,3 +8,4 @@ pub mod Bearing
 pub mod Accepted
 pub mod Broadcast
 pub mod Pending
+pub mod Paying
