@@ -9,3 +9,4 @@ pub mod Accepted
 pub mod Broadcast
 pub mod Pending
 pub mod Paying
+pub mod Leaving

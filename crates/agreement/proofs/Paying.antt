@@ -7,9 +7,12 @@ use mathlib.Core.List.{List, [], _∷_, List·Memᴰ as Mem, List·Memᴰ·head 
 use Prim.Native.Nat.{ℕ, _+_, _<_}
 use native.Mathlib.Omega.{arith}
 use native.Mathlib.Decide.{ℕ-discrete}
-use borrow.Author.Tests.{eqb-true, eq-eqb}
+use borrow.Author.Tests.{ltb-true, ne-eqb}
+use lib.Dec.{ltb, eqb}
 use lib.ListN.{length}
-use Rattle.expr.proofs.Bools.{clash, decided}
+use Rattle.expr.specs.Label.{channelFits}
+use Rattle.expr.specs.Clocks.{keeps}
+use Rattle.expr.proofs.Bools.{clash, decided, cond-no}
 use Rattle.expr.proofs.Lists.{Once}
 use Rattle.chart.specs.Chart.{Chart, transitionAt, home}
 use Rattle.chart.specs.Tree.{under}
@@ -17,12 +20,14 @@ use Rattle.chart.specs.Machine.{isTree}
 use Rattle.chart.proofs.Tree.{size, under-refl, comparable}
 use Rattle.chart.proofs.Rules.{Passed}
 use Rattle.chart.proofs.Ranges.{Ranges}
-use Rattle.flattener.specs.Flatten.{Place}
+use Rattle.chart.proofs.Step.{transition-mem}
+use Rattle.flattener.specs.Flatten.{Place, boundsOf, hasEntry}
 use Rattle.flattener.specs.Picture.{pictured}
 use Rattle.flattener.proofs.Automata.{Region}
 use Rattle.flattener.proofs.Arrivals.{ends}
 use Rattle.agreement.specs.Agreement.{ChartConfiguration}
 use Rattle.agreement.proofs.Relation.{Pending, owes, owesAll, Concerns, Hearing, IsPending, Placed}
+use Rattle.agreement.proofs.Broadcast.{Broadcast}
 use Rattle.agreement.proofs.Pending.{concerns-home}
 
 -- a list of pending transitions without one of them
@@ -51,6 +56,19 @@ without c (x ∷ xs) {p} o (there m) =
       once = (λ k. o .0 (w .kept x k .0), w .once);
       owes-is = omega (arith, w .owes-is);
     }
+
+-- how many moves one owes
+pub owes-both : (c : Chart) (p : Pending) → p .leaving ≡ true → hasEntry c (p .transition) ≡ true → owes c p ≡ 2
+unfolding owes
+owes-both c p l e = rw (l, e)
+
+pub owes-exit : (c : Chart) (p : Pending) → p .leaving ≡ true → hasEntry c (p .transition) ≡ false → owes c p ≡ 1
+unfolding owes
+owes-exit c p l e = rw (l, e)
+
+pub owes-entry : (c : Chart) (p : Pending) → p .leaving ≡ false → owes c p ≡ 1
+unfolding owes
+owes-entry c p l = rw l
 
 module _ (c : Chart) (passed : Passed c) (ranges : Ranges c) (σ : ChartConfiguration) (tree : isTree c σ ≡ true) (f g : ℕ → Place) (ps : List Pending) (placed : Placed c σ f ps)
     (p : Pending) (m : Mem p ps) (elsewhere : (q : ℕ) → Region c q → q ≢ home c (p .transition) → (Concerns c p q → ⊥) → g q ≡ f q) where
@@ -122,3 +140,19 @@ module _ (c : Chart) (passed : Passed c) (ranges : Ranges c) (σ : ChartConfigur
       once = (λ i. let w = others-left .kept n i in w .1 (placed .apart n p (w .0) m (subst (λ (x : ℕ). under c x (home c (p .transition)) ≡ true) (sym home-of-next) (under-refl c _))), others-left .once);
       others = λ q z h. others-rest q z (λ e. h n (here refl) .0 (e ∙ sym home-of-next)) (λ w. h n (here refl) .1 (subst (λ (x : ℕ). (under c (transitionAt c x .source) q ≡ true) ⊎ (under c (transitionAt c x .destination) q ≡ true)) (sym same) w)) (λ r i. h r (there i));
     }
+
+-- a move that pays: the automata go from f to `places`, and one less is owed
+pub record Payment (c : Chart) (σ : ChartConfiguration) (f : ℕ → Place) (ps : List Pending) (home : ℕ) : Type 0 where
+  pub places : ℕ → Place
+  pub channel : ℕ
+  pub pending : List Pending
+  pub broadcast : Broadcast c f places home channel
+  pub placed : Placed c σ places pending
+  pub pays : owesAll c ps ≡ owesAll c pending + 1
+  pub bounds : ((q : ℕ) → Region c q → keeps (boundsOf c (f q)) (σ .clocks) ≡ true) → (q : ℕ) → Region c q → keeps (boundsOf c (places q)) (σ .clocks) ≡ true
+
+-- a transition of the chart signals on one of the chart's channels
+pub chart-channel : (c : Chart) → Ranges c → (t : ℕ) → t < length (c .transitions) → transitionAt c t .label .signal ≢ 0 → transitionAt c t .label .channel < c .rendezvous + c .broadcasts
+unfolding channelFits
+chart-channel c ranges t h d = let l = transitionAt c t .label in
+    ltb-true (l .channel) (c .rendezvous + c .broadcasts) (sym (cond-no _ _ (ne-eqb (l .signal) 0 d)) ∙ ranges .of-transition _ (transition-mem c t h) .label-known .channel-known)

@@ -16,7 +16,7 @@ use Rattle.expr.proofs.Lists.{all-at, any-at, any-by, any-none, Once}
 use Rattle.chart.specs.Chart.{Chart, transitionAt, home, basic, stateAt}
 use Rattle.chart.specs.Tree.{under, entered}
 use Rattle.chart.specs.Machine.{isActive, isTree}
-use Rattle.chart.proofs.Tree.{size, Child, under-refl, under-transitive, comparable, child-under, sequential-not-basic}
+use Rattle.chart.proofs.Tree.{size, Child, under-refl, under-transitive, under-le, child-under, child-above, sequential-not-basic}
 use Rattle.chart.proofs.Entered.{Entry, entered-top, entered-alone, entered-child, entered-marked, entered-under}
 use Rattle.chart.proofs.Active.{tree-at, active-above}
 use Rattle.chart.proofs.Rules.{Passed}
@@ -81,6 +81,11 @@ module _ (c : Chart) (passed : Passed c) (ranges : Ranges c) (σ : ChartConfigur
   concerns-home q h = ⊎-elim
       (λ u. under-transitive c (passed .tree) (home c t) source q h (child-under c (passed .tree) (pending-ends .from)) u)
       (λ u. under-transitive c (passed .tree) (home c t) destination q h (child-under c (passed .tree) (pending-ends .to)) u)
+
+  pub concerns-not-home : (q : ℕ) → q < size c → Concerns c p q → q ≢ home c t
+  concerns-not-home q h w e = ⊎-elim
+      (λ u. omega (arith, under-le c (passed .tree) source q h u, child-above c (passed .tree) (pending-ends .from)))
+      (λ u. omega (arith, under-le c (passed .tree) destination q h u, child-above c (passed .tree) (pending-ends .to))) w
 
   -- where the automata of such states are: not at an urgent place
   pub concerned-place : (r : ℕ) → Region c r → Concerns c p r → PlaceOf c r (f r) × (urgentPlace (f r) ≡ 0)
