@@ -10,3 +10,4 @@ pub mod Broadcast
 pub mod Pending
 pub mod Paying
 pub mod Leaving
+pub mod Entering
