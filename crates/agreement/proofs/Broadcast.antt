@@ -273,12 +273,15 @@ module _ (c : Chart) (passed : Passed c) (ranges : Ranges c) (f g : ℕ → Plac
     ])
 
     pub broadcast-accepted : (ms : List ℕ) × (step net now ms ≡ done (standing c g vs cs))
-    broadcast-accepted = (everyone, accepted-by net now everyone (record {
-      given = given;
-      are-known = known-by count everyone (record { some = mem-some sender-in; few = everyone-few; ascends = everyone-ascends; each = λ m k. everyone-at m k .0 });
-      each-active = λ m k. let x = member m k in ⊎-elim (λ e. own-active (x .0) (x .1) _ 1 (e .1)) (λ e. own-active (x .0) (x .1) _ 2 e) (x .3);
-      urgent-first = λ u. urgent-by net everyone sender-in (urgent-home _ sender-leaves);
-      is-allowed = everyone-allowed;
-      bounds-kept = kept;
-      result = everyone-leads;
-    }))
+    broadcast-accepted = (
+      everyone,
+      accepted-by net now everyone (record {
+        given = given;
+        are-known = known-by count everyone (record { some = mem-some sender-in; few = everyone-few; ascends = everyone-ascends; each = λ m k. everyone-at m k .0 });
+        each-active = λ m k. let x = member m k in ⊎-elim (λ e. own-active (x .0) (x .1) _ 1 (e .1)) (λ e. own-active (x .0) (x .1) _ 2 e) (x .3);
+        urgent-first = λ u. urgent-by net everyone sender-in (urgent-home _ sender-leaves);
+        is-allowed = everyone-allowed;
+        bounds-kept = kept;
+        result = everyone-leads;
+      }),
+    )

@@ -103,7 +103,7 @@ module _ (c : Chart) (passed : Passed c) (ranges : Ranges c) (σ : ChartConfigur
       let at : parentOf c (l .to) ≡ q = l .is-child .parent-is ∙ n .home-is in
       let a : entered c destination entry q ≡ true = ap (entered c destination entry) (sym at) ∙ sym (ap (λ (x : Pair). entered c (x .state) (x .mark) (parentOf c (l .to))) same) ∙ heard .1 in
       let to : l .to ≡ markedChild c q entry = marked c passed ranges σ tree f p k has-entry q z a .2 (l .to) (record { known = l .is-child .known; below-root = l .is-child .below-root; parent-is = at })
-          (sym (ap (λ (x : Pair). has (stateAt c (l .to) .entries) (x .mark)) same) ∙ heard .2) in
+      (sym (ap (λ (x : Pair). has (stateAt c (l .to) .entries) (x .mark)) same) ∙ heard .2) in
       l .edge-is ∙ ap₂ (λ (x : Place) (y : Pair). ownEdge c (idle r) x (signalling 2 (enterChannel c y))) (ap child to ∙ sym (entered-below c f t q (below-not-home q (z .known) (entered-concerns q a)) a)) same
   heard-entry q z (child s) n e l h = absurd (⊎-elim
       (λ j. enter-exit-apart c (j .pair) pair-known (sym (h .1) ∙ ap (λ (x : Edge). x .label .channel) (j .edge-is)))
@@ -146,7 +146,7 @@ module _ (c : Chart) (passed : Passed c) (ranges : Ranges c) (σ : ChartConfigur
         ∙ joined-kept destination (n .to .known) (entered-top c (passed .tree) (passed .entry-marks) destination (n .to .known) (pending-entry c passed ranges σ tree f p k))
     | no d ↦ ⊎-elim
         (λ a. ap (λ (x : Place). keeps (boundsOf c x) (σ .clocks)) (entered-below c f t q d a)
-            ∙ joined-kept (markedChild c q entry) (marked c passed ranges σ tree f p k has-entry q z a .0 .known) (marked-entered c passed ranges σ tree f p k has-entry q z a))
+        ∙ joined-kept (markedChild c q entry) (marked c passed ranges σ tree f p k has-entry q z a .0 .known) (marked-entered c passed ranges σ tree f p k has-entry q z a))
         (λ a. ap (λ (x : Place). keeps (boundsOf c x) (σ .clocks)) (entered-other c f t q d a) ∙ h q z)
         (decided (entered c destination entry q))
   ]

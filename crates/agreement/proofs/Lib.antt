@@ -11,3 +11,4 @@ pub mod Pending
 pub mod Paying
 pub mod Leaving
 pub mod Entering
+pub mod Owed

@@ -132,10 +132,10 @@ module _ (c : Chart) (passed : Passed c) (ranges : Ranges c) (σ : ChartConfigur
       each = λ r i. ⊎-elim (λ e. subst (IsPending c σ g) (sym e) k) (λ j. let w = others-left .kept r j in still-pending r (w .0) (w .1)) (cases-cons i);
       apart = λ r s i j u. ⊎-elim
           (λ e. ⊎-elim (λ d. e ∙ sym d)
-              (λ y. let w = others-left .kept s y in absurd (w .1 (sym (placed .apart p s m (w .0) (subst (λ (x : ℕ). under c x (home c (s .transition)) ≡ true) (ap (λ (x : Pending). home c (x .transition)) e ∙ home-of-next) u))))) (cases-cons j))
+          (λ y. let w = others-left .kept s y in absurd (w .1 (sym (placed .apart p s m (w .0) (subst (λ (x : ℕ). under c x (home c (s .transition)) ≡ true) (ap (λ (x : Pending). home c (x .transition)) e ∙ home-of-next) u))))) (cases-cons j))
           (λ x. ⊎-elim
-              (λ d. let w = others-left .kept r x in absurd (w .1 (placed .apart r p (w .0) m (subst (λ (y : ℕ). under c (home c (r .transition)) y ≡ true) (ap (λ (y : Pending). home c (y .transition)) d ∙ home-of-next) u))))
-              (λ y. apart-rest r s x y u) (cases-cons j))
+          (λ d. let w = others-left .kept r x in absurd (w .1 (placed .apart r p (w .0) m (subst (λ (y : ℕ). under c (home c (r .transition)) y ≡ true) (ap (λ (y : Pending). home c (y .transition)) d ∙ home-of-next) u))))
+          (λ y. apart-rest r s x y u) (cases-cons j))
           (cases-cons i);
       once = (λ i. let w = others-left .kept n i in w .1 (placed .apart n p (w .0) m (subst (λ (x : ℕ). under c x (home c (p .transition)) ≡ true) (sym home-of-next) (under-refl c _))), others-left .once);
       others = λ q z h. others-rest q z (λ e. h n (here refl) .0 (e ∙ sym home-of-next)) (λ w. h n (here refl) .1 (subst (λ (x : ℕ). (under c (transitionAt c x .source) q ≡ true) ⊎ (under c (transitionAt c x .destination) q ≡ true)) (sym same) w)) (λ r i. h r (there i));
