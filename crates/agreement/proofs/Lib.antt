@@ -1,5 +1,4 @@
 -- The proof of demand 3, a file for each step.
-pub mod Sets
 pub mod Relation
 pub mod Claims
 pub mod Standing
