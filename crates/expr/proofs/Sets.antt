@@ -11,16 +11,16 @@ use lib.Dec.{eqb, ltb}
 use lib.IntN.{ℤ}
 use lib.ListN.{length, getD}
 use lib.Seq.{ext-getD}
 use Rattle.expr.specs.Lists.{has, any, keep, below, elem, concat, ascending}
 use Rattle.expr.specs.Guard.{Update, assign}
 use Rattle.expr.specs.Label.{Label, distinct, sends, receives}
 use Rattle.expr.specs.Clocks.{reset}
 use Rattle.expr.specs.Moves.{allowed, senders, oneSends, maximal, variablesAfter, clocksAfter}
 use Rattle.expr.proofs.Bools.{clash, decided, fails, and-l, and-r, both, or-l, or-r, or-cases, not-yes, same}
 use Rattle.expr.proofs.Lists.{Once, all-at, all-by, any-at, any-by, keep-at, keep-by, map-at, map-by, elem-at, elem-by, below-at, below-by, length-below, all-below, below-all, once-keep, mem-some, one-mem, one-length, partners-length, within-length, ascending-above, ascending-tail, ascending-below, ascending-keep}
-use Rattle.expr.proofs.Pairwise.{pairwise-by, pairwise-map, once-pairwise, pairwise-once}
+use Rattle.expr.proofs.Pairwise.{map-once-on, once-of-map}
 use Rattle.expr.proofs.Clocks.{length-reset, getD-reset}
-use Rattle.expr.proofs.Moves.{distinct-at, distinct-by, once-map, sends-at, receives-at}
+use Rattle.expr.proofs.Moves.{distinct-at, distinct-by, once-map, Sends, Receives, sends-at, sends-by, receives-at, receives-by}
 
 -- an ascending list is told by its members
 ascending-first : (x y : ℕ) (xs ys : List ℕ) → ascending (x ∷ xs) ≡ true → ascending (y ∷ ys) ≡ true → Mem x (y ∷ ys) → Mem y (x ∷ xs) → x ≡ y
@@ -62,14 +62,6 @@ values-length f n xs o g h =
 pub below-length : (n : ℕ) (xs : List ℕ) → Once xs → ((x : ℕ) → Mem x xs → x < n) → length xs ≤ n
 below-length n xs o f = values-length (λ x. x) n xs o f (λ x y m k e. e)
 
--- repetition in the values of a function
-pub once-of-map : {A B : Type 0} (f : A → B) (xs : List A) → Once (map f xs) → Once xs
-once-of-map f [] o = tt
-once-of-map f (x ∷ xs) o = (λ m. o .0 (map-by f m), once-of-map f xs (o .1))
-
-pub map-once-on : {A B : Type 0} (f : A → B) (xs : List A) → ((x y : A) → Mem x xs → Mem y xs → f x ≡ f y → x ≡ y) → Once xs → Once (map f xs)
-map-once-on f xs g o = pairwise-once (map f xs) (pairwise-map (λ x y. x ≢ y) f xs (pairwise-by (λ x y. x ≢ y) (λ x y. f x ≢ f y) xs (λ x y m n d e. d (g x y m n e)) (once-pairwise xs o)))
-
 -- a list with one element besides x
 pub record OneOther {A : Type 0} (x : A) (xs : List A) : Type 0 where
   pub other : A
@@ -96,21 +88,6 @@ two-length xs o x m w =
       within-length xs (x ∷ w .other ∷ []) o (λ z k. ⊎-elim here (λ q. there (here q)) (w .only z k)),
       within-length (x ∷ w .other ∷ []) xs (λ k. ⊎-elim (λ e. w .differs (sym e)) not-nil (cases-cons k), (not-nil, tt)) (λ z k. ⊎-elim (λ q. cast q m) (λ q. cast q (w .is-member)) (in-two k)),
     )
-
--- labels that send or receive on a channel
-abbrev pub Sends : Label → ℕ → Type 0
-Sends l ch = (l .signal ≡ 1) × (l .channel ≡ ch)
-
-abbrev pub Receives : Label → ℕ → Type 0
-Receives l ch = (l .signal ≡ 2) × (l .channel ≡ ch)
-
-pub sends-by : (l : Label) (ch : ℕ) → Sends l ch → sends l ch ≡ true
-unfolding sends
-sends-by l ch h = both (eq-eqb (l .signal) 1 (h .0)) (eq-eqb (l .channel) ch (h .1))
-
-pub receives-by : (l : Label) (ch : ℕ) → Receives l ch → receives l ch ≡ true
-unfolding receives
-receives-by l ch h = both (eq-eqb (l .signal) 2 (h .0)) (eq-eqb (l .channel) ch (h .1))
 
 -- one member, without signal
 pub record Alone (label : ℕ → Label) (ms : List ℕ) : Type 0 where
@@ -147,8 +124,7 @@ module _ (label : ℕ → Label) where
   unfolding oneSends senders
   sender-at ch ms h =
       let r = one-mem (keep p ms) (eqb-true (length (keep p ms)) 1 (and-l (eqb (length (keep p ms)) 1) _ h)) in
-      let k = keep-at p ms (r .1) in
-      (
+      let k = keep-at p ms (r .1) in (
         r .0,
         record {
           is-member = k .0;
@@ -165,10 +141,10 @@ module _ (label : ℕ → Label) where
   unfolding oneSends senders
   sender-by ch ms o s g = both
       (eq-eqb (length (keep p ms)) 1 (one-length (keep p ms) (once-keep p ms o) s (keep-by p ms (g .is-member) (sends-by (label s) ch (g .sent)))
-          (λ y k. let r = keep-at p ms k in ⊎-elim (λ e. e) (λ q. absurd (omega (arith, q .0, sends-at (label y) ch (r .1) .0))) (g .others y (r .0)))))
+      (λ y k. let r = keep-at p ms k in ⊎-elim (λ e. e) (λ q. absurd (omega (arith, q .0, sends-at (label y) ch (r .1) .0))) (g .others y (r .0)))))
       (all-by (λ m. sends (label m) ch || receives (label m) ch) ms (λ m k. ⊎-elim
-          (λ e. or-l (receives (label m) ch) (ap (λ (x : ℕ). sends (label x) ch) e ∙ sends-by (label s) ch (g .sent)))
-          (λ r. or-r (sends (label m) ch) (receives-by (label m) ch r)) (g .others m k)))
+      (λ e. or-l (receives (label m) ch) (ap (λ (x : ℕ). sends (label x) ch) e ∙ sends-by (label s) ch (g .sent)))
+      (λ r. or-r (sends (label m) ch) (receives-by (label m) ch r)) (g .others m k)))
     where
       p : ℕ → Bool
       p m = sends (label m) ch
@@ -185,7 +161,7 @@ module _ (label : ℕ → Label) (owner : ℕ → ℕ) (active : ℕ → Bool) (
   full-at ch ms h k l r a = ⊎-elim
       (λ e. let j = map-at owner ms (elem-at (owner k) (map owner ms) e) in (j .0, j .1, sym (j .2)))
       (λ e. clash (both (receives-by (label k) ch r) (both a (not-yes e)))
-          (not-true (receives (label k) ch && (active k && not (elem (owner k) (map owner ms)))) (all-below (λ m. not (receives (label m) ch && (active m && not (elem (owner m) (map owner ms))))) count h k l)))
+      (not-true (receives (label k) ch && (active k && not (elem (owner k) (map owner ms)))) (all-below (λ m. not (receives (label m) ch && (active m && not (elem (owner m) (map owner ms))))) count h k l)))
       (decided (elem (owner k) (map owner ms)))
 
   pub full-by : (ch : ℕ) (ms : List ℕ) → Full label owner active count ch ms → maximal label owner active count ch ms ≡ true
@@ -258,6 +234,14 @@ module _ (label : ℕ → Label) (owner : ℕ → ℕ) (active : ℕ → Bool) (
 -- an allowed set has some member
 pub allowed-some : {label : ℕ → Label} {owner : ℕ → ℕ} {active : ℕ → Bool} {count rendezvous : ℕ} {ms : List ℕ} → AllowedSet label owner active count rendezvous ms → (m : ℕ) × Mem m ms
 allowed-some w = ⊎-elim (λ a. (a .member, a .is-member)) (λ j. (j .sender, j .signalled .is-member)) (w .signals)
+
+-- two members are one, or both signal on one channel
+pub allowed-channels : {label : ℕ → Label} {owner : ℕ → ℕ} {active : ℕ → Bool} {count rendezvous : ℕ} {ms : List ℕ} → AllowedSet label owner active count rendezvous ms
+    → (a b : ℕ) → Mem a ms → Mem b ms → (a ≡ b) ⊎ ((label a .signal ≢ 0) × (label b .signal ≢ 0) × (label a .channel ≡ label b .channel))
+allowed-channels {label} w a b m n = ⊎-elim
+    (λ s. inl (s .only a m ∙ sym (s .only b n)))
+    (λ j. let x = signalled-on label (j .signalled) a m in let y = signalled-on label (j .signalled) b n in inr (x .0, y .0, x .1 ∙ sym (y .1)))
+    (w .signals)
 
 -- the members of two lists correspond by R, each to one
 pub record Matched (R : ℕ → ℕ → Type 0) (ms ts : List ℕ) : Type 0 where
