@@ -32,7 +32,7 @@ use Rattle.flattener.proofs.Edges.{Leaves}
 use Rattle.flattener.proofs.Bounds.{keeps-pre}
 use Rattle.agreement.specs.Agreement.{ChartConfiguration}
 use Rattle.agreement.proofs.Relation.{Pending, entryPair, Concerns, Hearing, IsPending, Placed}
-use Rattle.agreement.proofs.Sets.{Receives}
+use Rattle.expr.proofs.Moves.{Receives}
 use Rattle.agreement.proofs.Broadcast.{Broadcast}
 use Rattle.agreement.proofs.Pending.{pending-ends, pending-entry, concerns-not-home, home-entering, home-place, pictured-home, pictured-left, pictured-entered, marked, marked-entered, placed-fits}
 use Rattle.agreement.proofs.Paying.{Without, without, owes-entry, placed-rest, Payment, chart-channel}

@@ -30,7 +30,7 @@ use Rattle.flattener.proofs.Edges.{Leaves, HearsExit, BearsFrom}
 use Rattle.flattener.proofs.Bounds.{departure-arrives}
 use Rattle.agreement.specs.Agreement.{ChartConfiguration}
 use Rattle.agreement.proofs.Relation.{Pending, entryPair, owesAll, Concerns, Hearing, IsPending, Placed}
-use Rattle.agreement.proofs.Sets.{Receives}
+use Rattle.expr.proofs.Moves.{Receives}
 use Rattle.agreement.proofs.Broadcast.{Broadcast}
 use Rattle.agreement.proofs.Pending.{pending-ends, concerns-not-home, home-leaving, home-place, pictured-home, pictured-left, not-entered, placed-fits}
 use Rattle.agreement.proofs.Paying.{Without, without, owes-both, owes-exit, owes-entry, placed-rest, placed-next, Payment, chart-channel}
