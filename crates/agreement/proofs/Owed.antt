@@ -1,6 +1,6 @@
 -- While moves are owed: no wait (`no-wait-owed`), every move pays one (`move-pays`), and there is one (`some-move`).
 use mathlib.Core.Path.{_≡_, refl, sym, ap, _∙_, subst}
-use mathlib.Core.Bool.{Bool, true, false}
+use mathlib.Core.Bool.{true}
 use mathlib.Core.Logic.{⊎-elim}
 use mathlib.Core.List.{List, [], _∷_, List·Memᴰ as Mem, List·Memᴰ·head as here}
 use Prim.Native.Nat.{ℕ, _+_, _<_}
@@ -18,10 +18,9 @@ use Rattle.chart.specs.Machine.{isTree}
 use Rattle.chart.proofs.Rules.{Passed}
 use Rattle.chart.proofs.Ranges.{Ranges}
 use Rattle.chart.proofs.Step.{configuration-tree, configuration-clocks}
-use Rattle.network.specs.Network.{Network}
-use Rattle.network.specs.Machine.{edgeAt, boundsKept, isConfiguration, urgentAt, urgent, step, wait}
+use Rattle.network.specs.Machine.{edgeAt, boundsKept, urgentAt, urgent, step, wait}
 use Rattle.flattener.specs.Flatten.{Place, urgentPlace, boundsOf, flatten}
-use Rattle.flattener.proofs.Automata.{Region, sequentials-at, sequentials-by}
+use Rattle.flattener.proofs.Automata.{sequentials-at, sequentials-by}
 use Rattle.flattener.proofs.Numbers.{urgent-of-place}
 use Rattle.flattener.proofs.Arrivals.{ends}
 use Rattle.flattener.proofs.Edges.{Leaves, edge-at-mem, source-of}
