@@ -5,6 +5,8 @@ pub mod Standing
 pub mod Bearing
 pub mod Accepted
 pub mod Departing
+pub mod Carrying
+pub mod Settled
 pub mod Broadcast
 pub mod Pending
 pub mod Paying

@@ -1,10 +1,11 @@
--- Sets of transitions or edges by their members: what `allowed` says whatever the order, that two sets whose members
--- correspond are allowed alike, and that they do the same to variables and clocks.
+-- Sets of transitions or edges by their members: what `allowed` says (`allowed-set-at`, `allowed-set-by`), that two sets
+-- whose members correspond are allowed alike (`allowed-alike`), and that they do the same to variables and clocks
+-- (`variables-alike`, `clocks-alike`), in whatever orders they are listed.
 use mathlib.Core.Path.{_≡_, refl, sym, ap, _∙_, subst}
 use mathlib.Core.Bool.{Bool, true, false, cond, not, _&&_, _||_}
 use mathlib.Core.Logic.{_⊎_, inl, inr, ⊎-elim, _≢_}
 use mathlib.Core.List.{List, [], _∷_, _++_, map, append-nil, List·Memᴰ as Mem, List·Memᴰ·head as here, List·Memᴰ·tail as there, List·Memᴰ·not-nil as not-nil, List·Memᴰ·cases-cons as cases-cons, Memᴰ·cast as cast}
-use Prim.Native.Nat.{ℕ, suc, _≤_, _<_}
+use Prim.Native.Nat.{ℕ, _≤_, _<_}
 use native.Mathlib.Omega.{arith}
 use borrow.Author.Tests.{eqb-true, eq-eqb, ne-eqb, ltb-true, ltb-false, lt-ltb, le-ltb, not-true}
 use lib.Dec.{eqb, ltb}
@@ -402,21 +403,6 @@ unfolding variablesAfter
 variables-after label ms vars o w =
     ap (λ (us : List Update). assign vars us vars) (concat-map (λ (l : Label). l .body .updates) label ms ∙ concat-one (λ m. label m .body .updates) ms o (w .member) (w .is-member) (w .others))
 
-module _ (R : ℕ → ℕ → Type 0) (label label' : ℕ → Label) (labels : (m t : ℕ) → R m t → label m ≡ label' t) (ms ts : List ℕ) (w : Matched R ms ts) where
-  pub variables-alike : (vars : List ℤ) → OneAssigns label ms → variablesAfter (map label ms) vars ≡ variablesAfter (map label' ts) vars
-  variables-alike vars a =
-      variables-after label ms vars (w .once-left) a
-      ∙ ap (λ (l : Label). assign vars (l .body .updates) vars) (labels (a .member) (r .0) (r .2))
-      ∙ sym (variables-after label' ts vars (w .once-right) (record {
-        member = r .0;
-        is-member = r .1;
-        others = λ u n d. let y = w .left u n in
-            ap (λ (l : Label). l .body .updates) (sym (labels (y .0) u (y .2))) ∙ a .others (y .0) (y .1) (λ e. d (partner-is R ms ts w (a .is-member) (r .1) (r .2) n (y .0) (y .2) e));
-      }))
-    where
-      r : (t : ℕ) × Mem t ts × R (a .member) t
-      r = w .right (a .member) (a .is-member)
-
 -- clocks after a step: those that some label resets are at 0
 pub length-clocks-after : (ls : List Label) (cs : List ℕ) → length (clocksAfter ls cs) ≡ length cs
 unfolding clocksAfter
@@ -443,6 +429,20 @@ module _ (R : ℕ → ℕ → Type 0) (label label' : ℕ → Label) (labels : (
       any-by p (map-by label' (r .1)) (ap p (sym (m .2 ∙ labels (m .0) (r .0) (r .2))) ∙ x .2)
 
 module _ (R : ℕ → ℕ → Type 0) (label label' : ℕ → Label) (labels : (m t : ℕ) → R m t → label m ≡ label' t) (ms ts : List ℕ) (w : Matched R ms ts) where
+  pub variables-alike : (vars : List ℤ) → OneAssigns label ms → variablesAfter (map label ms) vars ≡ variablesAfter (map label' ts) vars
+  variables-alike vars a =
+      variables-after label ms vars (w .once-left) a
+      ∙ ap (λ (l : Label). assign vars (l .body .updates) vars) (labels (a .member) (r .0) (r .2))
+      ∙ sym (variables-after label' ts vars (w .once-right) (record {
+        member = r .0;
+        is-member = r .1;
+        others = λ u n d. let y = w .left u n in
+            ap (λ (l : Label). l .body .updates) (sym (labels (y .0) u (y .2))) ∙ a .others (y .0) (y .1) (λ e. d (partner-is R ms ts w (a .is-member) (r .1) (r .2) n (y .0) (y .2) e));
+      }))
+    where
+      r : (t : ℕ) × Mem t ts × R (a .member) t
+      r = w .right (a .member) (a .is-member)
+
   -- a test that some label passes
   pub any-alike : (p : Label → Bool) → any p (map label ms) ≡ any p (map label' ts)
   any-alike p = same (any p (map label ms)) (any p (map label' ts)) (any-over R label label' labels ms ts w p) (any-over (λ t m. R m t) label' label (λ t m a. sym (labels m t a)) ts ms (matched-back R ms ts w) p)
