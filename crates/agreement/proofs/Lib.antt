@@ -1,4 +1,8 @@
 -- The proof of demand 3, a file for each step.
+pub mod Sets
 pub mod Relation
 pub mod Claims
+pub mod Standing
+pub mod Temporary
+pub mod Bearing
 pub mod Runs

@@ -16,7 +16,8 @@ use Rattle.chart.specs.Chart.{Chart, Transition, transitionAt, home}
 use Rattle.chart.specs.Tree.{under, entered, sequentials}
 use Rattle.chart.specs.Machine.{isActive, isConfiguration}
 use Rattle.chart.proofs.Tree.{Child}
-use Rattle.flattener.specs.Flatten.{Place, idle, child, pre, post, Pair, number, flagAt, hasExit, hasEntry, marksBelow}
+use Rattle.network.specs.Machine.{boundsKept}
+use Rattle.flattener.specs.Flatten.{Place, idle, child, pre, post, Pair, number, flagAt, hasExit, hasEntry, marksBelow, flatten}
 use Rattle.flattener.specs.Picture.{pictured}
 use Rattle.flattener.proofs.Automata.{Region, regionAt}
 use Rattle.agreement.specs.Agreement.{ChartConfiguration, NetworkConfiguration}
@@ -84,4 +85,6 @@ pub record Related (c : Chart) (σ : ChartConfiguration) (ν : NetworkConfigurat
   pub pending : List Pending
   pub placed : Placed c σ places pending
   pub network-is : ν ≡ standing c places (σ .variables) (σ .clocks)
+  -- those of states that are left already, too: their automata have not heard the exit yet
+  pub bounds-kept : boundsKept (flatten c) ν ≡ true
   pub owed-is : owed ≡ owesAll c pending
