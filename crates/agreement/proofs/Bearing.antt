@@ -150,13 +150,13 @@ module _ (c : Chart) (passed : Passed c) (ranges : Ranges c) where
         let now = atExit c (pictured c σ (regionAt c a)) e in
         let first = atExit c (initialPlace c (regionAt c a)) e in
         let left : has (getD (picture c σ .flags) a 0) e ≡ xor first now =
-            ap (λ (ν : NetworkConfiguration). has (getD (ν .flags) a 0) e) (picture-stands c σ)
-            ∙ ap (λ (b : ℕ). has (getD (standing c (pictured c σ) (σ .variables) (σ .clocks) .flags) b 0) e) (sym (automaton-of-region c a h))
-            ∙ ap (λ (b : ℕ). has b e) (flag-standing c passed (pictured c σ) (σ .variables) (σ .clocks) g)
-            ∙ has-bitsOf _ 8 e small in
+        ap (λ (ν : NetworkConfiguration). has (getD (ν .flags) a 0) e) (picture-stands c σ)
+        ∙ ap (λ (b : ℕ). has (getD (standing c (pictured c σ) (σ .variables) (σ .clocks) .flags) b 0) e) (sym (automaton-of-region c a h))
+        ∙ ap (λ (b : ℕ). has b e) (flag-standing c passed (pictured c σ) (σ .variables) (σ .clocks) g)
+        ∙ has-bitsOf _ 8 e small in
         let right : has (edge c p r t e x l .needed) a ≡ not first =
-            ap (λ (b : ℕ). has b a) (cond-no 0 (onValues c e x) (ne-eqb e 255 (omega arith)))
-            ∙ has-bitsOf _ 16 a (omega (arith, passed .at-most)) ∙ ap (λ (b : Bool). b && not first) i in
+        ap (λ (b : ℕ). has b a) (cond-no 0 (onValues c e x) (ne-eqb e 255 (omega arith)))
+        ∙ has-bitsOf _ 16 a (omega (arith, passed .at-most)) ∙ ap (λ (b : Bool). b && not first) i in
         ap (λ (b : Bool). Bool·beq b (has (edge c p r t e x l .needed) a)) left ∙ ap (Bool·beq (xor first now)) right ∙ says-at first now ∙ at-exit-pictured c σ tree e g
 
     -- an edge's flags agree, just if each automaton that it tests is at the exit
@@ -212,12 +212,13 @@ module _ (c : Chart) (passed : Passed c) (ranges : Ranges c) where
         let composite = source-composite t h (z .0) in
         let is : e ≡ bears (exit) (b .set) = b .edge-is ∙ ap (λ (x : ℕ). bears x (b .set)) (z .1) in
         let r = completed-of-alternative c passed ranges σ tree source exit composite active (b .set) (z .2) (λ a i.
-            flags-agree-at (child source) (departure c t) t exit (b .set) label (omega (arith, exit-lt c passed ranges t h (z .0), ranges .exits-few))
-            (ap (flagsAgree (picture c σ)) (sym is) ∙ flags) a (alternative-lt source exit (b .set) (ends c passed ranges t h .from .known) composite (z .2) a i) i) in
+        flags-agree-at (child source) (departure c t) t exit (b .set) label (omega (arith, exit-lt c passed ranges t h (z .0), ranges .exits-few))
+        (ap (flagsAgree (picture c σ)) (sym is) ∙ flags) a (alternative-lt source exit (b .set) (ends c passed ranges t h .from .known) composite (z .2) a i) i) in
         (both active (both guards (or-r (basic c source) (r .0))), is ∙ ap (bears exit) (r .1 ∙ sym (cond-yes _ 0 (z .0)))))
-        (λ z.
-        (both active (both guards (or-l _ (source-basic t h (z .0)))),
-        b .edge-is ∙ ap (λ (x : ℕ). bears x (b .set)) (z .1 ∙ sym (eqb-true exit 255 (not-false _ (z .0)))) ∙ ap (bears exit) (z .2 ∙ sym (cond-no _ 0 (z .0)))))
+        (λ z. (
+          both active (both guards (or-l _ (source-basic t h (z .0)))),
+          b .edge-is ∙ ap (λ (x : ℕ). bears x (b .set)) (z .1 ∙ sym (eqb-true exit 255 (not-false _ (z .0)))) ∙ ap (bears exit) (z .2 ∙ sym (cond-no _ 0 (z .0))),
+        ))
         (b .tests)
       where
         source : ℕ

@@ -5,4 +5,5 @@ pub mod Claims
 pub mod Standing
 pub mod Temporary
 pub mod Bearing
+pub mod Picture
 pub mod Runs

@@ -147,8 +147,7 @@ module _ (label : ℕ → Label) where
   unfolding oneSends senders
   sender-at ch ms h =
       let r = one-mem (keep p ms) (eqb-true (length (keep p ms)) 1 (and-l (eqb (length (keep p ms)) 1) _ h)) in
-      let k = keep-at p ms (r .1) in
-      (
+      let k = keep-at p ms (r .1) in (
         r .0,
         record {
           is-member = k .0;
@@ -165,10 +164,10 @@ module _ (label : ℕ → Label) where
   unfolding oneSends senders
   sender-by ch ms o s g = both
       (eq-eqb (length (keep p ms)) 1 (one-length (keep p ms) (once-keep p ms o) s (keep-by p ms (g .is-member) (sends-by (label s) ch (g .sent)))
-          (λ y k. let r = keep-at p ms k in ⊎-elim (λ e. e) (λ q. absurd (omega (arith, q .0, sends-at (label y) ch (r .1) .0))) (g .others y (r .0)))))
+      (λ y k. let r = keep-at p ms k in ⊎-elim (λ e. e) (λ q. absurd (omega (arith, q .0, sends-at (label y) ch (r .1) .0))) (g .others y (r .0)))))
       (all-by (λ m. sends (label m) ch || receives (label m) ch) ms (λ m k. ⊎-elim
-          (λ e. or-l (receives (label m) ch) (ap (λ (x : ℕ). sends (label x) ch) e ∙ sends-by (label s) ch (g .sent)))
-          (λ r. or-r (sends (label m) ch) (receives-by (label m) ch r)) (g .others m k)))
+      (λ e. or-l (receives (label m) ch) (ap (λ (x : ℕ). sends (label x) ch) e ∙ sends-by (label s) ch (g .sent)))
+      (λ r. or-r (sends (label m) ch) (receives-by (label m) ch r)) (g .others m k)))
     where
       p : ℕ → Bool
       p m = sends (label m) ch
@@ -185,7 +184,7 @@ module _ (label : ℕ → Label) (owner : ℕ → ℕ) (active : ℕ → Bool) (
   full-at ch ms h k l r a = ⊎-elim
       (λ e. let j = map-at owner ms (elem-at (owner k) (map owner ms) e) in (j .0, j .1, sym (j .2)))
       (λ e. clash (both (receives-by (label k) ch r) (both a (not-yes e)))
-          (not-true (receives (label k) ch && (active k && not (elem (owner k) (map owner ms)))) (all-below (λ m. not (receives (label m) ch && (active m && not (elem (owner m) (map owner ms))))) count h k l)))
+      (not-true (receives (label k) ch && (active k && not (elem (owner k) (map owner ms)))) (all-below (λ m. not (receives (label m) ch && (active m && not (elem (owner m) (map owner ms))))) count h k l)))
       (decided (elem (owner k) (map owner ms)))
 
   pub full-by : (ch : ℕ) (ms : List ℕ) → Full label owner active count ch ms → maximal label owner active count ch ms ≡ true
