@@ -37,7 +37,7 @@ use Rattle.flattener.proofs.Bounds.{active-child}
 use Rattle.flattener.proofs.Edges.{Bears, BearsFrom, Leaves, edges-at, edges-by, source-of, owner-of}
 use Rattle.agreement.specs.Agreement.{ChartConfiguration, NetworkConfiguration}
 use Rattle.agreement.proofs.Relation.{standing}
-use Rattle.agreement.proofs.Temporary.{Fits, place-standing, flag-standing}
+use Rattle.agreement.proofs.Standing.{Fits, place-standing, flag-standing}
 
 -- the picture is a standing configuration
 pub picture-stands : (c : Chart) (σ : ChartConfiguration) → picture c σ ≡ standing c (pictured c σ) (σ .variables) (σ .clocks)
@@ -259,7 +259,7 @@ module _ (c : Chart) (passed : Passed c) (ranges : Ranges c) where
       unfolding activeTransition
       source-active = and-l (isActive σ (transitionAt c t .source)) _ k
 
-      exit-completed : hasExit c t ≡ true → completed c σ (transitionAt c t .source) (transitionAt c t .exit) ≡ true
+      pub exit-completed : hasExit c t ≡ true → completed c σ (transitionAt c t .source) (transitionAt c t .exit) ≡ true
       unfolding activeTransition
       exit-completed z = or-else (basic c (transitionAt c t .source)) _ (and-r (guardsHold (σ .variables) (σ .clocks) (transitionAt c t .label)) _ (and-r (isActive σ (transitionAt c t .source)) _ k)) (source-composite t h z)
 

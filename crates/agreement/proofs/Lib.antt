@@ -3,7 +3,9 @@ pub mod Sets
 pub mod Relation
 pub mod Claims
 pub mod Standing
-pub mod Temporary
 pub mod Bearing
+pub mod Accepted
+pub mod Departing
 pub mod Picture
+pub mod Borne
 pub mod Runs

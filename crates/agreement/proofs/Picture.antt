@@ -1,58 +1,44 @@
 -- The picture of a configuration: it is what is related with nothing owed (`settled-is-picture`, `picture-is-settled`); the
 -- network starts in the picture of the chart's start (`start-is-picture`); waits get the same answer (`waits-alike`) and lead
--- to a picture (`wait-is-picture`); and no move from it is urgent (`no-urgent-move`).
+-- to a picture (`wait-is-picture`).
 use mathlib.Core.Path.{_≡_, refl, sym, ap, _∙_, subst, subst₂}
 use mathlib.Core.Bool.{Bool, true, false, cond, not, _&&_, xor}
-use mathlib.Core.Logic.{inr, ⊎-elim, _≢_}
-use mathlib.Core.List.{List, [], _∷_, map, List·Memᴰ as Mem, List·Memᴰ·head as here, List·Memᴰ·tail as there, List·Memᴰ·not-nil as not-nil}
-use Prim.Native.Nat.{ℕ, zero, suc, _+_, _≤_, _<_}
+use mathlib.Core.List.{List, [], _∷_, map, List·Memᴰ as Mem, List·Memᴰ·not-nil as not-nil}
+use Prim.Native.Nat.{ℕ, _+_, _≤_, _<_}
 use native.Mathlib.Omega.{arith}
-use borrow.Author.Tests.{eqb-false, lt-ltb, ltb-true, le-leb, not-true}
+use borrow.Author.Tests.{lt-ltb, ltb-true}
 use lib.Dec.{eqb, ltb, leb}
 use lib.IntN.{ℤ, pos}
-use lib.ListN.{length, getD, drop, replicate}
-use Rattle.expr.specs.Lists.{has, all, below, keep, bitsOf}
-use Rattle.expr.specs.Answer.{Answer, done, refused, unless}
-use Rattle.expr.specs.Clocks.{clock-limit, later, inLimit, zeroPast}
-use Rattle.expr.specs.Moves.{known, zerosPast, isZero}
-use Rattle.expr.proofs.Bools.{parts, clash, and-l, and-r, both, not-yes}
-use Rattle.expr.proofs.Lists.{Once, all-at, below-all, getD-mem, mem-some, none-any, map-by, keep-at, keep-map, once-keep, ascending-once}
+use lib.ListN.{length, getD, replicate}
+use Rattle.expr.specs.Lists.{below, bitsOf}
+use Rattle.expr.specs.Answer.{done, unless}
+use Rattle.expr.specs.Clocks.{later, inLimit, zeroPast}
+use Rattle.expr.specs.Moves.{zerosPast}
+use Rattle.expr.proofs.Bools.{parts, and-r, both, not-yes}
+use Rattle.expr.proofs.Lists.{getD-mem, mem-some, none-any, map-same}
 use Rattle.expr.proofs.Bits.{bits-same}
-use Rattle.expr.proofs.Answer.{unless-at, unless-by}
-use Rattle.expr.proofs.Moves.{Allowed, allowed-at, distinct-by}
+use Rattle.expr.proofs.Answer.{unless-at, unless-by, done-injective}
 use Rattle.expr.proofs.Rows.{ClockValues, values-in-limit, zero-past-later}
-use Rattle.chart.specs.Chart.{Chart, parentOf, home}
+use Rattle.chart.specs.Chart.{Chart}
 use Rattle.chart.specs.Tree.{sequentials, entered}
 use Rattle.chart.specs.Machine as chart
-use Rattle.chart.proofs.Entered.{Entry, entered-child, entered-marked}
+use Rattle.chart.proofs.Entered.{entered-child, entered-marked}
 use Rattle.chart.proofs.Rules.{Passed}
 use Rattle.chart.proofs.Ranges.{Ranges}
 use Rattle.chart.proofs.After.{start-active}
-use Rattle.chart.proofs.Step.{configuration-tree, configuration-clocks, configuration-bounds, start-tree, start-bounds}
-use Rattle.network.specs.Network.{Edge, Network, locationAt, ownerOf, initials}
+use Rattle.chart.proofs.Step.{configuration-tree, configuration-clocks, configuration-bounds, root-entry, start-tree, start-configuration}
+use Rattle.network.specs.Network.{initials}
 use Rattle.network.specs.Machine as network
-use Rattle.flattener.specs.Flatten.{Place, idle, child, pre, post, number, automaton, placeHome, flagAt, atExit, initialPlace, markedChild, edge, ownEdge, flatten}
+use Rattle.flattener.specs.Flatten.{Place, idle, child, number, flagAt, atExit, initialPlace, markedChild, flatten}
 use Rattle.flattener.specs.Picture.{pictured, picture}
 use Rattle.flattener.proofs.Automata.{Region, regionAt, region-at, marked-child}
-use Rattle.flattener.proofs.Numbers.{IsPlace, urgent-of-place}
-use Rattle.flattener.proofs.Edges.{Leaves, edges-at, source-of, owner-of, edge-at-mem}
 use Rattle.flattener.proofs.Sound.{initials-at, initials-by}
 use Rattle.flattener.proofs.Bounds.{bounds-pictured}
-use Rattle.agreement.specs.Agreement.{ChartConfiguration, NetworkConfiguration, isUrgent, Accepts, Alike}
-use Rattle.agreement.proofs.Sets.{map-once-on}
+use Rattle.agreement.specs.Agreement.{ChartConfiguration, Alike}
 use Rattle.agreement.proofs.Relation.{standing, Pending, owes, owesAll, Related}
-use Rattle.agreement.proofs.Claims.{SettledIsPicture, PictureIsSettled, StartIsPicture, StartIsConfiguration, BearsOnce, NoUrgentMove, WaitsAlike, WaitIsPicture}
-use Rattle.agreement.proofs.Standing.{bounds-standing, urgent-standing, active-leaves, configuration-standing}
+use Rattle.agreement.proofs.Claims.{SettledIsPicture, PictureIsSettled, StartIsPicture, StartIsConfiguration, WaitsAlike, WaitIsPicture}
+use Rattle.agreement.proofs.Standing.{bounds-standing, urgent-standing, configuration-standing}
 use Rattle.agreement.proofs.Bearing.{picture-stands, pictured-idle, pictured-child, pictured-fits, pictured-not-urgent}
-
-done-injective : {A : Type 0} {a b : A} → done a ≡ done b → a ≡ b
-done-injective e = cc
-
--- lists
-
-map-same : {A B : Type 0} (f g : A → B) (xs : List A) → ((x : A) → Mem x xs → f x ≡ g x) → map f xs ≡ map g xs
-map-same f g [] h = refl
-map-same f g (x ∷ xs) h = λ i. h x (here refl) i ∷ map-same f g xs (λ y m. h y (there m)) i
 
 -- what stands for each automaton, and nothing past them
 automata-same : (c : Chart) {A : Type 0} (f g : ℕ → A) (z : A) → ((a : ℕ) → a < length (sequentials c) → f a ≡ g a)
@@ -127,37 +113,13 @@ picture-is-settled c passed ranges σ h = record {
 
 -- the start
 
-all-past : {A : Type 0} (p : A → Bool) (z : A) → p z ≡ true → (n m : ℕ) → all p (drop n (replicate m z)) ≡ true
-unfolding all
-all-past p z h zero zero = refl
-all-past p z h zero (suc m) = both h (all-past p z h zero m)
-all-past p z h (suc n) zero = refl
-all-past p z h (suc n) (suc m) = all-past p z h n m
-
-zeros-at : (m i : ℕ) → _≡_ {A = ℕ} (getD (replicate m 0) i 0) 0
-zeros-at zero i = refl
-zeros-at (suc m) zero = refl
-zeros-at (suc m) (suc i) = zeros-at m i
-
 pub start-is-configuration : StartIsConfiguration
-unfolding chart.isConfiguration chart.start zerosPast zeroPast inLimit isZero
-start-is-configuration c passed ranges =
-    both (start-tree c passed ranges)
-    (both (all-past isZero (pos 0) refl (c .variables) 16)
-    (both (below-all _ (c .clocks) (λ i l. le-leb (getD (replicate 8 0) i 0) clock-limit (omega (arith, zeros-at 8 i))))
-    (both (all-past (λ x. eqb x 0) 0 refl (c .clocks) 8) (start-bounds c))))
+start-is-configuration c passed ranges = start-configuration c passed ranges
 
 -- where an automaton starts
 module _ (c : Chart) (passed : Passed c) (ranges : Ranges c) where
   known-root : 0 < length (c .states)
   known-root = omega (arith, ranges .states-some)
-
-  root-entry : Entry c 0 0
-  unfolding has
-  root-entry = inr (omega arith, ranges .entries-some, ap (λ (x : ℕ). has x 0) (passed .entry-marks .root) ∙ first)
-    where
-      first : has 1 0 ≡ true
-      first = refl
 
   started : {s : ℕ} → s < length (c .states) → chart.isActive (chart.start c) s ≡ entered c 0 0 s
   started {s} h = start-active c (ranges .states-few) s ∙ ap (λ (b : Bool). b && entered c 0 0 s) (lt-ltb s (length (c .states)) h)
@@ -169,7 +131,7 @@ module _ (c : Chart) (passed : Passed c) (ranges : Ranges c) where
       go : (b : Bool) → entered c 0 0 q ≡ b → cond b (child (markedChild c q 0)) (idle q) ≡ pictured c (chart.start c) q
       go true e =
           let m = marked-child c (passed .entry-marks) q 0 g (ranges .entries-some) (entered-marked c (passed .tree) (passed .entry-marks) 0 known-root q (omega arith) e) in
-          sym (pictured-child c (chart.start c) (start-tree c passed ranges) g (m .0) (started (m .0 .known) ∙ entered-child c (passed .tree) (passed .entry-marks) 0 known-root q (markedChild c q 0) root-entry (m .0) e (m .1)))
+          sym (pictured-child c (chart.start c) (start-tree c passed ranges) g (m .0) (started (m .0 .known) ∙ entered-child c (passed .tree) (passed .entry-marks) 0 known-root q (markedChild c q 0) (root-entry c passed ranges) (m .0) e (m .1)))
       go false e = sym (pictured-idle c (chart.start c) q (started (g .known) ∙ e))
 
   -- its flags are 0
@@ -257,71 +219,3 @@ wait-is-picture c passed ranges σ τ d e =
       network-waits c passed ranges σ h d ∙ unless-by 22 _ (t .0) ∙ unless-by 21 _ (k .0) ∙ ap (λ (x : ChartConfiguration). done (picture c x)) s,
       subst (λ (x : ChartConfiguration). chart.isConfiguration c x ≡ true) s (waited-configuration c passed ranges σ h d (t .0) (k .0)),
     )
-
--- moves
-
--- what a move that is not refused says
-pub record Move (n : Network) (ν : NetworkConfiguration) (ms : List ℕ) : Type 0 where
-  pub given : network.isConfiguration n ν ≡ true
-  pub each-known : (m : ℕ) → Mem m ms → m < length (n .edges)
-  pub each-active : (m : ℕ) → Mem m ms → network.activeEdge n ν (network.edgeAt n m) ≡ true
-  pub is-allowed : Allowed (λ m. network.edgeAt n m .label) (λ m. ownerOf n (network.edgeAt n m)) ms
-  pub once : Once ms
-
-pub move-at : (n : Network) (ν : NetworkConfiguration) (ms : List ℕ) → Accepts (network.step n ν ms) → Move n ν ms
-unfolding network.step Accepts known
-move-at n ν ms k =
-    let a = unless-at 26 _ _ (k .1) in
-    let b = unless-at 18 _ _ (a .1) in
-    let d = unless-at 19 _ _ (b .1) in
-    let e = unless-at 27 _ _ (d .1) in
-    let f = unless-at 20 _ _ (e .1) in
-    let s = b .0 in
-    record {
-      given = a .0;
-      each-known = λ m i. ltb-true m (length (n .edges)) (all-at (λ m. ltb m (length (n .edges))) ms (search parts) i);
-      each-active = λ m i. all-at _ _ (d .0) (map-by (network.edgeAt n) i);
-      is-allowed = allowed-at _ _ _ _ _ ms (f .0);
-      once = ascending-once ms (search parts);
-    }
-
--- no edge that is active in a picture leaves an urgent place
-pub no-urgent-move : NoUrgentMove
-unfolding isUrgent network.urgentAt
-no-urgent-move c passed ranges σ h ms k = none-any _ ms (λ m i.
-    let s = move-at (flatten c) (picture c σ) ms k in
-    let l = active-leaves c passed (pictured c σ) (σ .variables) (σ .clocks) (pictured-fits c σ (configuration-tree c σ h)) (edge-at-mem (flatten c) m (s .each-known m i))
-    (ap (λ (ν : NetworkConfiguration). network.activeEdge (flatten c) ν (network.edgeAt (flatten c) m)) (sym (picture-stands c σ)) ∙ s .each-active m i) in
-    ap (λ (x : ℕ). eqb x 1) (ap (λ (x : ℕ). locationAt (flatten c) x .urgent) (source-of c (pictured c σ (l .0)) _ (l .2))
-    ∙ urgent-of-place c (pictured-fits c σ (configuration-tree c σ h) (l .0) (l .1) .is-place) ∙ pictured-not-urgent c σ (l .0)))
-
--- an edge that bears a transition is of its home's automaton
-bearer : (c : Chart) {e : Edge} → Mem e (flatten c .edges) → e .transition ≢ 255 → ownerOf (flatten c) e ≡ automaton c (home c (e .transition))
-unfolding edge ownEdge home placeHome
-bearer c {e} m d = let r = edges-at c m in go (r .0) (r .1) (r .2)
-  where
-    go : (p : Place) → IsPlace c p → Leaves c p e → ownerOf (flatten c) e ≡ automaton c (home c (e .transition))
-    go (idle q) j l = absurd (d (ap (λ (x : Edge). x .transition) (l .edge-is)))
-    go (child s) j l = ⊎-elim
-        (λ i. absurd (d (ap (λ (x : Edge). x .transition) (i .edge-is))))
-        (λ i. owner-of c (child s) e j l ∙ ap (λ (x : ℕ). automaton c (parentOf c x)) (sym (i .source-is)) ∙ ap (λ (t : ℕ). automaton c (home c t)) (sym (ap (λ (x : Edge). x .transition) (i .bears .edge-is))))
-        l
-    go (pre p) j l = absurd (d (ap (λ (x : Edge). x .transition) l))
-    go (post t) j l = absurd (d (ap (λ (x : Edge). x .transition) l))
-
-pub bears-once : BearsOnce
-bears-once c passed ranges ν ms k =
-    let s = move-at (flatten c) ν ms k in
-    distinct-by _ (subst Once (sym (keep-map (λ t. not (eqb t 255)) borne-by ms)) (map-once-on borne-by (keep bears ms) (λ a b i j e. same s a b (keep-at bears ms i) (keep-at bears ms j) e) (once-keep bears ms (s .once))))
-  where
-    borne-by : ℕ → ℕ
-    borne-by m = network.edgeAt (flatten c) m .transition
-
-    bears : ℕ → Bool
-    bears m = not (eqb (borne-by m) 255)
-
-    owner : (s : Move (flatten c) ν ms) (m : ℕ) → Mem m ms × (bears m ≡ true) → ownerOf (flatten c) (network.edgeAt (flatten c) m) ≡ automaton c (home c (borne-by m))
-    owner s m i = bearer c (edge-at-mem (flatten c) m (s .each-known m (i .0))) (eqb-false _ 255 (not-true _ (i .1)))
-
-    same : Move (flatten c) ν ms → (a b : ℕ) → Mem a ms × (bears a ≡ true) → Mem b ms × (bears b ≡ true) → borne-by a ≡ borne-by b → a ≡ b
-    same s a b i j e = s .is-allowed .owners a b (i .0) (j .0) (owner s a i ∙ ap (λ (t : ℕ). automaton c (home c t)) e ∙ sym (owner s b j))

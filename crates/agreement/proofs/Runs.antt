@@ -8,7 +8,7 @@ use native.Mathlib.Omega.{arith}
 use native.Mathlib.Decide.{ℕ-discrete}
 use Rattle.expr.specs.Answer.{Answer, done, refused}
 use Rattle.expr.proofs.Bools.{clash}
-use Rattle.expr.proofs.Answer.{refused-not}
+use Rattle.expr.proofs.Answer.{refused-not, done-injective}
 use Rattle.chart.specs.Chart.{Chart}
 use Rattle.chart.specs.Rules.{chartOf}
 use Rattle.chart.specs.Machine as chart
@@ -33,9 +33,6 @@ alike-accepts (done a) (done b) h k = (b, refl)
 alike-accepts (done a) (refused j) h k = absurd h
 alike-accepts (refused i) (done b) h k = absurd h
 alike-accepts (refused i) (refused j) h k = refused-not (k .1)
-
-done-injective : {A : Type 0} {a b : A} → done a ≡ done b → a ≡ b
-done-injective e = cc
 
 -- a list that is accepted: its first call, and the rest
 accepts-first : (c : Chart) (σ : ChartConfiguration) (x : Call) (xs : List Call) → acceptsAll c σ (x ∷ xs) ≡ true → (τ : ChartConfiguration) × (onChart c σ x ≡ done τ) × (acceptsAll c τ xs ≡ true)

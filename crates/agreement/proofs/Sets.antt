@@ -257,3 +257,212 @@ module _ (label : ℕ → Label) (owner : ℕ → ℕ) (active : ℕ → Bool) (
 -- an allowed set has some member
 pub allowed-some : {label : ℕ → Label} {owner : ℕ → ℕ} {active : ℕ → Bool} {count rendezvous : ℕ} {ms : List ℕ} → AllowedSet label owner active count rendezvous ms → (m : ℕ) × Mem m ms
 allowed-some w = ⊎-elim (λ a. (a .member, a .is-member)) (λ j. (j .sender, j .signalled .is-member)) (w .signals)
+
+-- the members of two lists correspond by R, each to one
+pub record Matched (R : ℕ → ℕ → Type 0) (ms ts : List ℕ) : Type 0 where
+  pub once-left : Once ms
+  pub once-right : Once ts
+  pub right : (m : ℕ) → Mem m ms → (t : ℕ) × Mem t ts × R m t
+  pub left : (t : ℕ) → Mem t ts → (m : ℕ) × Mem m ms × R m t
+  pub one-right : (m t u : ℕ) → Mem m ms → Mem t ts → Mem u ts → R m t → R m u → t ≡ u
+  pub one-left : (m k t : ℕ) → Mem m ms → Mem k ms → Mem t ts → R m t → R k t → m ≡ k
+
+module _ (R : ℕ → ℕ → Type 0) (ms ts : List ℕ) where
+  pub matched-back : Matched R ms ts → Matched (λ t m. R m t) ts ms
+  matched-back w = record {
+    once-left = w .once-right;
+    once-right = w .once-left;
+    right = w .left;
+    left = w .right;
+    one-right = λ t m k n p q a b. w .one-left m k t p q n a b;
+    one-left = λ t u m n p k a b. w .one-right m t u k n p a b;
+  }
+
+  -- where a function tells the partner of each
+  pub matched-by : (g : ℕ → ℕ) → Once ms → Once ts → ((m : ℕ) → Mem m ms → Mem (g m) ts × R m (g m)) → ((t : ℕ) → Mem t ts → (m : ℕ) × Mem m ms × (g m ≡ t))
+      → ((m t : ℕ) → R m t → g m ≡ t) → ((m k : ℕ) → Mem m ms → Mem k ms → g m ≡ g k → m ≡ k) → Matched R ms ts
+  matched-by g o q f h e i = record {
+    once-left = o;
+    once-right = q;
+    right = λ m k. (g m, f m k .0, f m k .1);
+    left = λ t n. let r = h t n in (r .0, r .1, subst (R (r .0)) (r .2) (f (r .0) (r .1) .1));
+    one-right = λ m t u k n p a b. sym (e m t a) ∙ e m u b;
+    one-left = λ m k t n p q a b. i m k n p (e m t a ∙ sym (e k t b));
+  }
+
+  -- what a partner of the partner's is
+  partner-is : Matched R ms ts → {m t u : ℕ} → Mem m ms → Mem t ts → R m t → Mem u ts → (k : ℕ) → R k u → k ≡ m → u ≡ t
+  partner-is w {m} {t} {u} p q a n k b e = w .one-right m u t p n q (subst (λ (x : ℕ). R x u) e b) a
+
+  matched-at-most : Matched R ms ts → length ms ≤ length ts
+  matched-at-most w =
+      partners-length (λ m t. Mem m ms × Mem t ts × R m t) ms ts (w .once-left) (λ m k. let r = w .right m k in (r .0, r .1, (k, r .1, r .2))) (λ m k t a b. w .one-left m k t (a .0) (b .0) (a .1) (a .2) (b .2))
+
+pub matched-length : (R : ℕ → ℕ → Type 0) (ms ts : List ℕ) → Matched R ms ts → length ms ≡ length ts
+matched-length R ms ts w = omega (arith, matched-at-most R ms ts w, matched-at-most (λ t m. R m t) ts ms (matched-back R ms ts w))
+
+-- two families of members with labels and owners: R relates those of equal labels and of owners that correspond
+pub record Corresponds (R : ℕ → ℕ → Type 0) (label : ℕ → Label) (owner : ℕ → ℕ) (label' : ℕ → Label) (owner' : ℕ → ℕ) : Type 0 where
+  pub labels : (m t : ℕ) → R m t → label m ≡ label' t
+  pub owners : (m k t u : ℕ) → R m t → R k u → owner m ≡ owner k → owner' t ≡ owner' u
+  pub owners-back : (m k t u : ℕ) → R m t → R k u → owner' t ≡ owner' u → owner m ≡ owner k
+
+pub corresponds-back : (R : ℕ → ℕ → Type 0) (label : ℕ → Label) (owner : ℕ → ℕ) (label' : ℕ → Label) (owner' : ℕ → ℕ) → Corresponds R label owner label' owner' → Corresponds (λ t m. R m t) label' owner' label owner
+corresponds-back R label owner label' owner' c = record {
+  labels = λ t m a. sym (c .labels m t a);
+  owners = λ t u m k a b. c .owners-back m k t u a b;
+  owners-back = λ t u m k a b. c .owners m k t u a b;
+}
+
+-- each active receiver on a channel that a member of ms sends on has an active partner
+abbrev pub Heard : (ℕ → ℕ → Type 0) → (ℕ → Label) → (ℕ → Bool) → ℕ → (ℕ → Bool) → ℕ → List ℕ → Type 0
+Heard R label active count active' count' ms = (m ch k : ℕ) → Mem m ms → Sends (label m) ch → k < count → Receives (label k) ch → active k ≡ true → (u : ℕ) × (u < count') × (active' u ≡ true) × R k u
+
+-- then a set is allowed where the other is
+module _ (R : ℕ → ℕ → Type 0) (label : ℕ → Label) (owner : ℕ → ℕ) (active : ℕ → Bool) (count : ℕ) (label' : ℕ → Label) (owner' : ℕ → ℕ) (active' : ℕ → Bool) (count' : ℕ) (rendezvous : ℕ) (ms ts : List ℕ) where
+  allowed-over : Corresponds R label owner label' owner' → Matched R ms ts → Heard (λ t m. R m t) label' active' count' active count ts
+      → AllowedSet label owner active count rendezvous ms → AllowedSet label' owner' active' count' rendezvous ts
+  allowed-over c w h a = record {
+    owners = λ t u p q e. let x = w .left t p in let y = w .left u q in
+        partner-is R ms ts w (y .1) q (y .2) p (x .0) (x .2) (a .owners (x .0) (y .0) (x .1) (y .1) (c .owners-back (x .0) (y .0) t u (x .2) (y .2) e));
+    once = w .once-right;
+    signals = ⊎-elim (λ s. inl (alone s)) (λ j. inr (joint j)) (a .signals);
+  }
+    where
+      alone : Alone label ms → Alone label' ts
+      alone s =
+          let r = w .right (s .member) (s .is-member) in
+          record {
+            member = r .0;
+            is-member = r .1;
+            only = λ u n. let y = w .left u n in partner-is R ms ts w (s .is-member) (r .1) (r .2) n (y .0) (y .2) (s .only (y .0) (y .1));
+            silent = ap (λ (l : Label). l .signal) (sym (c .labels (s .member) (r .0) (r .2))) ∙ s .silent;
+          }
+
+      other : {s t : ℕ} → Mem s ms → Mem t ts → R s t → OneOther s ms → OneOther t ts
+      other {s} {t} p q b o =
+          let z = w .right (o .other) (o .is-member) in
+          record {
+            other = z .0;
+            is-member = z .1;
+            differs = λ e. o .differs (w .one-left (o .other) s t (o .is-member) p q (subst (R (o .other)) e (z .2)) b);
+            only = λ u n. let y = w .left u n in ⊎-elim (λ e. inl (partner-is R ms ts w p q b n (y .0) (y .2) e)) (λ e. inr (partner-is R ms ts w (o .is-member) (z .1) (z .2) n (y .0) (y .2) e)) (o .only (y .0) (y .1));
+          }
+
+      full : (t ch : ℕ) → Mem t ts → Sends (label' t) ch → Full label owner active count ch ms → Full label' owner' active' count' ch ts
+      full t ch q s f u l r b =
+          let k = h t ch u q s l r b in
+          let g = f (k .0) (k .1) (subst (λ (x : Label). Receives x ch) (sym (c .labels (k .0) u (k .3))) r) (k .2) in
+          let z = w .right (g .0) (g .1) in
+          (z .0, z .1, c .owners (g .0) (k .0) (z .0) u (z .2) (k .3) (g .2))
+
+      joint : Joint label owner active count rendezvous ms → Joint label' owner' active' count' rendezvous ts
+      joint j =
+          let s = j .signalled in
+          let r = w .right (j .sender) (s .is-member) in
+          let sent : Sends (label' (r .0)) (j .channel) = subst (λ (x : Label). Sends x (j .channel)) (c .labels (j .sender) (r .0) (r .2)) (s .sent) in
+          record {
+            sender = r .0;
+            channel = j .channel;
+            signalled = record {
+              is-member = r .1;
+              sent = sent;
+              others = λ u n. let y = w .left u n in ⊎-elim (λ e. inl (partner-is R ms ts w (s .is-member) (r .1) (r .2) n (y .0) (y .2) e)) (λ q. inr (subst (λ (x : Label). Receives x (j .channel)) (c .labels (y .0) u (y .2)) q)) (s .others (y .0) (y .1));
+            };
+            fits = ⊎-elim (λ f. inl (f .0, other (s .is-member) (r .1) (r .2) (f .1))) (λ f. inr (f .0, full (r .0) (j .channel) (r .1) sent (f .1))) (j .fits);
+          }
+
+module _ (R : ℕ → ℕ → Type 0) (label : ℕ → Label) (owner : ℕ → ℕ) (active : ℕ → Bool) (count : ℕ) (label' : ℕ → Label) (owner' : ℕ → ℕ) (active' : ℕ → Bool) (count' : ℕ) (rendezvous : ℕ) (ms ts : List ℕ) where
+  pub allowed-alike : Corresponds R label owner label' owner' → Matched R ms ts → Heard R label active count active' count' ms → Heard (λ t m. R m t) label' active' count' active count ts
+      → allowed label owner active count rendezvous ms ≡ allowed label' owner' active' count' rendezvous ts
+  allowed-alike c w h k =
+      same (allowed label owner active count rendezvous ms) (allowed label' owner' active' count' rendezvous ts)
+      (λ a. allowed-set-by label' owner' active' count' rendezvous ts (allowed-over R label owner active count label' owner' active' count' rendezvous ms ts c w k (allowed-set-at label owner active count rendezvous ms a)))
+      (λ a. allowed-set-by label owner active count rendezvous ms (allowed-over (λ t m. R m t) label' owner' active' count' label owner active count rendezvous ts ms (corresponds-back R label owner label' owner' c) (matched-back R ms ts w) h (allowed-set-at label' owner' active' count' rendezvous ts a)))
+
+-- at most one member has assignments
+pub record OneAssigns (label : ℕ → Label) (ms : List ℕ) : Type 0 where
+  pub member : ℕ
+  pub is-member : Mem member ms
+  pub others : (m : ℕ) → Mem m ms → m ≢ member → label m .body .updates ≡ []
+
+-- the sender or the one member, if receivers assign nothing
+pub one-assigns : {label : ℕ → Label} {owner : ℕ → ℕ} {active : ℕ → Bool} {count rendezvous : ℕ} {ms : List ℕ} → AllowedSet label owner active count rendezvous ms
+    → ((m : ℕ) → Mem m ms → label m .signal ≡ 2 → label m .body .updates ≡ []) → OneAssigns label ms
+one-assigns w f = ⊎-elim
+    (λ a. record { member = a .member; is-member = a .is-member; others = λ m k d. absurd (d (a .only m k)) })
+    (λ j. record { member = j .sender; is-member = j .signalled .is-member; others = λ m k d. ⊎-elim (λ e. absurd (d e)) (λ r. f m k (r .0)) (j .signalled .others m k) })
+    (w .signals)
+
+concat-none : {A B : Type 0} (f : A → List B) (xs : List A) → ((x : A) → Mem x xs → f x ≡ []) → concat f xs ≡ []
+unfolding concat
+concat-none f [] h = refl
+concat-none f (x ∷ xs) h = rw (h x (here refl)) (concat-none f xs (λ y m. h y (there m)))
+
+-- of lists one after the other, where only that of x has elements
+pub concat-one : {A B : Type 0} (f : A → List B) (xs : List A) → Once xs → (x : A) → Mem x xs → ((y : A) → Mem y xs → y ≢ x → f y ≡ []) → concat f xs ≡ f x
+unfolding concat
+concat-one f (z ∷ zs) o x (here e) h =
+    rw (concat-none f zs (λ y m. h y (there m) (λ q. o .0 (cast (sym (q ∙ e)) m))), e) (append-nil (f z))
+concat-one f (z ∷ zs) o x (there m) h = rw (h z (here refl) (λ q. o .0 (cast q m))) (concat-one f zs (o .1) x m (λ y n. h y (there n)))
+
+concat-map : {A B C : Type 0} (f : B → List C) (g : A → B) (xs : List A) → concat f (map g xs) ≡ concat (λ x. f (g x)) xs
+unfolding concat
+concat-map f g [] = refl
+concat-map f g (x ∷ xs) = ap (λ (l : List _). f (g x) ++ l) (concat-map f g xs)
+
+-- the assignments of a set are those of the one member
+pub variables-after : (label : ℕ → Label) (ms : List ℕ) (vars : List ℤ) → Once ms → (w : OneAssigns label ms) → variablesAfter (map label ms) vars ≡ assign vars (label (w .member) .body .updates) vars
+unfolding variablesAfter
+variables-after label ms vars o w =
+    ap (λ (us : List Update). assign vars us vars) (concat-map (λ (l : Label). l .body .updates) label ms ∙ concat-one (λ m. label m .body .updates) ms o (w .member) (w .is-member) (w .others))
+
+module _ (R : ℕ → ℕ → Type 0) (label label' : ℕ → Label) (labels : (m t : ℕ) → R m t → label m ≡ label' t) (ms ts : List ℕ) (w : Matched R ms ts) where
+  pub variables-alike : (vars : List ℤ) → OneAssigns label ms → variablesAfter (map label ms) vars ≡ variablesAfter (map label' ts) vars
+  variables-alike vars a =
+      variables-after label ms vars (w .once-left) a
+      ∙ ap (λ (l : Label). assign vars (l .body .updates) vars) (labels (a .member) (r .0) (r .2))
+      ∙ sym (variables-after label' ts vars (w .once-right) (record {
+        member = r .0;
+        is-member = r .1;
+        others = λ u n d. let y = w .left u n in
+            ap (λ (l : Label). l .body .updates) (sym (labels (y .0) u (y .2))) ∙ a .others (y .0) (y .1) (λ e. d (partner-is R ms ts w (a .is-member) (r .1) (r .2) n (y .0) (y .2) e));
+      }))
+    where
+      r : (t : ℕ) × Mem t ts × R (a .member) t
+      r = w .right (a .member) (a .is-member)
+
+-- clocks after a step: those that some label resets are at 0
+pub length-clocks-after : (ls : List Label) (cs : List ℕ) → length (clocksAfter ls cs) ≡ length cs
+unfolding clocksAfter
+length-clocks-after [] cs = refl
+length-clocks-after (l ∷ ls) cs = length-clocks-after ls (reset (l .resets) cs) ∙ length-reset (l .resets) cs
+
+pub getD-clocks-after : (ls : List Label) (cs : List ℕ) (i : ℕ) → getD (clocksAfter ls cs) i 0 ≡ cond (any (λ l. has (l .resets) i) ls) 0 (getD cs i 0)
+unfolding clocksAfter any
+getD-clocks-after [] cs i = refl
+getD-clocks-after (l ∷ ls) cs i = getD-clocks-after ls (reset (l .resets) cs) i ∙ ap (λ (c : ℕ). cond (any (λ l. has (l .resets) i) ls) 0 c) (getD-reset (l .resets) cs i) ∙ either (any (λ l. has (l .resets) i) ls) (has (l .resets) i) (getD cs i 0)
+  where
+    either : (a b : Bool) (c : ℕ) → cond a 0 (cond b 0 c) ≡ cond (b || a) 0 c
+    either true true c = refl
+    either true false c = refl
+    either false true c = refl
+    either false false c = refl
+
+module _ (R : ℕ → ℕ → Type 0) (label label' : ℕ → Label) (labels : (m t : ℕ) → R m t → label m ≡ label' t) (ms ts : List ℕ) (w : Matched R ms ts) where
+  any-over : (p : Label → Bool) → any p (map label ms) ≡ true → any p (map label' ts) ≡ true
+  any-over p h =
+      let x = any-at p (map label ms) h in
+      let m = map-at label ms (x .1) in
+      let r = w .right (m .0) (m .1) in
+      any-by p (map-by label' (r .1)) (ap p (sym (m .2 ∙ labels (m .0) (r .0) (r .2))) ∙ x .2)
+
+module _ (R : ℕ → ℕ → Type 0) (label label' : ℕ → Label) (labels : (m t : ℕ) → R m t → label m ≡ label' t) (ms ts : List ℕ) (w : Matched R ms ts) where
+  -- a test that some label passes
+  pub any-alike : (p : Label → Bool) → any p (map label ms) ≡ any p (map label' ts)
+  any-alike p = same (any p (map label ms)) (any p (map label' ts)) (any-over R label label' labels ms ts w p) (any-over (λ t m. R m t) label' label (λ t m a. sym (labels m t a)) ts ms (matched-back R ms ts w) p)
+
+  pub clocks-alike : (cs : List ℕ) → clocksAfter (map label ms) cs ≡ clocksAfter (map label' ts) cs
+  clocks-alike cs =
+      ext-getD 0 (clocksAfter (map label ms) cs) (clocksAfter (map label' ts) cs) (length-clocks-after (map label ms) cs ∙ sym (length-clocks-after (map label' ts) cs))
+      (λ i h. getD-clocks-after (map label ms) cs i ∙ ap (λ (b : Bool). cond b 0 (getD cs i 0)) (any-alike (λ l. has (l .resets) i)) ∙ sym (getD-clocks-after (map label' ts) cs i))

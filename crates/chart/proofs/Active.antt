@@ -1,9 +1,9 @@
 -- The active states: what it says that they are a tree, and that a state is completed.
 use mathlib.Core.Path.{_≡_, sym, ap, _∙_, subst}
 use mathlib.Core.Bool.{Bool, true, false, not, _&&_, _||_}
-use mathlib.Core.Logic.{_≢_}
+use mathlib.Core.Logic.{_≢_, ⊎-elim}
 use mathlib.Core.List.{List}
-use Prim.Native.Nat.{ℕ, _+_, _-_, _≤_, _<_}
+use Prim.Native.Nat.{ℕ, zero, suc, _+_, _-_, _≤_, _<_}
 use native.Mathlib.Omega.{arith}
 use native.Mathlib.Decide.{ℕ-discrete, decLt}
 use borrow.Author.Tests.{eqb-true, eq-eqb, ne-eqb, not-true}
@@ -12,13 +12,13 @@ use lib.ListN.{length, getD, drop, length-drop, List·getD-eq-default}
 use lib.Seq.{getD-drop}
 use Rattle.expr.specs.Lists.{has, all, below, keep, implies}
 use Rattle.expr.specs.Clocks.{keeps}
-use Rattle.expr.proofs.Bools.{clash, parts, and-l, and-r, both, or-l, or-r, or-else, implies-at, implies-by, not-yes}
+use Rattle.expr.proofs.Bools.{clash, decided, parts, and-l, and-r, both, or-l, or-r, or-else, implies-at, implies-by, not-yes}
 use Rattle.expr.proofs.Lists.{all-at, all-by, keep-at, keep-by, one-mem, one-length, once-keep, getD-mem, mem-getD}
 use Rattle.chart.specs.Chart.{Chart, stateAt, states, parentOf, basic, sequential, parallel}
 use Rattle.chart.specs.Tree.{under, children}
 use Rattle.chart.specs.Machine.{isActive, isTree, boundsKept, completed}
 use Rattle.chart.specs.declared.configuration.Configuration.{Configuration}
-use Rattle.chart.proofs.Tree.{size, states-at, states-by, Child, children-at, children-by, children-once, own-child, Parents, tree-induction, under-down, child-towards, root-under}
+use Rattle.chart.proofs.Tree.{size, states-at, states-by, Child, children-at, children-by, children-once, own-child, Parents, tree-induction, under-down, child-towards, root-under, under-refl, under-transitive, child-under, child-above}
 
 -- the one child of q that passes a test
 pub record OneChild (c : Chart) (p : ℕ → Bool) (q : ℕ) : Type 0 where
@@ -123,6 +123,21 @@ module _ (c : Chart) (tree : Parents c) (p : ℕ → Bool) (active : IsTree c p)
   active-below q s o h u d a =
       let r = child-towards c tree q s h u d in
       subst (λ (x : ℕ). under c x s ≡ true) (o .alone (r .0) (r .1) (active-above (r .0) s h (r .2) a)) (r .2)
+
+  -- below an active state an active state is basic
+  pub active-basic : ((s : ℕ) → s < size c → basic c s ≡ false → parallel c s ≡ false → sequential c s ≡ true)
+      → (n s : ℕ) → size c ≤ n + s → s < size c → p s ≡ true → (b : ℕ) × (b < size c) × (basic c b ≡ true) × (p b ≡ true) × (under c s b ≡ true)
+  active-basic kinds zero s l h a = absurd (omega arith)
+  active-basic kinds (suc n) s l h a = ⊎-elim
+      (λ b. (s, h, b, a, under-refl c s))
+      (λ b. ⊎-elim
+      (λ z. let r = tree .fertile s h b in below (r .1) (active-basic kinds n (r .0) (omega (arith, child-above c tree (r .1))) (r .1 .known) (active .every s (r .0) (r .1) z a)))
+      (λ z. let o = active .one s h (kinds s h b z) a in below (o .is-child) (active-basic kinds n (o .child) (omega (arith, child-above c tree (o .is-child))) (o .is-child .known) (o .passes)))
+      (decided (parallel c s)))
+      (decided (basic c s))
+    where
+      below : {r : ℕ} → Child c s r → ((b : ℕ) × (b < size c) × (basic c b ≡ true) × (p b ≡ true) × (under c r b ≡ true)) → (b : ℕ) × (b < size c) × (basic c b ≡ true) × (p b ≡ true) × (under c s b ≡ true)
+      below {r} k w = (w .0, w .1, w .2, w .3, under-transitive c tree s r (w .0) (w .1) (child-under c tree k) (w .4))
 
 -- what is active is a state of the chart
 pub active-known : (c : Chart) (p : ℕ → Bool) → IsTree c p → (s : ℕ) → p s ≡ true → s < size c

@@ -101,18 +101,18 @@ module _ (c : Chart) (tree : Parents c) (marks : EntryMarks c) (p : ℕ → Bool
   home-from t m s h u = under-transitive c tree _ (t .source) s h (child-under c tree (fires t m .from)) u
 
   -- no source and no destination lies above a home
-  free-of-source : (t u : Transition) → Mem t ts → Mem u ts → under c (u .source) (homeOf c t) ≡ true → ⊥
+  pub free-of-source : (t u : Transition) → Mem t ts → Mem u ts → under c (u .source) (homeOf c t) ≡ true → ⊥
   free-of-source t u m n v =
       let e = not-nested u t n m (home-from u n _ (home-known t m) v) in
       omega (arith, under-le c tree (t .source) (homeOf c t) (home-known t m) (ap (λ (w : Transition). under c (w .source) (homeOf c t)) (sym e) ∙ v), child-above c tree (fires t m .from))
 
-  free-of-destination : (t u : Transition) → Mem t ts → Mem u ts → under c (u .destination) (homeOf c t) ≡ true → ⊥
+  pub free-of-destination : (t u : Transition) → Mem t ts → Mem u ts → under c (u .destination) (homeOf c t) ≡ true → ⊥
   free-of-destination t u m n v =
       let e = not-nested u t n m (home-to u n _ (home-known t m) v) in
       omega (arith, under-le c tree (t .destination) (homeOf c t) (home-known t m) (ap (λ (w : Transition). under c (w .destination) (homeOf c t)) (sym e) ∙ v), child-above c tree (fires t m .to))
 
   -- a destination that was active is the source
-  destination-active : (t : Transition) → Mem t ts → p (t .destination) ≡ true → t .destination ≡ t .source
+  pub destination-active : (t : Transition) → Mem t ts → p (t .destination) ≡ true → t .destination ≡ t .source
   destination-active t m a =
       let f = fires t m in
       let k = f .from in
@@ -120,7 +120,7 @@ module _ (c : Chart) (tree : Parents c) (marks : EntryMarks c) (p : ℕ → Bool
       o .alone (t .destination) (f .to) a ∙ sym (o .alone (t .source) k (f .from-active))
 
   -- two destinations above one state belong to one transition
-  destinations-same : (t u : Transition) → Mem t ts → Mem u ts → (s : ℕ) → s < size c → under c (t .destination) s ≡ true → under c (u .destination) s ≡ true → t ≡ u
+  pub destinations-same : (t u : Transition) → Mem t ts → Mem u ts → (s : ℕ) → s < size c → under c (t .destination) s ≡ true → under c (u .destination) s ≡ true → t ≡ u
   destinations-same t u m n s h a b = ⊎-elim (λ v. go t u m n v) (λ v. sym (go u t n m v)) (comparable c tree (t .destination) (u .destination) s h a b)
     where
       go : (t u : Transition) → Mem t ts → Mem u ts → under c (t .destination) (u .destination) ≡ true → t ≡ u
@@ -147,11 +147,11 @@ module _ (c : Chart) (tree : Parents c) (marks : EntryMarks c) (p : ℕ → Bool
   below-to t m s h = entered-under c tree marks (t .destination) (to-known t m) s (fires t m .entry-is) h
 
   -- what stays is below no destination
-  stays-clear : (s : ℕ) → s < size c → Stays s → (t : Transition) → Mem t ts → under c (t .destination) s ≡ true → ⊥
+  pub stays-clear : (s : ℕ) → s < size c → Stays s → (t : Transition) → Mem t ts → under c (t .destination) s ≡ true → ⊥
   stays-clear s h k t m u = k .1 t m (subst (λ (x : ℕ). under c x s ≡ true) (destination-active t m (active-above c tree p active (t .destination) s h u (k .0))) u)
 
   -- the home of a transition stays
-  home-stays : (t : Transition) → Mem t ts → Stays (homeOf c t)
+  pub home-stays : (t : Transition) → Mem t ts → Stays (homeOf c t)
   home-stays t m = let f = fires t m in (active .up (t .source) (f .from .known) (f .from .below-root) (f .from-active), λ u n v. free-of-source t u m n v)
 
   stands-root : Stands 0
