@@ -3,7 +3,7 @@
 use mathlib.Core.Path.{_≡_, sym, ap, _∙_, subst}
 use mathlib.Core.Bool.{Bool, true, not}
 use mathlib.Core.Logic.{⊎-elim, _≢_}
-use mathlib.Core.List.{List, List·Memᴰ as Mem}
+use mathlib.Core.List.{List·Memᴰ as Mem}
 use Prim.Native.Nat.{ℕ}
 use borrow.Author.Tests.{eqb-false, not-true}
 use lib.Dec.{eqb}

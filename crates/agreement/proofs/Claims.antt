@@ -4,7 +4,7 @@ use mathlib.Core.Bool.{true, false}
 use mathlib.Core.List.{List, []}
 use Prim.Native.Nat.{ℕ, _+_, _<_}
 use Rattle.expr.specs.Label.{distinct}
-use Rattle.expr.specs.Answer.{Answer, done, refused}
+use Rattle.expr.specs.Answer.{done}
 use Rattle.chart.specs.Chart.{Chart}
 use Rattle.chart.specs.Machine as chart
 use Rattle.chart.proofs.Rules.{Passed}

@@ -35,7 +35,7 @@ use Rattle.flattener.proofs.Automata.{Region, regionAt, region-at, marked-child
 use Rattle.flattener.proofs.Sound.{initials-at, initials-by}
 use Rattle.flattener.proofs.Bounds.{bounds-pictured}
 use Rattle.agreement.specs.Agreement.{ChartConfiguration, Alike}
-use Rattle.agreement.proofs.Relation.{standing, Pending, owes, owesAll, Related}
+use Rattle.agreement.proofs.Relation.{standing, Pending, owes, owesAll}
 use Rattle.agreement.proofs.Claims.{SettledIsPicture, PictureIsSettled, StartIsPicture, StartIsConfiguration, WaitsAlike, WaitIsPicture}
 use Rattle.agreement.proofs.Standing.{bounds-standing, urgent-standing, configuration-standing}
 use Rattle.agreement.proofs.Bearing.{picture-stands, pictured-idle, pictured-child, pictured-fits, pictured-not-urgent}

@@ -1,12 +1,11 @@
 -- Step 8: demand 3 from the claims of steps 6 and 7, by induction over the list of calls.
 use mathlib.Core.Path.{_≡_, refl, sym, ap, _∙_, subst, subst₂}
-use mathlib.Core.Bool.{Bool, true, false}
-use mathlib.Core.Logic.{⊎-elim}
+use mathlib.Core.Bool.{true, false}
 use mathlib.Core.List.{List, [], _∷_, _++_, append-assoc, append-nil}
 use Prim.Native.Nat.{ℕ, zero, suc, _+_, _-_, _<_}
 use native.Mathlib.Omega.{arith}
 use native.Mathlib.Decide.{ℕ-discrete}
-use Rattle.expr.specs.Answer.{Answer, done, refused}
+use Rattle.expr.specs.Answer.{Answer, done, refused, _>>=_}
 use Rattle.expr.proofs.Bools.{clash}
 use Rattle.expr.proofs.Answer.{refused-not, done-injective}
 use Rattle.chart.specs.Chart.{Chart}
@@ -14,13 +13,12 @@ use Rattle.chart.specs.Rules.{chartOf}
 use Rattle.chart.specs.Machine as chart
 use Rattle.chart.proofs.Rules.{Passed}
 use Rattle.chart.proofs.Ranges.{Ranges, chart-at}
-use Rattle.network.specs.Network.{Network}
+use Rattle.network.specs.Network.{Network, networkOf}
 use Rattle.network.specs.Machine as network
 use Rattle.flattener.specs.Flatten.{flatten}
-use Rattle.flattener.specs.File.{flattenOf}
 use Rattle.flattener.specs.Picture.{picture}
 use Rattle.flattener.proofs.Printable.{flattened-at}
-use Rattle.agreement.specs.Agreement.{ChartConfiguration, NetworkConfiguration, Call, step, wait, onChart, left, carried, isUrgent, named, Run, moved, extended, runFrom, run, acceptsAll, chartAfter, accepted, Accepts, Alike, Owing, Settled, Agrees, Demand3}
+use Rattle.agreement.specs.Agreement.{ChartConfiguration, NetworkConfiguration, Call, step, wait, onChart, left, carried, isUrgent, named, Run, moved, extended, runFrom, run, acceptsAll, chartAfter, accepted, Accepts, Alike, Owing, Settled, Agrees, Holds, IsRead, Demand3}
 use Rattle.agreement.proofs.Relation.{Related, standing}
 use Rattle.agreement.proofs.Claims.{AllClaims}
 
@@ -91,7 +89,7 @@ module _ (c : Chart) (n : Network) (r : Run) where
   extended-wait-refused d h = rw (h, extended)
 
 -- calls that follow each other
-run-append : (c : Chart) (n : Network) (r : Run) (xs ys : List Call) → runFrom c n r (xs ++ ys) ≡ runFrom c n (runFrom c n r xs) ys
+pub run-append : (c : Chart) (n : Network) (r : Run) (xs ys : List Call) → runFrom c n r (xs ++ ys) ≡ runFrom c n (runFrom c n r xs) ys
 unfolding runFrom
 run-append c n r [] ys = refl
 run-append c n r (x ∷ xs) ys = run-append c n (extended c n r x) xs ys
@@ -316,13 +314,27 @@ module _ (claims : AllClaims) (c : Chart) (passed : Passed c) (ranges : Ranges c
   reaches-list [] r h none = subst (λ (ys : List Call). Reaches r ys (r .chart)) (sym (append-nil (r .reading))) (pays-all 0 h none)
   reaches-list (x ∷ xs) r h none = reaches-first x xs (reaches-list xs) r h none
 
-  read-back : (calls : List Call) → (net : List Call) × (run c n net .reading ≡ accepted c (chart.start c) calls) × (run c n net .owed ≡ 0)
+  is-read : (calls : List Call) → IsRead c n calls
   unfolding run
-  read-back calls = let k = reaches-list calls _ starts refl in (k .calls, k .reading-is, k .none-owed)
+  is-read calls = let k = reaches-list calls _ starts refl in record { from = k .calls; reading-is = k .reading-is; chart-is = k .chart-is; none-owed = k .none-owed }
+
+-- a file and what it holds
+holds-by : {file bytes : List ℕ} {c : Chart} {n : Network} → chartOf file ≡ done c → networkOf bytes ≡ done n → Holds file bytes c n
+unfolding chart.startOf chart.stepOf chart.waitOf network.startOf network.stepOf network.waitOf _>>=_
+holds-by h k = record {
+  network-is = k;
+  chart-starts = rw h;
+  chart-steps = λ σ ms. rw h;
+  chart-waits = λ σ d. rw h;
+  network-starts = rw k;
+  network-steps = λ σ ms. rw k;
+  network-waits = λ σ d. rw k;
+}
 
 -- demand 3
 pub demand3 : AllClaims → Demand3
 demand3 claims file bytes room c h f =
     let r = chart-at file h in
     let k = flattened-at file room f in
-    (flatten c, k .network-is ∙ ap (λ (x : Chart). done (flatten x)) (done-injective (sym (k .chart-is) ∙ h)), agrees claims c (r .0) (r .1), read-back claims c (r .0) (r .1))
+    let e = k .network-is ∙ ap (λ (x : Chart). done (flatten x)) (done-injective (sym (k .chart-is) ∙ h)) in
+    (flatten c, holds-by h e, agrees claims c (r .0) (r .1), is-read claims c (r .0) (r .1))

@@ -144,10 +144,25 @@ pub record Agrees (c : Chart) (n : Network) (calls : List Call) : Type 0 where
   pub owing : 0 < run c n calls .owed → Owing n (run c n calls)
   pub settled : run c n calls .owed ≡ 0 → Settled c n (run c n calls)
 
+-- the operations on the two files are those on what they hold
+pub record Holds (file bytes : List ℕ) (c : Chart) (n : Network) : Type 0 where
+  pub network-is : networkOf bytes ≡ done n
+  pub chart-starts : chart.startOf file ≡ done (chart.start c)
+  pub chart-steps : (σ : ChartConfiguration) (ms : List ℕ) → chart.stepOf file σ ms ≡ chart.step c σ ms
+  pub chart-waits : (σ : ChartConfiguration) (d : ℕ) → chart.waitOf file σ d ≡ chart.wait c σ d
+  pub network-starts : network.startOf bytes ≡ done (network.start n)
+  pub network-steps : (σ : NetworkConfiguration) (ms : List ℕ) → network.stepOf bytes σ ms ≡ network.step n σ ms
+  pub network-waits : (σ : NetworkConfiguration) (d : ℕ) → network.waitOf bytes σ d ≡ network.wait n σ d
+
+-- a chart list, but for what is refused, is read from some network list, which leads to where the chart list does
+pub record IsRead (c : Chart) (n : Network) (calls : List Call) : Type 0 where
+  pub from : List Call
+  pub reading-is : run c n from .reading ≡ accepted c (chart.start c) calls
+  pub chart-is : run c n from .chart ≡ chartAfter c (chart.start c) calls
+  pub none-owed : run c n from .owed ≡ 0
+
 -- demand 3: of a chart that flattening accepts and the network that it writes. It is claimed of every list of network
--- calls, so after every call of one; and every chart list, but for what it refuses, is read from some network list
+-- calls, so after every call of one
 abbrev pub Demand3 : Type 0
 Demand3 = (file bytes : List ℕ) (room : ℕ) (c : Chart) → chartOf file ≡ done c → flattenOf file room ≡ done bytes
-    → (n : Network) × (networkOf bytes ≡ done n)
-    × ((calls : List Call) → Agrees c n calls)
-    × ((calls : List Call) → (net : List Call) × (run c n net .reading ≡ accepted c (chart.start c) calls) × (run c n net .owed ≡ 0))
+    → (n : Network) × Holds file bytes c n × ((calls : List Call) → Agrees c n calls) × ((calls : List Call) → IsRead c n calls)
