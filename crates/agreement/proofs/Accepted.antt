@@ -16,7 +16,7 @@ use Rattle.expr.proofs.Answer.{unless-at, unless-by}
 use Rattle.network.specs.Network.{Edge, Network, ownerOf}
 use Rattle.network.specs.Machine.{edgeAt, isConfiguration, boundsKept, activeEdge, urgentAt, urgent, after, tested, step, wait}
 use Rattle.agreement.specs.Agreement.{NetworkConfiguration, Accepts, isUrgent}
-use Rattle.agreement.proofs.Sets.{AllowedSet, allowed-set-at, allowed-set-by}
+use Rattle.expr.proofs.Sets.{AllowedSet, allowed-set-at, allowed-set-by}
 
 -- the numbers of a set: one to sixteen, ascending
 pub record Known (count : ℕ) (ms : List ℕ) : Type 0 where

@@ -10,6 +10,7 @@ use lib.Dec.{eqb}
 use Rattle.expr.specs.Lists.{keep}
 use Rattle.expr.proofs.Lists.{Once, none-any, keep-at, keep-map, once-keep}
 use Rattle.expr.proofs.Moves.{distinct-by}
+use Rattle.expr.proofs.Pairwise.{map-once-on}
 use Rattle.chart.specs.Chart.{Chart, parentOf, home}
 use Rattle.chart.proofs.Step.{configuration-tree}
 use Rattle.network.specs.Network.{Edge, locationAt, ownerOf}
@@ -20,7 +21,6 @@ use Rattle.flattener.proofs.Numbers.{IsPlace, urgent-of-place}
 use Rattle.flattener.proofs.Edges.{Leaves, edges-at, source-of, owner-of, edge-at-mem}
 use Rattle.agreement.specs.Agreement.{NetworkConfiguration, isUrgent, Accepts}
 use Rattle.agreement.proofs.Claims.{BearsOnce, NoUrgentMove}
-use Rattle.agreement.proofs.Sets.{map-once-on}
 use Rattle.agreement.proofs.Standing.{active-leaves}
 use Rattle.agreement.proofs.Bearing.{picture-stands, pictured-fits, pictured-not-urgent}
 use Rattle.agreement.proofs.Accepted.{Accepted, accepted-at, known-at}

@@ -15,7 +15,7 @@ use Rattle.expr.specs.Moves.{known, allowed}
 use Rattle.expr.proofs.Bools.{parts, clash, decided, and-l, both, cond-yes, cond-no, not-yes}
 use Rattle.expr.proofs.Lists.{all-at, all-below, map-at, map-by, getD-mem}
 use Rattle.expr.proofs.Answer.{unless-at, done-injective}
-use Rattle.expr.proofs.Moves.{allowed-at}
+use Rattle.expr.proofs.Sets.{allowed-set-at, allowed-channels}
 use Rattle.expr.proofs.Rows.{ClockValues, values-in-limit, values-zeros, keeps-zeros, in-limit-zeros, zero-past-zeros, zeros-past-zeros}
 use Rattle.chart.specs.Chart.{Chart, Transition, stateAt, transitionAt, parentOf, basic, sequential, home}
 use Rattle.chart.specs.Tree.{under}
@@ -163,8 +163,8 @@ module _ (c : Chart) (passed : Passed c) (ranges : Ranges c) where
       → allowed (λ m. transitionAt c m .label) (home c) active (length (c .transitions)) (c .rendezvous) ms ≡ true
       → (a b : ℕ) → Mem a ms → Mem b ms → under c (home c a) (home c b) ≡ true → a ≡ b
   allowed-apart active ms k h a b m n u =
-      let w = allowed-at _ _ _ _ _ ms h in
-      ⊎-elim (λ e. e) (λ e. w .owners a b m n (apart-at c (passed .not-nested) a b (k a m) (k b n) (e .0) (e .1) (e .2) u)) (w .channels a b m n)
+      let w = allowed-set-at _ _ _ _ _ ms h in
+      ⊎-elim (λ e. e) (λ e. w .owners a b m n (apart-at c (passed .not-nested) a b (k a m) (k b n) (e .0) (e .1) (e .2) u)) (allowed-channels w a b m n)
 
   pub homes-apart : (σ : Configuration) (ms : List ℕ) {τ : Configuration} → Stepped c σ ms τ → (a b : ℕ) → Mem a ms → Mem b ms → under c (home c a) (home c b) ≡ true → a ≡ b
   homes-apart σ ms s = allowed-apart _ ms (s .each-known) (s .is-allowed)

@@ -110,8 +110,15 @@ once-getD xs d i j o h k e = elim (ℕ-discrete i j) [
   | no n ↦ absurd (⊎-elim (λ l. pairwise-getD (λ x y. x ≢ y) xs d i j (once-pairwise xs o) (ltb-true i j l) k e) (λ l. pairwise-getD (λ x y. x ≢ y) xs d j i (once-pairwise xs o) (omega (arith, ltb-false i j l)) h (sym e)) (decided (ltb i j)))
 ]
 
+pub map-once-on : {A B : Type 0} (f : A → B) (xs : List A) → ((x y : A) → Mem x xs → Mem y xs → f x ≡ f y → x ≡ y) → Once xs → Once (map f xs)
+map-once-on f xs g o = pairwise-once (map f xs) (pairwise-map (λ x y. x ≢ y) f xs (pairwise-by (λ x y. x ≢ y) (λ x y. f x ≢ f y) xs (λ x y m n d e. d (g x y m n e)) (once-pairwise xs o)))
+
 pub map-once : {A B : Type 0} (f : A → B) (xs : List A) → ((x y : A) → f x ≡ f y → x ≡ y) → Once xs → Once (map f xs)
-map-once f xs g o = pairwise-once (map f xs) (pairwise-map (λ x y. x ≢ y) f xs (pairwise-by (λ x y. x ≢ y) (λ x y. f x ≢ f y) xs (λ x y m n d e. d (g x y e)) (once-pairwise xs o)))
+map-once f xs g o = map-once-on f xs (λ x y m n. g x y) o
+
+pub once-of-map : {A B : Type 0} (f : A → B) (xs : List A) → Once (map f xs) → Once xs
+once-of-map f [] o = tt
+once-of-map f (x ∷ xs) o = (λ m. o .0 (map-by f m), once-of-map f xs (o .1))
 
 pub append-once : {A : Type 0} (xs ys : List A) → Once xs → Once ys → ((x : A) → Mem x xs → Mem x ys → ⊥) → Once (xs ++ ys)
 append-once xs ys o k f = pairwise-once (xs ++ ys) (pairwise-append (λ x y. x ≢ y) xs ys (once-pairwise xs o) (once-pairwise ys k) (λ x y m n e. f x m (cast e n)))

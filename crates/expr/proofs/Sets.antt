@@ -1,26 +1,27 @@
--- Sets of transitions or edges by their members: what `allowed` says whatever the order, that two sets whose members
--- correspond are allowed alike, and that they do the same to variables and clocks.
+-- Sets of transitions or edges by their members: what `allowed` says (`allowed-set-at`, `allowed-set-by`), that two sets
+-- whose members correspond are allowed alike (`allowed-alike`), and that they do the same to variables and clocks
+-- (`variables-alike`, `clocks-alike`), in whatever orders they are listed.
 use mathlib.Core.Path.{_≡_, refl, sym, ap, _∙_, subst}
 use mathlib.Core.Bool.{Bool, true, false, cond, not, _&&_, _||_}
 use mathlib.Core.Logic.{_⊎_, inl, inr, ⊎-elim, _≢_}
 use mathlib.Core.List.{List, [], _∷_, _++_, map, append-nil, List·Memᴰ as Mem, List·Memᴰ·head as here, List·Memᴰ·tail as there, List·Memᴰ·not-nil as not-nil, List·Memᴰ·cases-cons as cases-cons, Memᴰ·cast as cast}
-use Prim.Native.Nat.{ℕ, suc, _≤_, _<_}
+use Prim.Native.Nat.{ℕ, _≤_, _<_}
 use native.Mathlib.Omega.{arith}
 use borrow.Author.Tests.{eqb-true, eq-eqb, ne-eqb, ltb-true, ltb-false, lt-ltb, le-ltb, not-true}
 use lib.Dec.{eqb, ltb}
 use lib.IntN.{ℤ}
 use lib.ListN.{length, getD}
 use lib.Seq.{ext-getD}
 use Rattle.expr.specs.Lists.{has, any, keep, below, elem, concat, ascending}
 use Rattle.expr.specs.Guard.{Update, assign}
 use Rattle.expr.specs.Label.{Label, distinct, sends, receives}
 use Rattle.expr.specs.Clocks.{reset}
 use Rattle.expr.specs.Moves.{allowed, senders, oneSends, maximal, variablesAfter, clocksAfter}
 use Rattle.expr.proofs.Bools.{clash, decided, fails, and-l, and-r, both, or-l, or-r, or-cases, not-yes, same}
 use Rattle.expr.proofs.Lists.{Once, all-at, all-by, any-at, any-by, keep-at, keep-by, map-at, map-by, elem-at, elem-by, below-at, below-by, length-below, all-below, below-all, once-keep, mem-some, one-mem, one-length, partners-length, within-length, ascending-above, ascending-tail, ascending-below, ascending-keep}
-use Rattle.expr.proofs.Pairwise.{pairwise-by, pairwise-map, once-pairwise, pairwise-once}
+use Rattle.expr.proofs.Pairwise.{map-once-on, once-of-map}
 use Rattle.expr.proofs.Clocks.{length-reset, getD-reset}
-use Rattle.expr.proofs.Moves.{distinct-at, distinct-by, once-map, sends-at, receives-at}
+use Rattle.expr.proofs.Moves.{distinct-at, distinct-by, once-map, Sends, Receives, sends-at, sends-by, receives-at, receives-by}
 
 -- an ascending list is told by its members
 ascending-first : (x y : ℕ) (xs ys : List ℕ) → ascending (x ∷ xs) ≡ true → ascending (y ∷ ys) ≡ true → Mem x (y ∷ ys) → Mem y (x ∷ xs) → x ≡ y
@@ -62,14 +63,6 @@ values-length f n xs o g h =
 pub below-length : (n : ℕ) (xs : List ℕ) → Once xs → ((x : ℕ) → Mem x xs → x < n) → length xs ≤ n
 below-length n xs o f = values-length (λ x. x) n xs o f (λ x y m k e. e)
 
--- repetition in the values of a function
-pub once-of-map : {A B : Type 0} (f : A → B) (xs : List A) → Once (map f xs) → Once xs
-once-of-map f [] o = tt
-once-of-map f (x ∷ xs) o = (λ m. o .0 (map-by f m), once-of-map f xs (o .1))
-
-pub map-once-on : {A B : Type 0} (f : A → B) (xs : List A) → ((x y : A) → Mem x xs → Mem y xs → f x ≡ f y → x ≡ y) → Once xs → Once (map f xs)
-map-once-on f xs g o = pairwise-once (map f xs) (pairwise-map (λ x y. x ≢ y) f xs (pairwise-by (λ x y. x ≢ y) (λ x y. f x ≢ f y) xs (λ x y m n d e. d (g x y m n e)) (once-pairwise xs o)))
-
 -- a list with one element besides x
 pub record OneOther {A : Type 0} (x : A) (xs : List A) : Type 0 where
   pub other : A
@@ -96,21 +89,6 @@ two-length xs o x m w =
       within-length xs (x ∷ w .other ∷ []) o (λ z k. ⊎-elim here (λ q. there (here q)) (w .only z k)),
       within-length (x ∷ w .other ∷ []) xs (λ k. ⊎-elim (λ e. w .differs (sym e)) not-nil (cases-cons k), (not-nil, tt)) (λ z k. ⊎-elim (λ q. cast q m) (λ q. cast q (w .is-member)) (in-two k)),
     )
-
--- labels that send or receive on a channel
-abbrev pub Sends : Label → ℕ → Type 0
-Sends l ch = (l .signal ≡ 1) × (l .channel ≡ ch)
-
-abbrev pub Receives : Label → ℕ → Type 0
-Receives l ch = (l .signal ≡ 2) × (l .channel ≡ ch)
-
-pub sends-by : (l : Label) (ch : ℕ) → Sends l ch → sends l ch ≡ true
-unfolding sends
-sends-by l ch h = both (eq-eqb (l .signal) 1 (h .0)) (eq-eqb (l .channel) ch (h .1))
-
-pub receives-by : (l : Label) (ch : ℕ) → Receives l ch → receives l ch ≡ true
-unfolding receives
-receives-by l ch h = both (eq-eqb (l .signal) 2 (h .0)) (eq-eqb (l .channel) ch (h .1))
 
 -- one member, without signal
 pub record Alone (label : ℕ → Label) (ms : List ℕ) : Type 0 where
@@ -257,6 +235,14 @@ module _ (label : ℕ → Label) (owner : ℕ → ℕ) (active : ℕ → Bool) (
 -- an allowed set has some member
 pub allowed-some : {label : ℕ → Label} {owner : ℕ → ℕ} {active : ℕ → Bool} {count rendezvous : ℕ} {ms : List ℕ} → AllowedSet label owner active count rendezvous ms → (m : ℕ) × Mem m ms
 allowed-some w = ⊎-elim (λ a. (a .member, a .is-member)) (λ j. (j .sender, j .signalled .is-member)) (w .signals)
+
+-- two members are one, or both signal on one channel
+pub allowed-channels : {label : ℕ → Label} {owner : ℕ → ℕ} {active : ℕ → Bool} {count rendezvous : ℕ} {ms : List ℕ} → AllowedSet label owner active count rendezvous ms
+    → (a b : ℕ) → Mem a ms → Mem b ms → (a ≡ b) ⊎ ((label a .signal ≢ 0) × (label b .signal ≢ 0) × (label a .channel ≡ label b .channel))
+allowed-channels {label} w a b m n = ⊎-elim
+    (λ s. inl (s .only a m ∙ sym (s .only b n)))
+    (λ j. let x = signalled-on label (j .signalled) a m in let y = signalled-on label (j .signalled) b n in inr (x .0, y .0, x .1 ∙ sym (y .1)))
+    (w .signals)
 
 -- the members of two lists correspond by R, each to one
 pub record Matched (R : ℕ → ℕ → Type 0) (ms ts : List ℕ) : Type 0 where
@@ -417,21 +403,6 @@ unfolding variablesAfter
 variables-after label ms vars o w =
     ap (λ (us : List Update). assign vars us vars) (concat-map (λ (l : Label). l .body .updates) label ms ∙ concat-one (λ m. label m .body .updates) ms o (w .member) (w .is-member) (w .others))
 
-module _ (R : ℕ → ℕ → Type 0) (label label' : ℕ → Label) (labels : (m t : ℕ) → R m t → label m ≡ label' t) (ms ts : List ℕ) (w : Matched R ms ts) where
-  pub variables-alike : (vars : List ℤ) → OneAssigns label ms → variablesAfter (map label ms) vars ≡ variablesAfter (map label' ts) vars
-  variables-alike vars a =
-      variables-after label ms vars (w .once-left) a
-      ∙ ap (λ (l : Label). assign vars (l .body .updates) vars) (labels (a .member) (r .0) (r .2))
-      ∙ sym (variables-after label' ts vars (w .once-right) (record {
-        member = r .0;
-        is-member = r .1;
-        others = λ u n d. let y = w .left u n in
-            ap (λ (l : Label). l .body .updates) (sym (labels (y .0) u (y .2))) ∙ a .others (y .0) (y .1) (λ e. d (partner-is R ms ts w (a .is-member) (r .1) (r .2) n (y .0) (y .2) e));
-      }))
-    where
-      r : (t : ℕ) × Mem t ts × R (a .member) t
-      r = w .right (a .member) (a .is-member)
-
 -- clocks after a step: those that some label resets are at 0
 pub length-clocks-after : (ls : List Label) (cs : List ℕ) → length (clocksAfter ls cs) ≡ length cs
 unfolding clocksAfter
@@ -458,6 +429,20 @@ module _ (R : ℕ → ℕ → Type 0) (label label' : ℕ → Label) (labels : (
       any-by p (map-by label' (r .1)) (ap p (sym (m .2 ∙ labels (m .0) (r .0) (r .2))) ∙ x .2)
 
 module _ (R : ℕ → ℕ → Type 0) (label label' : ℕ → Label) (labels : (m t : ℕ) → R m t → label m ≡ label' t) (ms ts : List ℕ) (w : Matched R ms ts) where
+  pub variables-alike : (vars : List ℤ) → OneAssigns label ms → variablesAfter (map label ms) vars ≡ variablesAfter (map label' ts) vars
+  variables-alike vars a =
+      variables-after label ms vars (w .once-left) a
+      ∙ ap (λ (l : Label). assign vars (l .body .updates) vars) (labels (a .member) (r .0) (r .2))
+      ∙ sym (variables-after label' ts vars (w .once-right) (record {
+        member = r .0;
+        is-member = r .1;
+        others = λ u n d. let y = w .left u n in
+            ap (λ (l : Label). l .body .updates) (sym (labels (y .0) u (y .2))) ∙ a .others (y .0) (y .1) (λ e. d (partner-is R ms ts w (a .is-member) (r .1) (r .2) n (y .0) (y .2) e));
+      }))
+    where
+      r : (t : ℕ) × Mem t ts × R (a .member) t
+      r = w .right (a .member) (a .is-member)
+
   -- a test that some label passes
   pub any-alike : (p : Label → Bool) → any p (map label ms) ≡ any p (map label' ts)
   any-alike p = same (any p (map label ms)) (any p (map label' ts)) (any-over R label label' labels ms ts w p) (any-over (λ t m. R m t) label' label (λ t m a. sym (labels m t a)) ts ms (matched-back R ms ts w) p)
