@@ -13,3 +13,6 @@ pub mod Paying
 pub mod Leaving
 pub mod Entering
 pub mod Owed
+pub mod Picture
+pub mod Borne
+pub mod Runs
