@@ -17,7 +17,7 @@ use Rattle.expr.specs.Answer.{done}
 use Rattle.expr.specs.Label.{Label, receives}
 use Rattle.expr.proofs.Bools.{and-l, and-r, both, or-l, or-r, or-cases, clash, not-no}
 use Rattle.expr.proofs.Lists.{map-at, map-by, keep-none, mem-some, Once, ascending-once}
-use Rattle.expr.proofs.Moves.{receives-at}
+use Rattle.expr.proofs.Moves.{Receives, receives-at, receives-by}
 use Rattle.chart.specs.Chart.{Chart}
 use Rattle.chart.specs.Tree.{sequentials}
 use Rattle.chart.proofs.Rules.{Passed}
@@ -31,7 +31,7 @@ use Rattle.flattener.proofs.Edges.{Leaves, edges-by, edge-at-mem, mem-edge-at, 
 use Rattle.flattener.proofs.Order.{edge-at-injective}
 use Rattle.agreement.specs.Agreement.{NetworkConfiguration, Accepts, isUrgent, carried}
 use Rattle.agreement.proofs.Relation.{standing}
-use Rattle.expr.proofs.Sets.{passing-at, passing-by, passing-ascending, values-length, Receives, receives-by, AllowedSet, Joint, Signalled, Full}
+use Rattle.expr.proofs.Sets.{passing-at, passing-by, passing-ascending, values-length, AllowedSet, Joint, Signalled, Full}
 use Rattle.agreement.proofs.Standing.{Fits, Takes, takes-by, Signals, signals-variables, signals-clocks, active-own, active-leaves, after-standing}
 use Rattle.agreement.proofs.Accepted.{Accepted, accepted-at, accepted-by, known-at, known-by, urgent-by}
 

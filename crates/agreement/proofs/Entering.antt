@@ -21,6 +21,7 @@ use Rattle.chart.proofs.Tree.{size, Child}
 use Rattle.chart.proofs.Entered.{entered-top, entered-under, all-entered-at}
 use Rattle.chart.proofs.Rules.{Passed}
 use Rattle.chart.proofs.Ranges.{Ranges}
+use Rattle.chart.proofs.Step.{channel-lt}
 use Rattle.network.specs.Network.{Edge}
 use Rattle.flattener.specs.Flatten.{Pair, Place, idle, child, pre, post, placeHome, joined, preBounds, boundsOf, hasEntry, markedChild, enterPairs, enterChannel, exitChannel, signalling, edge, ownEdge}
 use Rattle.flattener.specs.Picture.{pictured}
@@ -32,10 +33,10 @@ use Rattle.flattener.proofs.Edges.{Leaves}
 use Rattle.flattener.proofs.Bounds.{keeps-pre}
 use Rattle.agreement.specs.Agreement.{ChartConfiguration}
 use Rattle.agreement.proofs.Relation.{Pending, entryPair, Concerns, Hearing, IsPending, Placed}
-use Rattle.expr.proofs.Sets.{Receives}
+use Rattle.expr.proofs.Moves.{Receives}
 use Rattle.agreement.proofs.Broadcast.{Broadcast}
 use Rattle.agreement.proofs.Pending.{pending-ends, pending-entry, concerns-not-home, home-entering, home-place, pictured-home, pictured-left, pictured-entered, marked, marked-entered, placed-fits}
-use Rattle.agreement.proofs.Paying.{Without, without, owes-entry, placed-rest, Payment, chart-channel}
+use Rattle.agreement.proofs.Paying.{Without, without, owes-entry, placed-rest, Payment}
 
 -- where the automata are after it
 enteredPlaces : Chart → (ℕ → Place) → ℕ → ℕ → Place
@@ -109,7 +110,7 @@ module _ (c : Chart) (passed : Passed c) (ranges : Ranges c) (σ : ChartConfigur
       (λ j. enter-exit-apart c (j .pair) pair-known (sym (h .1) ∙ ap (λ (x : Edge). x .label .channel) (j .edge-is)))
       (λ j. let label = ap (λ (x : Edge). x .label) (j .bears .edge-is) in
       let s : transitionAt c (j .transition) .label .signal ≡ 2 = sym (ap (λ x. x .signal) label) ∙ h .0 in
-      omega (arith, chart-channel c ranges (j .transition) (j .known) (omega arith), sym (ap (λ x. x .channel) label) ∙ h .1, enter-channel-ge c (entryPair c t)))
+      omega (arith, channel-lt c ranges (j .transition) (j .known) (omega arith), sym (ap (λ x. x .channel) label) ∙ h .1, enter-channel-ge c (entryPair c t)))
       l)
   heard-entry q z (pre r) n e l h = absurd (let s : e .label .signal ≡ 1 = ap (λ (x : Edge). x .label .signal) l in omega (arith, h .0))
   heard-entry q z (post u) n e l h = absurd (let s : e .label .signal ≡ 1 = ap (λ (x : Edge). x .label .signal) l in omega (arith, h .0))

@@ -19,6 +19,7 @@ use Rattle.chart.specs.Machine.{isTree}
 use Rattle.chart.proofs.Tree.{size}
 use Rattle.chart.proofs.Rules.{Passed}
 use Rattle.chart.proofs.Ranges.{Ranges}
+use Rattle.chart.proofs.Step.{channel-lt}
 use Rattle.network.specs.Network.{Edge}
 use Rattle.flattener.specs.Flatten.{Pair, Place, idle, child, pre, post, placeHome, arrival, departure, boundsOf, hasExit, hasEntry, exitPairs, enterChannel, exitChannel, signalling, edge, ownEdge}
 use Rattle.flattener.specs.Picture.{pictured}
@@ -30,10 +31,10 @@ use Rattle.flattener.proofs.Edges.{Leaves, HearsExit, BearsFrom}
 use Rattle.flattener.proofs.Bounds.{departure-arrives}
 use Rattle.agreement.specs.Agreement.{ChartConfiguration}
 use Rattle.agreement.proofs.Relation.{Pending, entryPair, owesAll, Concerns, Hearing, IsPending, Placed}
-use Rattle.expr.proofs.Sets.{Receives}
+use Rattle.expr.proofs.Moves.{Receives}
 use Rattle.agreement.proofs.Broadcast.{Broadcast}
 use Rattle.agreement.proofs.Pending.{pending-ends, concerns-not-home, home-leaving, home-place, pictured-home, pictured-left, not-entered, placed-fits}
-use Rattle.agreement.proofs.Paying.{Without, without, owes-both, owes-exit, owes-entry, placed-rest, placed-next, Payment, chart-channel}
+use Rattle.agreement.proofs.Paying.{Without, without, owes-both, owes-exit, owes-entry, placed-rest, placed-next, Payment}
 
 -- where the automata are after it
 leftPlaces : Chart → (ℕ → Place) → ℕ → ℕ → Place
@@ -101,7 +102,7 @@ module _ (c : Chart) (passed : Passed c) (ranges : Ranges c) (σ : ChartConfigur
       j .edge-is ∙ ap₂ (λ (x : Place) (y : Pair). ownEdge c (child s) x (signalling 2 (exitChannel c y))) (ap idle at ∙ sym (left-below c f t q (below-not-home q (z .known) (inl below)) below)) same)
       (λ j. absurd (let label = ap (λ (x : Edge). x .label) (j .bears .edge-is) in
       let s : transitionAt c (j .transition) .label .signal ≡ 2 = sym (ap (λ x. x .signal) label) ∙ h .0 in
-      omega (arith, chart-channel c ranges (j .transition) (j .known) (omega arith), sym (ap (λ x. x .channel) label) ∙ h .1, exit-channel-ge c (exitPair c t))))
+      omega (arith, channel-lt c ranges (j .transition) (j .known) (omega arith), sym (ap (λ x. x .channel) label) ∙ h .1, exit-channel-ge c (exitPair c t))))
       l
   heard-exit q z (pre r) n e l h = absurd (let s : e .label .signal ≡ 1 = ap (λ (x : Edge). x .label .signal) l in omega (arith, h .0))
   heard-exit q z (post u) n e l h = absurd (let s : e .label .signal ≡ 1 = ap (λ (x : Edge). x .label .signal) l in omega (arith, h .0))

@@ -7,12 +7,9 @@ use mathlib.Core.List.{List, [], _∷_, List·Memᴰ as Mem, List·Memᴰ·head 
 use Prim.Native.Nat.{ℕ, _+_, _<_}
 use native.Mathlib.Omega.{arith}
 use native.Mathlib.Decide.{ℕ-discrete}
-use borrow.Author.Tests.{ltb-true, ne-eqb}
-use lib.Dec.{ltb, eqb}
 use lib.ListN.{length}
-use Rattle.expr.specs.Label.{channelFits}
 use Rattle.expr.specs.Clocks.{keeps}
-use Rattle.expr.proofs.Bools.{clash, decided, cond-no}
+use Rattle.expr.proofs.Bools.{clash, decided}
 use Rattle.expr.proofs.Lists.{Once}
 use Rattle.chart.specs.Chart.{Chart, transitionAt, home}
 use Rattle.chart.specs.Tree.{under}
@@ -20,7 +17,6 @@ use Rattle.chart.specs.Machine.{isTree}
 use Rattle.chart.proofs.Tree.{size, under-refl, comparable}
 use Rattle.chart.proofs.Rules.{Passed}
 use Rattle.chart.proofs.Ranges.{Ranges}
-use Rattle.chart.proofs.Step.{transition-mem}
 use Rattle.flattener.specs.Flatten.{Place, boundsOf, hasEntry}
 use Rattle.flattener.specs.Picture.{pictured}
 use Rattle.flattener.proofs.Automata.{Region}
@@ -150,9 +146,3 @@ pub record Payment (c : Chart) (σ : ChartConfiguration) (f : ℕ → Place) (ps
   pub placed : Placed c σ places pending
   pub pays : owesAll c ps ≡ owesAll c pending + 1
   pub bounds : ((q : ℕ) → Region c q → keeps (boundsOf c (f q)) (σ .clocks) ≡ true) → (q : ℕ) → Region c q → keeps (boundsOf c (places q)) (σ .clocks) ≡ true
-
--- a transition of the chart signals on one of the chart's channels
-pub chart-channel : (c : Chart) → Ranges c → (t : ℕ) → t < length (c .transitions) → transitionAt c t .label .signal ≢ 0 → transitionAt c t .label .channel < c .rendezvous + c .broadcasts
-unfolding channelFits
-chart-channel c ranges t h d = let l = transitionAt c t .label in
-    ltb-true (l .channel) (c .rendezvous + c .broadcasts) (sym (cond-no _ _ (ne-eqb (l .signal) 0 d)) ∙ ranges .of-transition _ (transition-mem c t h) .label-known .channel-known)

@@ -21,32 +21,16 @@ use Rattle.chart.proofs.Entered.{Entry, entered-top, entered-alone, entered-chi
 use Rattle.chart.proofs.Active.{tree-at, active-above}
 use Rattle.chart.proofs.Rules.{Passed}
 use Rattle.chart.proofs.Ranges.{Ranges}
-use Rattle.chart.proofs.Step.{entry-at, transition-mem}
+use Rattle.chart.proofs.Step.{entry-of}
 use Rattle.flattener.specs.Flatten.{Place, idle, child, pre, post, hasExit, hasEntry, urgentPlace, markedChild, placeHome}
 use Rattle.flattener.specs.Picture.{pictured}
 use Rattle.flattener.proofs.Automata.{Region, marked-child}
 use Rattle.flattener.proofs.Numbers.{PlaceOf, idle-place, child-place}
-use Rattle.flattener.proofs.Arrivals.{Ends, ends, post-place, pre-place, entry-lt}
+use Rattle.flattener.proofs.Arrivals.{has-entry-at, no-entry-at, Ends, ends, post-place, pre-place, entry-lt}
 use Rattle.agreement.specs.Agreement.{ChartConfiguration}
 use Rattle.agreement.proofs.Relation.{Pending, entryPair, owes, owesAll, Concerns, Hearing, IsPending, Placed}
 use Rattle.agreement.proofs.Standing.{Fits}
 use Rattle.agreement.proofs.Bearing.{pictured-idle, pictured-child, pictured-fits, pictured-not-urgent}
-
--- how a transition enters its destination
-pub entry-of : (c : Chart) → Passed c → Ranges c → (t : ℕ) → t < length (c .transitions) → Entry c (transitionAt c t .destination) (transitionAt c t .entry)
-entry-of c passed ranges t h = let m = transition-mem c t h in entry-at c (transitionAt c t) (ranges .of-transition _ m .entry-known) (all-at _ _ (passed .enter) m)
-
-pub has-entry-at : (c : Chart) (t : ℕ) → hasEntry c t ≡ true → transitionAt c t .entry ≢ 255
-unfolding hasEntry
-has-entry-at c t h = eqb-false (transitionAt c t .entry) 255 (not-true _ h)
-
-pub no-entry-at : (c : Chart) (t : ℕ) → hasEntry c t ≡ false → transitionAt c t .entry ≡ 255
-unfolding hasEntry
-no-entry-at c t h = eqb-true (transitionAt c t .entry) 255 (go (eqb (transitionAt c t .entry) 255) h)
-  where
-    go : (b : Bool) → not b ≡ false → b ≡ true
-    go true h = refl
-    go false h = clash refl h
 
 -- one pending transition, and the chart where it leads
 module _ (c : Chart) (passed : Passed c) (ranges : Ranges c) (σ : ChartConfiguration) (tree : isTree c σ ≡ true) (f : ℕ → Place) (p : Pending) (k : IsPending c σ f p) where

@@ -20,7 +20,7 @@ use Rattle.expr.specs.Clocks.{keeps, zeroPast, inLimit, reset, resetFrom}
 use Rattle.expr.specs.Moves.{variablesAfter, clocksAfter, zerosPast}
 use Rattle.expr.proofs.Bools.{parts, and-l, and-r, both, same, decided, cond-yes, cond-no, implies-by, clash, or-r}
 use Rattle.expr.proofs.Lists.{all-at, all-by, all-below, below-all, any-at, any-by, any-none, any-below, below-any, below-at, below-by, getD-mem, mem-getD, getD-mapped, length-below}
-use Rattle.expr.proofs.Bits.{has-zero, has-bitsOf, bits-same}
+use Rattle.expr.proofs.Labels.{variables-stay, clocks-stay}
 use Rattle.chart.specs.Chart.{Chart}
 use Rattle.chart.specs.Tree.{sequentials}
 use Rattle.chart.specs.Machine.{isConfiguration as isChartConfiguration}
@@ -28,7 +28,9 @@ use Rattle.chart.proofs.Rules.{Passed}
 use Rattle.network.specs.Network.{Location, Edge, Network, locationAt, ownerOf}
 use Rattle.network.specs.Machine.{place, boundsKept, isConfiguration, flagsAgree, activeEdge, urgentAt, urgent, overwrite, move, write, after}
 use Rattle.flattener.specs.Flatten.{Place, samePlace, number, automaton, placeHome, boundsOf, atExit, initialPlace, flagAt, writtenBy, valuesBy, signalling, edge, ownEdge, urgentPlace, flatten}
-use Rattle.flattener.proofs.Automata.{Region, sequentials-at, regionAt, region-at, automaton-lt, region-of-automaton, automaton-of-region, automaton-injective}
+use Rattle.network.proofs.Moving.{move-length, move-other, move-to, write-length, write-other, write-to}
+use Rattle.flattener.proofs.Flags.{write-flags, write-again}
+use Rattle.flattener.proofs.Automata.{all-automata, any-automata, Region, sequentials-at, regionAt, region-at, automaton-lt, region-of-automaton, automaton-of-region, automaton-injective}
 use Rattle.flattener.proofs.Numbers.{IsPlace, PlaceOf, same-place-at, same-place-by, number-lt, number-injective, automaton-of-place, urgent-of-place, bounds-of-place, locations-length}
 use Rattle.flattener.proofs.Edges.{Leaves, source-of, edges-at, owner-of}
 use Rattle.agreement.specs.Agreement.{ChartConfiguration, NetworkConfiguration}
@@ -37,21 +39,6 @@ use Rattle.agreement.proofs.Relation.{standing}
 -- f has each automaton at one of its places
 abbrev pub Fits : Chart → (ℕ → Place) → Type 0
 Fits c f = (q : ℕ) → Region c q → PlaceOf c q (f q)
-
--- a test of every automaton, or of some, by its sequential state
-module _ (c : Chart) (p q : ℕ → Bool) (agree : (r : ℕ) → Region c r → p (automaton c r) ≡ q r) where
-  at-region : (a : ℕ) → a < length (sequentials c) → p a ≡ q (regionAt c a)
-  at-region a h = ap p (sym (automaton-of-region c a h)) ∙ agree (regionAt c a) (region-at c a h)
-
-  pub all-automata : all p (below (length (sequentials c))) ≡ all q (sequentials c)
-  all-automata = same _ _
-      (λ h. all-by q (sequentials c) (λ r m. let g = sequentials-at c m in sym (agree r g) ∙ all-below p _ h (automaton c r) (automaton-lt c g)))
-      (λ h. below-all p _ (λ a l. at-region a l ∙ all-at q (sequentials c) h (getD-mem (sequentials c) a 0 l)))
-
-  pub any-automata : any p (below (length (sequentials c))) ≡ any q (sequentials c)
-  any-automata = same _ _
-      (λ h. let k = any-below p _ h in any-by q (getD-mem (sequentials c) (k .0) 0 (k .1)) (sym (at-region (k .0) (k .1)) ∙ k .2))
-      (λ h. let k = any-at q (sequentials c) h in let g = sequentials-at c (k .1) in below-any p _ (automaton c (k .0)) (automaton-lt c g) (agree (k .0) g ∙ k .2))
 
 -- a list with an element for each automaton, and z past them
 unfoldable perAutomaton : {A : Type 0} → Chart → (ℕ → A) → A → List A
@@ -157,22 +144,12 @@ abbrev pub Signals : Label → Type 0
 Signals l = (signal : ℕ) × (channel : ℕ) × (l ≡ signalling signal channel)
 
 pub signals-variables : (ls : List Label) (vs : List ℤ) → ((l : Label) → Mem l ls → Signals l) → variablesAfter ls vs ≡ vs
-unfolding variablesAfter concat signalling assign
-signals-variables ls vs h = ap (λ us. assign vs us vs) (none ls h) ∙ refl
-  where
-    none : (ls : List Label) → ((l : Label) → Mem l ls → Signals l) → concat (λ l. l .body .updates) ls ≡ []
-    none [] h = refl
-    none (l ∷ ls) h = ap₂ _++_ (ap (λ (x : Label). x .body .updates) (h l (here refl) .2)) (none ls (λ x m. h x (there m)))
-
-reset-none : (i : ℕ) (cs : List ℕ) → resetFrom 0 i cs ≡ cs
-unfolding resetFrom
-reset-none i [] = refl
-reset-none i (x ∷ xs) = ap₂ _∷_ (cond-no 0 x (has-zero i)) (reset-none (suc i) xs)
+unfolding signalling
+signals-variables ls vs h = variables-stay ls vs (λ l m. ap (λ (x : Label). x .body .updates) (h l m .2))
 
 pub signals-clocks : (ls : List Label) (cs : List ℕ) → ((l : Label) → Mem l ls → Signals l) → clocksAfter ls cs ≡ cs
-unfolding clocksAfter reset signalling
-signals-clocks [] cs h = refl
-signals-clocks (l ∷ ls) cs h = ap (clocksAfter ls) (ap (λ (x : Label). reset (x .resets) cs) (h l (here refl) .2) ∙ reset-none 0 cs) ∙ signals-clocks ls cs (λ x m. h x (there m))
+unfolding signalling
+signals-clocks ls cs h = clocks-stay ls cs (λ l m. ap (λ (x : Label). x .resets) (h l m .2))
 
 -- the standing of a configuration's variables and clocks is a configuration, just when it keeps the bounds
 module _ (c : Chart) (passed : Passed c) (f : ℕ → Place) (fits : Fits c f) where
@@ -194,93 +171,6 @@ module _ (c : Chart) (passed : Passed c) (f : ℕ → Place) (fits : Fits c f) w
       let z : zeroPast (c .clocks) (σ .clocks) ≡ true = search parts in
       same _ _ (λ k. search parts depth 8)
       (λ k. both (known-places (σ .variables) (σ .clocks)) (both (per-zero c (passed .at-most) (λ q. number c (f q))) (both (per-zero c (passed .at-most) (λ q. bitsOf (flagAt c q (f q)) 8)) (both v (both l (both z k))))))
-
--- an edge writes exactly the flags in which its ends differ
-module _ (c : Chart) (q : ℕ) (p r : Place) (home-is : placeHome c r ≡ q) where
-  differs : (a b d : Bool) → cond (xor a b) (xor a b && xor d b) (xor d a) ≡ xor d b
-  unfolding xor
-  differs true true d = refl
-  differs true false d = refl
-  differs false true d = refl
-  differs false false d = refl
-
-  stays : (a b d : Bool) → cond (xor a b) (xor a b && xor d b) (xor d b) ≡ xor d b
-  unfolding xor
-  stays true true d = refl
-  stays true false d = refl
-  stays false true d = refl
-  stays false false d = refl
-
-  overwritten : (x : ℕ) → ((i : ℕ) → i < 8 → cond (has (writtenBy c p r) i) (has (valuesBy c p r) i) (has x i) ≡ flagAt c q r i) → overwrite x (writtenBy c p r) (valuesBy c p r) ≡ bitsOf (flagAt c q r) 8
-  unfolding overwrite
-  overwritten x f = bits-same _ _ 8 f
-
-  write-flags : overwrite (bitsOf (flagAt c q p) 8) (writtenBy c p r) (valuesBy c p r) ≡ bitsOf (flagAt c q r) 8
-  unfolding writtenBy valuesBy flagAt
-  write-flags = overwritten _ (λ i l. rw (has-bitsOf _ 8 i l, has-bitsOf _ 8 i l, has-bitsOf _ 8 i l, home-is) (differs (atExit c p i) (atExit c r i) (atExit c (initialPlace c q) i)))
-
-  write-again : overwrite (bitsOf (flagAt c q r) 8) (writtenBy c p r) (valuesBy c p r) ≡ bitsOf (flagAt c q r) 8
-  unfolding writtenBy valuesBy flagAt
-  write-again = overwritten _ (λ i l. rw (has-bitsOf _ 8 i l, has-bitsOf _ 8 i l, has-bitsOf _ 8 i l, home-is) (stays (atExit c p i) (atExit c r i) (atExit c (initialPlace c q) i)))
-
--- the list after some edges, at the number of an automaton
-module _ (n : Network) (a : ℕ) where
-  move-length : (es : List Edge) (ls : List ℕ) → length (move n es ls) ≡ length ls
-  unfolding move
-  move-length [] ls = refl
-  move-length (e ∷ es) ls = move-length es _ ∙ length-set ls (ownerOf n e) (e .target)
-
-  write-length : (es : List Edge) (fs : List ℕ) → length (write n es fs) ≡ length fs
-  unfolding write
-  write-length [] fs = refl
-  write-length (e ∷ es) fs = write-length es _ ∙ length-set fs (ownerOf n e) _
-
-  move-other : (es : List Edge) (ls : List ℕ) → ((e : Edge) → Mem e es → ownerOf n e ≢ a) → getD (move n es ls) a 0 ≡ getD ls a 0
-  unfolding move
-  move-other [] ls h = refl
-  move-other (e ∷ es) ls h = move-other es _ (λ x m. h x (there m)) ∙ getD-set-other ls (ownerOf n e) a (e .target) 0 (λ q. h e (here refl) (sym q))
-
-  write-other : (es : List Edge) (fs : List ℕ) → ((e : Edge) → Mem e es → ownerOf n e ≢ a) → getD (write n es fs) a 0 ≡ getD fs a 0
-  unfolding write
-  write-other [] fs h = refl
-  write-other (e ∷ es) fs h = write-other es _ (λ x m. h x (there m)) ∙ getD-set-other fs (ownerOf n e) a _ 0 (λ q. h e (here refl) (sym q))
-
-  module _ (t : ℕ) where
-    move-kept : (es : List Edge) (ls : List ℕ) → a < length ls → ((e : Edge) → Mem e es → ownerOf n e ≡ a → e .target ≡ t) → getD ls a 0 ≡ t → getD (move n es ls) a 0 ≡ t
-    unfolding move
-    move-kept [] ls l h k = k
-    move-kept (e ∷ es) ls l h k = move-kept es _ (omega (arith, length-set ls (ownerOf n e) (e .target))) (λ x m. h x (there m)) (elim (ℕ-discrete a (ownerOf n e)) [
-      | yes q ↦ ap (λ (i : ℕ). getD (set ls (ownerOf n e) (e .target)) i 0) q ∙ getD-set-same ls (ownerOf n e) (e .target) 0 (omega arith) ∙ h e (here refl) (sym q)
-      | no d ↦ getD-set-other ls (ownerOf n e) a (e .target) 0 d ∙ k
-    ])
-
-    move-to : {e : Edge} (es : List Edge) (ls : List ℕ) → a < length ls → ((e : Edge) → Mem e es → ownerOf n e ≡ a → e .target ≡ t) → Mem e es → ownerOf n e ≡ a → getD (move n es ls) a 0 ≡ t
-    unfolding move
-    move-to (e ∷ es) ls l h (here p) o = move-kept es _ (omega (arith, length-set ls (ownerOf n e) (e .target))) (λ x m. h x (there m))
-        (let q = ap (ownerOf n) (sym p) ∙ o in ap (λ (i : ℕ). getD (set ls (ownerOf n e) (e .target)) i 0) (sym q) ∙ getD-set-same ls (ownerOf n e) (e .target) 0 (omega arith) ∙ h e (here refl) q)
-    move-to (e ∷ es) ls l h (there m) o = move-to es _ (omega (arith, length-set ls (ownerOf n e) (e .target))) (λ x k. h x (there k)) m o
-
-  -- flags x become y, and stay so
-  module _ (x y : ℕ) where
-    abbrev Writes : List Edge → Type 0
-    Writes es = (e : Edge) → Mem e es → ownerOf n e ≡ a → (overwrite x (e .written) (e .values) ≡ y) × (overwrite y (e .written) (e .values) ≡ y)
-
-    write-kept : (es : List Edge) (fs : List ℕ) → a < length fs → Writes es → getD fs a 0 ≡ y → getD (write n es fs) a 0 ≡ y
-    unfolding write
-    write-kept [] fs l h k = k
-    write-kept (e ∷ es) fs l h k = write-kept es _ (omega (arith, length-set fs (ownerOf n e) (overwrite (getD fs (ownerOf n e) 0) (e .written) (e .values)))) (λ z m. h z (there m)) (elim (ℕ-discrete a (ownerOf n e)) [
-      | yes q ↦ ap (λ (i : ℕ). getD (set fs (ownerOf n e) (overwrite (getD fs (ownerOf n e) 0) (e .written) (e .values))) i 0) q ∙ getD-set-same fs (ownerOf n e) _ 0 (omega arith)
-          ∙ ap (λ (z : ℕ). overwrite z (e .written) (e .values)) (ap (λ (i : ℕ). getD fs i 0) (sym q) ∙ k) ∙ h e (here refl) (sym q) .1
-      | no d ↦ getD-set-other fs (ownerOf n e) a _ 0 d ∙ k
-    ])
-
-    write-to : {e : Edge} (es : List Edge) (fs : List ℕ) → a < length fs → Writes es → getD fs a 0 ≡ x → Mem e es → ownerOf n e ≡ a → getD (write n es fs) a 0 ≡ y
-    unfolding write
-    write-to {e = b} (e ∷ es) fs l h k m o = let long = length-set fs (ownerOf n e) (overwrite (getD fs (ownerOf n e) 0) (e .written) (e .values)) in elim (ℕ-discrete a (ownerOf n e)) [
-      | yes q ↦ write-kept es _ (omega arith) (λ z j. h z (there j)) (ap (λ (i : ℕ). getD (set fs (ownerOf n e) (overwrite (getD fs (ownerOf n e) 0) (e .written) (e .values))) i 0) q ∙ getD-set-same fs (ownerOf n e) _ 0 (omega arith)
-          ∙ ap (λ (z : ℕ). overwrite z (e .written) (e .values)) (ap (λ (i : ℕ). getD fs i 0) (sym q) ∙ k) ∙ h e (here refl) (sym q) .0)
-      | no d ↦ ⊎-elim (λ p. absurd (d (sym (ap (ownerOf n) (sym p) ∙ o)))) (λ j. write-to es _ (omega arith) (λ z i. h z (there i)) (getD-set-other fs (ownerOf n e) a _ 0 d ∙ k) j o) (cases-cons m)
-    ]
 
 -- e takes an automaton from where f has it to where g has it
 pub record Takes (c : Chart) (f g : ℕ → Place) (e : Edge) : Type 0 where

@@ -3,7 +3,7 @@ use mathlib.Core.Path.{_≡_, refl, sym, ap, _∙_, subst}
 use mathlib.Core.Bool.{Bool, true, not, _&&_}
 use mathlib.Core.Logic.{_⊎_, inl, inr, ⊎-elim, _≢_}
 use mathlib.Core.List.{List, map, List·Memᴰ as Mem}
-use Prim.Native.Nat.{ℕ, _<_}
+use Prim.Native.Nat.{ℕ, _+_, _<_}
 use native.Mathlib.Omega.{arith}
 use native.Mathlib.Decide.{ℕ-discrete}
 use borrow.Author.Tests.{eqb-true, eqb-false, eq-eqb, ne-eqb, ltb-true, not-true}
@@ -11,6 +11,7 @@ use lib.Dec.{ltb, eqb}
 use lib.ListN.{length}
 use Rattle.expr.specs.Lists.{has, all}
 use Rattle.expr.specs.Answer.{done}
+use Rattle.expr.specs.Label.{channelFits}
 use Rattle.expr.specs.Moves.{known, allowed}
 use Rattle.expr.proofs.Bools.{parts, clash, decided, and-l, both, cond-yes, cond-no, not-yes}
 use Rattle.expr.proofs.Lists.{all-at, all-below, map-at, map-by, getD-mem}
@@ -85,6 +86,16 @@ step-at c σ ms h =
 pub transition-mem : (c : Chart) (m : ℕ) → m < length (c .transitions) → Mem (transitionAt c m) (c .transitions)
 unfolding transitionAt
 transition-mem c m h = getD-mem (c .transitions) m _ h
+
+-- one that signals does so on a channel of the chart
+pub channel-lt : (c : Chart) → Ranges c → (t : ℕ) → t < length (c .transitions) → transitionAt c t .label .signal ≢ 0 → transitionAt c t .label .channel < c .rendezvous + c .broadcasts
+unfolding channelFits
+channel-lt c ranges t h d =
+    ltb-true _ _ (sym (cond-no _ _ (ne-eqb (transitionAt c t .label .signal) 0 d)) ∙ ranges .of-transition _ (transition-mem c t h) .label-known .channel-known)
+
+-- how one enters its destination
+pub entry-of : (c : Chart) → Passed c → Ranges c → (t : ℕ) → t < length (c .transitions) → Entry c (transitionAt c t .destination) (transitionAt c t .entry)
+entry-of c passed ranges t h = let m = transition-mem c t h in entry-at c (transitionAt c t) (ranges .of-transition _ m .entry-known) (all-at _ _ (passed .enter) m)
 
 -- an active transition's source is active
 pub active-source : (c : Chart) (σ : Configuration) (t : Transition) → activeTransition c σ t ≡ true → isActive σ (t .source) ≡ true

@@ -1,8 +1,8 @@
 -- Laws of assignments, of rule 13's test, and of the body of a label.
 use mathlib.Core.Path.{_≡_, refl, sym, ap, ap₂, _∙_, subst}
 use mathlib.Core.Bool.{Bool, true, false, not, _&&_, _||_, or-true, or-false}
-use mathlib.Core.List.{List, [], _∷_, _++_, map-append}
-use Prim.Native.Nat.{ℕ, _<_}
+use mathlib.Core.List.{List, [], _∷_, _++_, map-append, List·Memᴰ as Mem, List·Memᴰ·head as here, List·Memᴰ·tail as there}
+use Prim.Native.Nat.{ℕ, suc, _<_}
 use native.Mathlib.Omega.{arith}
 use native.Mathlib.Decide.{ℕ-discrete}
 use lib.IntN.{ℤ}
@@ -10,13 +10,16 @@ use lib.Dec.{eqb}
 use lib.ListN.{length, getD, set}
 use lib.Seq.{getD-set-same, getD-set-other}
 use borrow.Author.Tests.{eqb-true, eq-eqb, ne-eqb, ltb-true}
-use Rattle.expr.specs.Lists.{all, any, elem}
+use Rattle.expr.specs.Lists.{all, any, elem, concat}
 use Rattle.expr.specs.Reading.{got, byte}
 use Rattle.expr.specs.Expression.{value}
 use Rattle.expr.specs.Guard.{Update, Limits, update, assign}
 use Rattle.expr.specs.Label.{Label, body, label, targets, distinct}
-use Rattle.expr.proofs.Bools.{same}
+use Rattle.expr.specs.Clocks.{reset, resetFrom}
+use Rattle.expr.specs.Moves.{variablesAfter, clocksAfter}
+use Rattle.expr.proofs.Bools.{same, cond-no}
 use Rattle.expr.proofs.Lists.{any-more}
+use Rattle.expr.proofs.Bits.{has-zero}
 use Rattle.expr.proofs.Reading.{bind-at, next-at, such-at, yield-at, yield-rest}
 
 eqb-swap : (x y : ℕ) → eqb x y ≡ eqb y x
@@ -87,3 +90,22 @@ label-body l channels s {b} {t} h =
     let w = next-at (body l (z .1)) _ (z .3) in
     let e = yield-at (w .1) (w .3) in
     sym (ap (λ (k : Label). body l (k .bytes)) e) ∙ w .2 ∙ ap₂ got (ap (λ (k : Label). k .body) e) (yield-rest _ (w .1) (w .3))
+
+-- labels without assignments leave the variables as they are, and labels without resets the clocks
+pub variables-stay : (ls : List Label) (vs : List ℤ) → ((l : Label) → Mem l ls → l .body .updates ≡ []) → variablesAfter ls vs ≡ vs
+unfolding variablesAfter concat assign
+variables-stay ls vs h = ap (λ (us : List Update). assign vs us vs) (none ls h)
+  where
+    none : (ls : List Label) → ((l : Label) → Mem l ls → l .body .updates ≡ []) → concat (λ l. l .body .updates) ls ≡ []
+    none [] h = refl
+    none (l ∷ ls) h = ap₂ _++_ (h l (here refl)) (none ls (λ x m. h x (there m)))
+
+reset-none : (i : ℕ) (cs : List ℕ) → resetFrom 0 i cs ≡ cs
+unfolding resetFrom
+reset-none i [] = refl
+reset-none i (x ∷ xs) = ap₂ _∷_ (cond-no 0 x (has-zero i)) (reset-none (suc i) xs)
+
+pub clocks-stay : (ls : List Label) (cs : List ℕ) → ((l : Label) → Mem l ls → l .resets ≡ 0) → clocksAfter ls cs ≡ cs
+unfolding clocksAfter reset
+clocks-stay [] cs h = refl
+clocks-stay (l ∷ ls) cs h = ap (clocksAfter ls) (ap (λ (n : ℕ). reset n cs) (h l (here refl)) ∙ reset-none 0 cs) ∙ clocks-stay ls cs (λ x m. h x (there m))

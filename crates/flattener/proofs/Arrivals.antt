@@ -1,13 +1,15 @@
 -- The places that a transition goes through, and those where automata start. Each is of the transition's home, or of the
 -- automaton that starts: `source-place`, `post-place`, `pre-place`, `arrival-place`, `departure-place`, `initial-place`.
 use mathlib.Core.Path.{_≡_, refl, sym, subst}
-use mathlib.Core.Bool.{Bool, true, false, cond}
-use mathlib.Core.Logic.{⊎-elim}
+use mathlib.Core.Bool.{Bool, true, false, cond, not}
+use mathlib.Core.Logic.{⊎-elim, _≢_}
 use mathlib.Core.List.{List·Memᴰ as Mem}
 use Prim.Native.Nat.{ℕ, _<_}
 use native.Mathlib.Omega.{arith}
-use borrow.Author.Tests.{eqb-false, not-true}
+use borrow.Author.Tests.{eqb-true, eqb-false, not-true}
+use lib.Dec.{eqb}
 use lib.ListN.{length}
+use Rattle.expr.proofs.Bools.{clash}
 use Rattle.expr.proofs.Lists.{all-at}
 use Rattle.chart.specs.Chart.{Chart, transitionAt, home}
 use Rattle.chart.specs.Tree.{entered}
@@ -20,6 +22,19 @@ use Rattle.flattener.specs.Flatten.{idle, child, pre, post, hasExit, has
 use Rattle.flattener.proofs.Automata.{Region, marked-child}
 use Rattle.flattener.proofs.Numbers.{PlaceOf, idle-place, child-place}
 use Rattle.flattener.proofs.Channels.{enters-by, leaves-by, enter-pairs-by, exit-pairs-by}
+
+-- an entry, and none
+pub has-entry-at : (c : Chart) (t : ℕ) → hasEntry c t ≡ true → transitionAt c t .entry ≢ 255
+unfolding hasEntry
+has-entry-at c t h = eqb-false (transitionAt c t .entry) 255 (not-true _ h)
+
+pub no-entry-at : (c : Chart) (t : ℕ) → hasEntry c t ≡ false → transitionAt c t .entry ≡ 255
+unfolding hasEntry
+no-entry-at c t h = eqb-true (transitionAt c t .entry) 255 (go (eqb (transitionAt c t .entry) 255) h)
+  where
+    go : (b : Bool) → not b ≡ false → b ≡ true
+    go true h = refl
+    go false h = clash refl h
 
 -- a transition goes from a child of its home to a child of its home
 pub record Ends (c : Chart) (t : ℕ) : Type 0 where
@@ -46,8 +61,7 @@ module _ (c : Chart) (passed : Passed c) (ranges : Ranges c) where
   exit-lt t h e = ⊎-elim (λ l. l) (λ z. absurd (eqb-false (transitionAt c t .exit) 255 (not-true _ e) z)) (ranges .of-transition (transitionAt c t) (transition-mem c t h) .exit-known)
 
   pub entry-lt : (t : ℕ) → t < length (c .transitions) → hasEntry c t ≡ true → transitionAt c t .entry < c .entries
-  unfolding hasEntry
-  entry-lt t h e = ⊎-elim (λ l. l) (λ z. absurd (eqb-false (transitionAt c t .entry) 255 (not-true _ e) z)) (ranges .of-transition (transitionAt c t) (transition-mem c t h) .entry-known)
+  entry-lt t h e = ⊎-elim (λ l. l) (λ z. absurd (has-entry-at c t e z)) (ranges .of-transition (transitionAt c t) (transition-mem c t h) .entry-known)
 
   pub exit-pair : (t : ℕ) → t < length (c .transitions) → hasExit c t ≡ true → Mem (record { state = transitionAt c t .source; mark = transitionAt c t .exit }) (exitPairs c)
   exit-pair t h e = exit-pairs-by c _ (ends t h .from .known) (exit-lt t h e) (leaves-by c t h)
