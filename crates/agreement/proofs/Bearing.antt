@@ -103,10 +103,11 @@ module _ (c : Chart) (σ : ChartConfiguration) (tree : isTree c σ ≡ true) whe
       one h t k a = let o = tree-at c σ tree .one q (g .known) (g .is-sequential) (above h) in o .alone t k a ∙ sym (o .alone (h .0) (h .1) (h .2))
 
 -- the edge that bears t when it is active in σ: it tests the automata that are at the exit
+abbrev pub testedBy : Chart → ChartConfiguration → ℕ → ℕ
+testedBy c σ t = cond (hasExit c t) (atSet c σ (transitionAt c t .source) (transitionAt c t .exit)) 0
+
 unfoldable pub carrier : Chart → ChartConfiguration → ℕ → Edge
-carrier c σ t =
-    let u = transitionAt c t in
-    edge c (child (u .source)) (departure c t) t (u .exit) (cond (hasExit c t) (atSet c σ (u .source) (u .exit)) 0) (u .label)
+carrier c σ t = edge c (child (transitionAt c t .source)) (departure c t) t (transitionAt c t .exit) (testedBy c σ t) (transitionAt c t .label)
 
 bears-label : (c : Chart) (t : ℕ) (r : Place) (e : Edge) → Bears c t r e → e .label ≡ transitionAt c t .label
 unfolding edge
@@ -267,7 +268,7 @@ module _ (c : Chart) (passed : Passed c) (ranges : Ranges c) where
       unfolding carrier hasExit
       carrier-bears = record {
         exit = transitionAt c t .exit;
-        set = cond (hasExit c t) (atSet c σ (transitionAt c t .source) (transitionAt c t .exit)) 0;
+        set = testedBy c σ t;
         tests = ⊎-elim
             (λ z. inl (z, refl, cast (cond-yes _ 0 z) (alternative-of-completed c passed ranges σ tree (transitionAt c t .source) (transitionAt c t .exit) (source-composite t h z) source-active (exit-completed z))))
             (λ z. inr (z, eqb-true (transitionAt c t .exit) 255 (not-false _ z), cond-no _ 0 z))
@@ -284,15 +285,18 @@ module _ (c : Chart) (passed : Passed c) (ranges : Ranges c) where
           go true z = flags-agree-by _ _ t (transitionAt c t .exit) _ _ (omega (arith, exit-lt c passed ranges t h z, ranges .exits-few)) (at-set-has (transitionAt c t .source) (transitionAt c t .exit))
           go false z = untested-agree _ _ t (transitionAt c t .exit) _
 
+      pub carrier-leaves : Leaves c (child (transitionAt c t .source)) (carrier c σ t)
+      carrier-leaves = bears-leaves t (carrier c σ t) h carrier-bears
+
       pub carrier-mem : Mem (carrier c σ t) (flatten c .edges)
-      carrier-mem = edges-by c passed ranges (source-place c passed ranges t h .is-place) (bears-leaves t (carrier c σ t) h carrier-bears)
+      carrier-mem = edges-by c passed ranges (source-place c passed ranges t h .is-place) carrier-leaves
 
       pub carrier-active : activeEdge (flatten c) (picture c σ) (carrier c σ t) ≡ true
       unfolding activeTransition placeHome home
       carrier-active =
           let p = source-place c passed ranges t h .is-place in
           active-parts (carrier c σ t) ∙ both
-          (occupied-by (child (transitionAt c t .source)) (carrier c σ t) p (bears-leaves t (carrier c σ t) h carrier-bears) (pictured-child c σ tree (p .region) (ends c passed ranges t h .from) source-active))
+          (occupied-by (child (transitionAt c t .source)) (carrier c σ t) p carrier-leaves (pictured-child c σ tree (p .region) (ends c passed ranges t h .from) source-active))
           (both (ap (guardsHold (σ .variables) (σ .clocks)) (bears-label c t (departure c t) (carrier c σ t) carrier-bears) ∙ and-l (guardsHold (σ .variables) (σ .clocks) (transitionAt c t .label)) _ (and-r (isActive σ (transitionAt c t .source)) _ k)) carrier-agrees)
 
     -- every active edge of the picture is the carrier of an active transition, or hears a channel of the network's own

@@ -5,6 +5,8 @@ pub mod Standing
 pub mod Bearing
 pub mod Accepted
 pub mod Departing
+pub mod Carrying
+pub mod Settled
 pub mod Broadcast
 pub mod Pending
 pub mod Paying
@@ -14,3 +16,4 @@ pub mod Owed
 pub mod Picture
 pub mod Borne
 pub mod Runs
+pub mod Demand

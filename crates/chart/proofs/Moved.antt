@@ -4,16 +4,22 @@ use mathlib.Core.Path.{_≡_, refl, sym, ap, _∙_, subst}
 use mathlib.Core.Bool.{Bool, true, false, not, _&&_}
 use mathlib.Core.Logic.{_⊎_, inl, inr, ⊎-elim}
 use mathlib.Core.List.{List, map, List·Memᴰ as Mem}
-use Prim.Native.Nat.{ℕ, _<_}
+use Prim.Native.Nat.{ℕ, _+_, _<_}
 use borrow.Author.Tests.{lt-ltb, not-true}
 use lib.Dec.{ltb}
 use lib.ListN.{length}
 use Rattle.expr.specs.Lists.{all, any}
-use Rattle.expr.proofs.Bools.{clash, fails, and-l, and-r, both, or-l, or-cases, same, not-yes}
+use Rattle.expr.specs.Guard.{Update, limits}
+use Rattle.expr.specs.Label.{Label}
+use Rattle.expr.specs.Clocks.{inLimit, zeroPast}
+use Rattle.expr.specs.Moves.{zerosPast}
+use Rattle.expr.proofs.Bools.{parts, clash, fails, and-l, and-r, both, or-l, or-cases, same, not-yes}
 use Rattle.expr.proofs.Lists.{all-at, all-by, any-at, map-at, map-by}
+use Rattle.expr.proofs.Ranges.{LabelRange}
+use Rattle.expr.proofs.Kept.{updates-known, zeros-past-after, in-limit-after, zero-past-after}
 use Rattle.chart.specs.Chart.{Chart, Transition, transitionAt, parentOf, home}
 use Rattle.chart.specs.Tree.{under, entered}
-use Rattle.chart.specs.Machine.{isActive, isTree, after, activeAfter}
+use Rattle.chart.specs.Machine.{isActive, isTree, isConfiguration, boundsKept, after, activeAfter}
 use Rattle.chart.specs.declared.configuration.Configuration.{Configuration}
 use Rattle.chart.proofs.Tree.{size}
 use Rattle.chart.proofs.Entered.{entered-under}
@@ -21,7 +27,7 @@ use Rattle.chart.proofs.Active.{IsTree, tree-at, active-known}
 use Rattle.chart.proofs.Rules.{Passed}
 use Rattle.chart.proofs.Ranges.{Ranges}
 use Rattle.chart.proofs.After.{Fires, after-active, after-entered, free-of-source, free-of-destination, destination-active, destinations-same, stays-clear, home-stays}
-use Rattle.chart.proofs.Step.{Together, together-fires, together-tree}
+use Rattle.chart.proofs.Step.{Together, together-fires, together-tree, transition-mem}
 
 module _ (c : Chart) (passed : Passed c) (ranges : Ranges c) (σ : Configuration) (tree : isTree c σ ≡ true) (ts : List ℕ) (together : Together c σ ts) where
   abbrev next : Configuration
@@ -88,3 +94,31 @@ module _ (c : Chart) (passed : Passed c) (ranges : Ranges c) (σ : Configuration
   next-home t m =
       let k = home-stays c (passed .tree) (passed .entry-marks) (isActive σ) (tree-at c σ tree) (map (transitionAt c) ts) fires not-nested _ (map-by (transitionAt c) m) in
       stays-active _ (active-known c (isActive σ) (tree-at c σ tree) _ (k .0)) (k .0) (λ u n v. k .1 _ (map-by (transitionAt c) n) v)
+
+  -- a step leads to a configuration, if the bounds are kept
+  pub next-configured : isConfiguration c σ ≡ true → boundsKept c next ≡ true → isConfiguration c next ≡ true
+  unfolding isConfiguration after
+  next-configured h kept = both (together-tree c passed ranges σ ts tree together)
+      (both (zeros-past-after (c .variables) labels (σ .variables) assigned ∙ variables)
+      (both (in-limit-after (c .clocks) labels (σ .clocks) clocks)
+      (both (zero-past-after (c .clocks) labels (σ .clocks) past) kept)))
+    where
+      labels : List Label
+      labels = map (λ (t : Transition). t .label) (map (transitionAt c) ts)
+
+      variables : zerosPast (c .variables) (σ .variables) ≡ true
+      variables = search parts
+
+      clocks : inLimit (c .clocks) (σ .clocks) ≡ true
+      clocks = search parts
+
+      past : zeroPast (c .clocks) (σ .clocks) ≡ true
+      past = search parts
+
+      assigned : (l : Label) → Mem l labels → (u : Update) → Mem u (l .body .updates) → u .target < c .variables
+      assigned l m u k =
+          let r = map-at (λ (t : Transition). t .label) (map (transitionAt c) ts) m in
+          let j = map-at (transitionAt c) ts (r .1) in
+          updates-known (limits (c .clocks) (c .variables)) _ l
+          (subst (LabelRange (limits (c .clocks) (c .variables)) (c .rendezvous + c .broadcasts)) (sym (r .2 ∙ ap (λ (t : Transition). t .label) (j .2)))
+          (ranges .of-transition (transitionAt c (j .0)) (transition-mem c (j .0) (together .each-known (j .0) (j .1))) .label-known)) u k

@@ -14,8 +14,8 @@ use Rattle.expr.specs.Answer.{done}
 use Rattle.expr.specs.Label.{channelFits}
 use Rattle.expr.specs.Moves.{known, allowed}
 use Rattle.expr.proofs.Bools.{parts, clash, decided, and-l, both, cond-yes, cond-no, not-yes}
-use Rattle.expr.proofs.Lists.{all-at, all-below, map-at, map-by, getD-mem}
-use Rattle.expr.proofs.Answer.{unless-at, done-injective}
+use Rattle.expr.proofs.Lists.{all-at, all-by, all-below, map-at, map-by, getD-mem}
+use Rattle.expr.proofs.Answer.{unless-at, unless-by, done-injective}
 use Rattle.expr.proofs.Sets.{allowed-set-at, allowed-channels}
 use Rattle.expr.proofs.Rows.{ClockValues, values-in-limit, values-zeros, keeps-zeros, in-limit-zeros, zero-past-zeros, zeros-past-zeros}
 use Rattle.chart.specs.Chart.{Chart, Transition, stateAt, transitionAt, parentOf, basic, sequential, home}
@@ -58,6 +58,7 @@ entry-at c t range h = ⊎-elim
 -- what a step that is not refused says
 pub record Stepped (c : Chart) (σ : Configuration) (ms : List ℕ) (τ : Configuration) : Type 0 where
   pub given : isConfiguration c σ ≡ true
+  pub are-known : known (length (c .transitions)) ms ≡ true
   pub each-known : (m : ℕ) → Mem m ms → m < length (c .transitions)
   pub each-active : (m : ℕ) → Mem m ms → activeTransition c σ (transitionAt c m) ≡ true
   pub is-allowed : allowed (λ m. transitionAt c m .label) (home c) (λ m. activeTransition c σ (transitionAt c m)) (length (c .transitions)) (c .rendezvous) ms ≡ true
@@ -80,7 +81,16 @@ step-at c σ ms h =
     let d = unless-at 19 _ _ (b .1) in
     let e = unless-at 20 _ _ (d .1) in
     let f = tested-at c _ (e .1) in
-    record { given = a .0; each-known = known-at _ ms (b .0); each-active = λ m k. all-at _ _ (d .0) (map-by (transitionAt c) k); is-allowed = e .0; bounds-kept = f .0; result = f .1 }
+    record { given = a .0; are-known = b .0; each-known = known-at _ ms (b .0); each-active = λ m k. all-at _ _ (d .0) (map-by (transitionAt c) k); is-allowed = e .0; bounds-kept = f .0; result = f .1 }
+
+pub step-by : (c : Chart) (σ : Configuration) (ms : List ℕ) {τ : Configuration} → Stepped c σ ms τ → step c σ ms ≡ done τ
+unfolding step tested
+step-by c σ ms h =
+    unless-by 17 _ (h .given)
+    ∙ (unless-by 18 _ (h .are-known)
+    ∙ (unless-by 19 _ (all-by (activeTransition c σ) _ (λ t k. let r = map-at (transitionAt c) ms k in ap (activeTransition c σ) (r .2) ∙ h .each-active (r .0) (r .1)))
+    ∙ (unless-by 20 _ (h .is-allowed)
+    ∙ (unless-by 21 _ (ap (boundsKept c) (h .result) ∙ h .bounds-kept) ∙ ap done (h .result)))))
 
 -- a known transition is one of the chart's
 pub transition-mem : (c : Chart) (m : ℕ) → m < length (c .transitions) → Mem (transitionAt c m) (c .transitions)

@@ -1,0 +1,271 @@
+-- Step 7 with nothing owed: a move of the network carries a step that the chart accepts (`move-is-step`), a step of the chart is
+-- carried by a move (`step-is-move`), and by one only (`one-move`).
+use mathlib.Core.Path.{_≡_, refl, sym, ap, ap₂, _∙_, subst}
+use mathlib.Core.Bool.{Bool, true, false, _&&_, _||_, not}
+use mathlib.Core.Logic.{_⊎_, inl, inr, ⊎-elim, _≢_}
+use mathlib.Core.List.{List, [], _∷_, map, map-map, List·Memᴰ as Mem, List·Memᴰ·not-nil as not-nil, Memᴰ·cast as cast}
+use Prim.Native.Nat.{ℕ, _≤_, _<_}
+use native.Mathlib.Omega.{arith}
+use borrow.Author.Tests.{eqb-true, eq-eqb, ne-eqb, leb-true}
+use lib.Dec.{eqb, leb}
+use lib.IntN.{ℤ}
+use lib.ListN.{length}
+use Rattle.expr.specs.Lists.{all, any, ascending}
+use Rattle.expr.specs.Answer.{done}
+use Rattle.expr.specs.Guard.{Update}
+use Rattle.expr.specs.Label.{Label, assignsOnce}
+use Rattle.expr.specs.Clocks.{keeps}
+use Rattle.expr.specs.Moves.{known, allowed, variablesAfter, clocksAfter}
+use Rattle.expr.proofs.Bools.{parts, clash, both, same, or-else, not-no}
+use Rattle.expr.proofs.Lists.{Once, all-at, all-by, none-any, map-at, map-by, some-mem, ascending-once}
+use Rattle.expr.proofs.Rows.{keeps-clocks-after}
+use Rattle.expr.proofs.Sets.{ascending-same, Matched, matched-length, allowed-set-at, allowed-set-by, OneAssigns, one-assigns, variables-alike, clocks-alike}
+use Rattle.chart.specs.Chart.{Chart, Transition, transitionAt, home}
+use Rattle.chart.specs.Tree.{sequentials}
+use Rattle.chart.specs.Machine as chart
+use Rattle.chart.proofs.Rules.{Passed}
+use Rattle.chart.proofs.Ranges.{Ranges}
+use Rattle.chart.proofs.After.{after-clocks}
+use Rattle.chart.proofs.Step.{Together, Stepped, step-at, step-by, transition-mem, active-source, allowed-apart, configuration-tree, configuration-clocks, configuration-bounds}
+use Rattle.chart.proofs.Moved.{next-configured}
+use Rattle.network.specs.Network.{Edge, ownerOf}
+use Rattle.network.specs.Machine as network
+use Rattle.network.specs.Machine.{edgeAt, activeEdge}
+use Rattle.flattener.specs.Flatten.{Place, child, edge, number, automaton, placeHome, departure, boundsOf, urgentPlace, flatten}
+use Rattle.flattener.specs.Picture.{pictured, picture}
+use Rattle.flattener.proofs.Automata.{Region, sequentials-at, sequentials-by}
+use Rattle.flattener.proofs.Arrivals.{ends}
+use Rattle.flattener.proofs.Bounds.{bounds-pictured, bounds-after}
+use Rattle.agreement.specs.Agreement.{ChartConfiguration, NetworkConfiguration, Accepts, carried, named}
+use Rattle.agreement.proofs.Relation.{standing, Related}
+use Rattle.agreement.proofs.Claims.{MoveIsStep, StepIsMove, OneMove}
+use Rattle.agreement.proofs.Standing.{Fits, bounds-standing, urgent-standing, configuration-standing, Takes, takes-by, after-standing}
+use Rattle.agreement.proofs.Accepted.{Known, known-at, known-by, Move, Accepted, accepted-at, accepted-by}
+use Rattle.agreement.proofs.Bearing.{testedBy, carrier, picture-stands, pictured-child, pictured-fits, pictured-not-urgent}
+use Rattle.agreement.proofs.Carrying.{Carries, carries-label, carries-owner, carries-active, carries-one, move-carries, carried-ascends, carried-matches, carried-allowed, carriers, carriers-ascend, carried-carriers, carriers-match}
+use Rattle.agreement.proofs.Departing.{departed, departing, departing-owes, departed-at, departed-other, departed-fits, departed-placed, home-cases}
+
+known-parts : (count : ℕ) (ms : List ℕ) → known count ms ≡ true → (1 ≤ length ms) × (length ms ≤ 16) × (ascending ms ≡ true)
+unfolding known
+known-parts count ms h = (leb-true 1 (length ms) (search parts), leb-true (length ms) 16 (search parts), search parts)
+
+-- 13: a receiver assigns nothing
+receiver-assigns-nothing : (l : Label) → assignsOnce l ≡ true → l .signal ≡ 2 → l .body .updates ≡ []
+unfolding assignsOnce
+receiver-assigns-nothing l h e = none (l .body .updates) (eqb-true (length (l .body .updates)) 0 (or-else (not (eqb (l .signal) 2)) _ (search parts) (not-no (eq-eqb (l .signal) 2 e))))
+  where
+    none : (us : List Update) → length us ≡ 0 → us ≡ []
+    none [] z = refl
+    none (u ∷ us) z = absurd (omega arith)
+
+module _ (c : Chart) (passed : Passed c) (ranges : Ranges c) (σ : ChartConfiguration) (given : chart.isConfiguration c σ ≡ true) where
+  tree : chart.isTree c σ ≡ true
+  tree = configuration-tree c σ given
+
+  -- the picture is a configuration of the network, with no urgent place occupied
+  picture-configured : network.isConfiguration (flatten c) (picture c σ) ≡ true
+  picture-configured =
+      let f = pictured-fits c σ tree in
+      ap (network.isConfiguration (flatten c)) (picture-stands c σ) ∙ configuration-standing c passed (pictured c σ) f σ given ∙ bounds-standing c passed (pictured c σ) (σ .variables) (σ .clocks) f
+      ∙ sym (bounds-pictured c passed ranges σ tree (configuration-clocks c σ given)) ∙ configuration-bounds c σ given
+
+  picture-not-urgent : network.urgent (flatten c) (picture c σ) ≡ false
+  picture-not-urgent =
+      ap (network.urgent (flatten c)) (picture-stands c σ) ∙ urgent-standing c passed (pictured c σ) (σ .variables) (σ .clocks) (pictured-fits c σ tree)
+      ∙ none-any _ (sequentials c) (λ q m. ne-eqb (urgentPlace (pictured c σ q)) 1 (omega (arith, pictured-not-urgent c σ q)))
+
+  -- edges ms that carry the transitions ts, which can be taken together
+  module _ (ms ts : List ℕ) (matched : Matched (Carries c σ) ms ts) (together : Together c σ ts) where
+    abbrev next : ChartConfiguration
+    next = chart.after c (map (transitionAt c) ts) σ
+
+    edges-take : (e : Edge) → Mem e (map (edgeAt (flatten c)) ms) → Takes c (pictured c σ) (departed c σ ts) e
+    unfolding carrier
+    edges-take e m =
+        let r = map-at (edgeAt (flatten c)) ms m in
+        let w = matched .right (r .0) (r .1) in
+        takes (w .0) (w .1) (w .2 .is-active) (r .2 ∙ w .2 .edge-is)
+      where
+        takes : (t : ℕ) → Mem t ts → chart.activeTransition c σ (transitionAt c t) ≡ true → e ≡ carrier c σ t → Takes c (pictured c σ) (departed c σ ts) e
+        takes t n a h =
+            let k = ends c passed ranges t (together .each-known t n) in
+            takes-by c (pictured c σ) (departed c σ ts) (pictured-fits c σ tree) (home c t) (k .region) t (transitionAt c t .exit) (testedBy c σ t) (transitionAt c t .label)
+            (h ∙ sym (ap₂ (λ (p g : Place). edge c p g t (transitionAt c t .exit) (testedBy c σ t) (transitionAt c t .label)) (pictured-child c σ tree (k .region) (k .from) (active-source c σ (transitionAt c t) a)) (departed-at c passed ranges σ tree ts together t n)))
+
+    others-stay : (q : ℕ) → Region c q → ((e : Edge) → Mem e (map (edgeAt (flatten c)) ms) → ownerOf (flatten c) e ≢ automaton c q) → departed c σ ts q ≡ pictured c σ q
+    others-stay q g f = departed-other c σ ts q (λ t n e. let w = matched .left t n in f _ (map-by (edgeAt (flatten c)) (w .1)) (carries-owner c passed ranges σ tree (w .0) t (w .2) ∙ ap (automaton c) e))
+
+    -- the move leads where the transitions have departed
+    moved-standing : OneAssigns (λ m. edgeAt (flatten c) m .label) ms → network.after (flatten c) (map (edgeAt (flatten c)) ms) (picture c σ) ≡ standing c (departed c σ ts) (next .variables) (next .clocks)
+    moved-standing a =
+        ap (network.after (flatten c) (map (edgeAt (flatten c)) ms)) (picture-stands c σ)
+        ∙ after-standing c passed (pictured c σ) (departed c σ ts) (departed-fits c passed ranges σ tree ts together) (map (edgeAt (flatten c)) ms) edges-take others-stay (σ .variables) (σ .clocks)
+        ∙ ap₂ (standing c (departed c σ ts)) variables clocks
+      where
+        edge-labels : map (λ (e : Edge). e .label) (map (edgeAt (flatten c)) ms) ≡ map (λ m. edgeAt (flatten c) m .label) ms
+        edge-labels = map-map (λ (e : Edge). e .label) (edgeAt (flatten c)) ms
+
+        labels : map (λ (t : Transition). t .label) (map (transitionAt c) ts) ≡ map (λ t. transitionAt c t .label) ts
+        labels = map-map (λ (t : Transition). t .label) (transitionAt c) ts
+
+        variables : variablesAfter (map (λ (e : Edge). e .label) (map (edgeAt (flatten c)) ms)) (σ .variables) ≡ next .variables
+        variables = unfold chart.after in
+            ap (λ (ls : List Label). variablesAfter ls (σ .variables)) edge-labels
+            ∙ variables-alike (Carries c σ) _ _ (carries-label c σ) ms ts matched (σ .variables) a
+            ∙ ap (λ (ls : List Label). variablesAfter ls (σ .variables)) (sym labels)
+
+        clocks : clocksAfter (map (λ (e : Edge). e .label) (map (edgeAt (flatten c)) ms)) (σ .clocks) ≡ next .clocks
+        clocks = ap (λ (ls : List Label). clocksAfter ls (σ .clocks)) edge-labels ∙ clocks-alike (Carries c σ) _ _ (carries-label c σ) ms ts matched (σ .clocks) ∙ sym (after-clocks c σ ts)
+
+    -- and keeps the bounds, just if the chart does
+    bounds-alike : network.boundsKept (flatten c) (standing c (departed c σ ts) (next .variables) (next .clocks)) ≡ chart.boundsKept c next
+    bounds-alike =
+        bounds-standing c passed (departed c σ ts) (next .variables) (next .clocks) (departed-fits c passed ranges σ tree ts together)
+        ∙ same _ _ (λ h. all-by _ ts (λ t m.
+        ap (λ (p : Place). keeps (boundsOf c p) (next .clocks)) (sym (departed-at c passed ranges σ tree ts together t m)) ∙ all-at _ (sequentials c) h (sequentials-by c (ends c passed ranges t (together .each-known t m) .region))))
+        (λ h. all-by _ (sequentials c) (λ q m. ⊎-elim
+        (λ k. ap (λ (x : ℕ). keeps (boundsOf c (departed c σ ts x)) (next .clocks)) (sym (k .2)) ∙ ap (λ (p : Place). keeps (boundsOf c p) (next .clocks)) (departed-at c passed ranges σ tree ts together (k .0) (k .1)) ∙ all-at _ ts h (k .1))
+        (λ f. ap (λ (p : Place). keeps (boundsOf c p) (next .clocks)) (departed-other c σ ts q f) ∙ still q m)
+        (home-cases c ts q)))
+        ∙ ap (λ (cs : List ℕ). all (λ t. keeps (boundsOf c (departure c t)) cs) ts) (after-clocks c σ ts)
+        ∙ sym (bounds-after c passed ranges σ ts tree (configuration-clocks c σ given) together (configuration-bounds c σ given))
+      where
+        still : (q : ℕ) → Mem q (sequentials c) → keeps (boundsOf c (pictured c σ q)) (next .clocks) ≡ true
+        still q m =
+            ap (keeps (boundsOf c (pictured c σ q))) (after-clocks c σ ts)
+            ∙ keeps-clocks-after _ (boundsOf c (pictured c σ q)) (σ .clocks) (all-at _ (sequentials c) (sym (bounds-pictured c passed ranges σ tree (configuration-clocks c σ given)) ∙ configuration-bounds c σ given) m)
+
+  -- a receiver among edges that carry transitions assigns nothing
+  carriers-silent : (ms : List ℕ) → ((m : ℕ) → Mem m ms → (t : ℕ) × Carries c σ m t) → (m : ℕ) → Mem m ms → edgeAt (flatten c) m .label .signal ≡ 2 → edgeAt (flatten c) m .label .body .updates ≡ []
+  carriers-silent ms f m k e =
+      let r = f m k in
+      let l = carries-label c σ m (r .0) (r .1) in
+      ap (λ (x : Label). x .body .updates) l ∙ receiver-assigns-nothing _ (all-at _ _ (passed .assign-once) (transition-mem c (r .0) (r .1 .known))) (ap (λ (x : Label). x .signal) (sym l) ∙ e)
+
+  -- a move and the transitions that it carries
+  module _ (ms : List ℕ) (ν : NetworkConfiguration) (move : Accepted (flatten c) (picture c σ) ms ν) where
+    abbrev steps : List ℕ
+    steps = carried (flatten c) ms
+
+    numbers : (1 ≤ length ms) × (length ms ≤ 16) × (ascending ms ≡ true)
+    numbers = known-parts _ ms (move .are-known)
+
+    each-carries : (m : ℕ) → Mem m ms → (t : ℕ) × Carries c σ m t
+    each-carries = move-carries c passed ranges σ tree ms (known-at _ ms (move .are-known)) (move .each-active) (move .is-allowed)
+
+    move-matches : Matched (Carries c σ) ms steps
+    move-matches = carried-matches c passed ranges σ tree ms (numbers .2) each-carries
+
+    steps-known : (t : ℕ) → Mem t steps → t < length (c .transitions)
+    steps-known t n = move-matches .left t n .2 .known
+
+    steps-active : (t : ℕ) → Mem t steps → chart.activeTransition c σ (transitionAt c t) ≡ true
+    steps-active t n = move-matches .left t n .2 .is-active
+
+    steps-allowed : allowed (λ t. transitionAt c t .label) (home c) (λ t. chart.activeTransition c σ (transitionAt c t)) (length (c .transitions)) (c .rendezvous) steps ≡ true
+    steps-allowed = sym (carried-allowed c passed ranges σ tree ms steps move-matches) ∙ allowed-set-by _ _ _ _ _ ms (move .is-allowed)
+
+    steps-together : Together c σ steps
+    steps-together = record { each-known = steps-known; each-from = λ t n. active-source c σ _ (steps-active t n); homes = allowed-apart c passed ranges _ steps steps-known steps-allowed }
+
+    move-leads : ν ≡ standing c (departed c σ steps) (next ms steps move-matches steps-together .variables) (next ms steps move-matches steps-together .clocks)
+    move-leads = sym (move .result) ∙ moved-standing ms steps move-matches steps-together (one-assigns (move .is-allowed) (carriers-silent ms each-carries))
+
+    steps-bounds : chart.boundsKept c (next ms steps move-matches steps-together) ≡ true
+    steps-bounds = sym (bounds-alike ms steps move-matches steps-together) ∙ ap (network.boundsKept (flatten c)) (sym move-leads) ∙ move .bounds-kept
+
+    steps-accepted : chart.step c σ steps ≡ done (next ms steps move-matches steps-together)
+    steps-accepted = step-by c σ steps (record {
+      given = given;
+      are-known = known-by _ steps (record { some = omega (arith, numbers .0, same-length); few = omega (arith, numbers .1, same-length); ascends = carried-ascends c ms; each = steps-known });
+      each-known = steps-known;
+      each-active = steps-active;
+      is-allowed = steps-allowed;
+      bounds-kept = steps-bounds;
+      result = refl;
+    })
+      where
+        same-length : length ms ≡ length steps
+        same-length = matched-length (Carries c σ) ms steps move-matches
+
+    steps-some : steps ≡ [] → ⊥
+    steps-some e = omega (arith, numbers .0, matched-length (Carries c σ) ms steps move-matches, ap (λ (l : List ℕ). length l) e)
+
+    steps-related : Related c (next ms steps move-matches steps-together) ν (named c steps)
+    steps-related = record {
+      configured = next-configured c passed ranges σ tree steps steps-together given steps-bounds;
+      places = departed c σ steps;
+      pending = departing c steps;
+      placed = departed-placed c passed ranges σ tree steps steps-together steps-active (ascending-once steps (carried-ascends c ms));
+      network-is = move-leads;
+      bounds-kept = move .bounds-kept;
+      owed-is = departing-owes c steps;
+    }
+
+  -- the transitions of a step and the edges that carry them
+  module _ (ts : List ℕ) (τ : ChartConfiguration) (step : Stepped c σ ts τ) where
+    moves : List ℕ
+    moves = carriers c passed ranges σ tree ts
+
+    ascends : ascending ts ≡ true
+    ascends = known-parts _ ts (step .are-known) .2
+
+    step-matches : Matched (Carries c σ) moves ts
+    unfolding moves
+    step-matches = carriers-match c passed ranges σ tree ts ascends (step .each-known) (step .each-active)
+
+    moves-carry : carried (flatten c) moves ≡ ts
+    unfolding moves
+    moves-carry = carried-carriers c passed ranges σ tree ts ascends (step .each-known) (step .each-active)
+
+    moves-ascend : ascending moves ≡ true
+    unfolding moves
+    moves-ascend = carriers-ascend c passed ranges σ tree ts ascends (step .each-known) (step .each-active)
+
+    step-together : Together c σ ts
+    step-together = record { each-known = step .each-known; each-from = λ t n. active-source c σ _ (step .each-active t n); homes = allowed-apart c passed ranges _ ts (step .each-known) (step .is-allowed) }
+
+    moves-accepted : network.step (flatten c) (picture c σ) moves ≡ done (standing c (departed c σ ts) (next moves ts step-matches step-together .variables) (next moves ts step-matches step-together .clocks))
+    moves-accepted = accepted-by (flatten c) (picture c σ) moves (record {
+      given = picture-configured;
+      are-known = known-by _ moves (record { some = omega (arith, numbers-of .0, same-length); few = omega (arith, numbers-of .1, same-length); ascends = moves-ascend; each = λ m k. step-matches .right m k .2 .edge-known });
+      each-active = λ m k. let r = step-matches .right m k in carries-active c passed ranges σ tree m (r .0) (r .2);
+      urgent-first = λ u. clash u picture-not-urgent;
+      is-allowed = is-allowed;
+      bounds-kept = bounds-alike moves ts step-matches step-together ∙ ap (chart.boundsKept c) (step .result) ∙ step .bounds-kept;
+      result = moved-standing moves ts step-matches step-together (one-assigns is-allowed (carriers-silent moves (λ m k. let r = step-matches .right m k in (r .0, r .2))));
+    })
+      where
+        numbers-of : (1 ≤ length ts) × (length ts ≤ 16) × (ascending ts ≡ true)
+        numbers-of = known-parts _ ts (step .are-known)
+
+        same-length : length moves ≡ length ts
+        same-length = matched-length (Carries c σ) moves ts step-matches
+
+        is-allowed : Move (flatten c) (picture c σ) moves
+        is-allowed = allowed-set-at _ _ _ _ _ moves (carried-allowed c passed ranges σ tree moves ts step-matches ∙ step .is-allowed)
+
+  -- two moves that carry the same transitions have the same edges
+  edges-within : (ms ns : List ℕ) (μ ν : NetworkConfiguration) → Accepted (flatten c) (picture c σ) ms μ → Accepted (flatten c) (picture c σ) ns ν → carried (flatten c) ms ≡ carried (flatten c) ns → (m : ℕ) → Mem m ms → Mem m ns
+  edges-within ms ns μ ν a b e m k =
+      let r = move-matches ms μ a .right m k in
+      let l = move-matches ns ν b .left (r .0) (subst (Mem (r .0)) e (r .1)) in
+      cast (carries-one c passed ranges σ tree m (l .0) (r .0) (r .2) (l .2)) (l .1)
+
+pub move-is-step : MoveIsStep
+move-is-step c passed ranges σ given ms ν h =
+    let move = accepted-at (flatten c) (picture c σ) ms h in
+    (chart.after c (map (transitionAt c) (carried (flatten c) ms)) σ, steps-accepted c passed ranges σ given ms ν move, steps-some c passed ranges σ given ms ν move, steps-related c passed ranges σ given ms ν move)
+
+pub step-is-move : StepIsMove
+unfolding Accepts
+step-is-move c passed ranges σ given ts (τ, h) =
+    let step = step-at c σ ts h in
+    (moves c passed ranges σ given ts τ step, (_, moves-accepted c passed ranges σ given ts τ step), moves-carry c passed ranges σ given ts τ step)
+
+pub one-move : OneMove
+unfolding Accepts
+one-move c passed ranges σ given ms ns (μ, h) (ν, k) e =
+    let a = accepted-at (flatten c) (picture c σ) ms h in
+    let b = accepted-at (flatten c) (picture c σ) ns k in
+    ascending-same ms ns (known-parts _ ms (a .are-known) .2) (known-parts _ ns (b .are-known) .2) (edges-within c passed ranges σ given ms ns μ ν a b e) (edges-within c passed ranges σ given ns ms ν μ b a (sym e))
