@@ -1,14 +1,13 @@
 -- What it says that a network accepts a step or a wait.
-use mathlib.Core.Path.{_≡_, refl, sym, ap, _∙_, subst}
-use mathlib.Core.Bool.{Bool, true, false, not}
+use mathlib.Core.Path.{_≡_, sym, ap, _∙_, subst}
+use mathlib.Core.Bool.{true, false}
 use mathlib.Core.List.{List, map, List·Memᴰ as Mem}
 use Prim.Native.Nat.{ℕ, _≤_, _<_}
 use borrow.Author.Tests.{ltb-true, lt-ltb, le-leb, not-true}
-use lib.Dec.{ltb, leb}
+use lib.Dec.{ltb}
 use lib.ListN.{length}
-use Rattle.expr.specs.Lists.{all, any, ascending, implies}
-use Rattle.expr.specs.Answer.{Answer, done, refused}
-use Rattle.expr.specs.Clocks.{inLimit, later}
+use Rattle.expr.specs.Lists.{any, ascending}
+use Rattle.expr.specs.Answer.{done}
 use Rattle.expr.specs.Moves.{known}
 use Rattle.expr.proofs.Bools.{parts, both, implies-at, implies-by}
 use Rattle.expr.proofs.Lists.{all-at, all-by, any-at, any-by, map-at, map-by}
