@@ -1,4 +1,5 @@
--- Step 8: demand 3 from the claims of steps 6 and 7, by induction over the list of calls.
+-- Step 8: demand 3 from the claims of steps 6 and 7, by induction over the list of calls (`demand3-by`). What holds after
+-- every call is `Invariant`; that a chart list is read from a network list is `Reaches`.
 use mathlib.Core.Path.{_≡_, refl, sym, ap, _∙_, subst, subst₂}
 use mathlib.Core.Bool.{true, false}
 use mathlib.Core.List.{List, [], _∷_, _++_, append-assoc, append-nil}
@@ -21,8 +22,6 @@ use Rattle.flattener.proofs.Printable.{flattened-at}
 use Rattle.agreement.specs.Agreement.{ChartConfiguration, NetworkConfiguration, Call, step, wait, onChart, left, carried, isUrgent, named, Run, moved, extended, runFrom, run, acceptsAll, chartAfter, accepted, Accepts, Alike, Owing, Settled, Agrees, Holds, IsRead, Demand3}
 use Rattle.agreement.proofs.Relation.{Related, standing}
 use Rattle.agreement.proofs.Claims.{AllClaims}
-
--- answers
 
 -- where two are alike and one is no refusal, nor is the other
 alike-accepts : {A B : Type 0} (a : Answer A) (b : Answer B) → Alike a b → Accepts a → Accepts b
@@ -51,7 +50,7 @@ accepts-more c σ (y ∷ ys) x h e =
     let r = accepts-more c (f .0) ys x (f .2) (rw (f .1) at e) in
     (rw (f .1, acceptsAll) (r .0), rw (f .1, chartAfter) (r .1))
 
--- a run that is moved on: a chart call is added, or nothing
+-- a run goes on: a chart call is added; or nothing is, and one move less is owed
 abbrev adding : Run → NetworkConfiguration → ChartConfiguration → Call → ℕ → Run
 adding r ν τ x owed = record { network = ν; chart = τ; reading = r .reading ++ (x ∷ []); owed = owed }
 
@@ -331,9 +330,8 @@ holds-by h k = record {
   network-waits = λ σ d. rw k;
 }
 
--- demand 3
-pub demand3 : AllClaims → Demand3
-demand3 claims file bytes room c h f =
+pub demand3-by : AllClaims → Demand3
+demand3-by claims file bytes room c h f =
     let r = chart-at file h in
     let k = flattened-at file room f in
     let e = k .network-is ∙ ap (λ (x : Chart). done (flatten x)) (done-injective (sym (k .chart-is) ∙ h)) in

@@ -6,7 +6,7 @@ use mathlib.Core.Logic.{_⊎_, inl, inr, ⊎-elim, _≢_}
 use mathlib.Core.List.{List, [], _∷_, map, map-map, List·Memᴰ as Mem, List·Memᴰ·not-nil as not-nil, Memᴰ·cast as cast}
 use Prim.Native.Nat.{ℕ, _≤_, _<_}
 use native.Mathlib.Omega.{arith}
-use borrow.Author.Tests.{eqb-true, eq-eqb, ne-eqb, leb-true}
+use borrow.Author.Tests.{eqb-true, eq-eqb, leb-true}
 use lib.Dec.{eqb, leb}
 use lib.IntN.{ℤ}
 use lib.ListN.{length}
@@ -17,7 +17,7 @@ use Rattle.expr.specs.Label.{Label, assignsOnce}
 use Rattle.expr.specs.Clocks.{keeps}
 use Rattle.expr.specs.Moves.{known, allowed, variablesAfter, clocksAfter}
 use Rattle.expr.proofs.Bools.{parts, clash, both, same, or-else, not-no}
-use Rattle.expr.proofs.Lists.{Once, all-at, all-by, none-any, map-at, map-by, some-mem, ascending-once}
+use Rattle.expr.proofs.Lists.{Once, all-at, all-by, map-at, map-by, some-mem, ascending-once}
 use Rattle.expr.proofs.Rows.{keeps-clocks-after}
 use Rattle.expr.proofs.Sets.{ascending-same, Matched, matched-length, allowed-set-at, allowed-set-by, OneAssigns, one-assigns, variables-alike, clocks-alike}
 use Rattle.chart.specs.Chart.{Chart, Transition, transitionAt, home}
@@ -31,7 +31,7 @@ use Rattle.chart.proofs.Moved.{next-configured}
 use Rattle.network.specs.Network.{Edge, ownerOf}
 use Rattle.network.specs.Machine as network
 use Rattle.network.specs.Machine.{edgeAt, activeEdge}
-use Rattle.flattener.specs.Flatten.{Place, child, edge, number, automaton, placeHome, departure, boundsOf, urgentPlace, flatten}
+use Rattle.flattener.specs.Flatten.{Place, child, edge, number, automaton, placeHome, departure, boundsOf, flatten}
 use Rattle.flattener.specs.Picture.{pictured, picture}
 use Rattle.flattener.proofs.Automata.{Region, sequentials-at, sequentials-by}
 use Rattle.flattener.proofs.Arrivals.{ends}
@@ -39,9 +39,10 @@ use Rattle.flattener.proofs.Bounds.{bounds-pictured, bounds-after}
 use Rattle.agreement.specs.Agreement.{ChartConfiguration, NetworkConfiguration, Accepts, carried, named}
 use Rattle.agreement.proofs.Relation.{standing, Related}
 use Rattle.agreement.proofs.Claims.{MoveIsStep, StepIsMove, OneMove}
-use Rattle.agreement.proofs.Standing.{Fits, bounds-standing, urgent-standing, configuration-standing, Takes, takes-by, after-standing}
+use Rattle.agreement.proofs.Standing.{Fits, bounds-standing, Takes, takes-by, after-standing}
 use Rattle.agreement.proofs.Accepted.{Known, known-at, known-by, Move, Accepted, accepted-at, accepted-by}
-use Rattle.agreement.proofs.Bearing.{testedBy, carrier, picture-stands, pictured-child, pictured-fits, pictured-not-urgent}
+use Rattle.agreement.proofs.Bearing.{testedBy, carrier, picture-stands, pictured-child, pictured-fits}
+use Rattle.agreement.proofs.Picture.{picture-configuration, picture-not-urgent}
 use Rattle.agreement.proofs.Carrying.{Carries, carries-label, carries-owner, carries-active, carries-one, move-carries, carried-ascends, carried-matches, carried-allowed, carriers, carriers-ascend, carried-carriers, carriers-match}
 use Rattle.agreement.proofs.Departing.{departed, departing, departing-owes, departed-at, departed-other, departed-fits, departed-placed, home-cases}
 
@@ -61,18 +62,6 @@ receiver-assigns-nothing l h e = none (l .body .updates) (eqb-true (length (l .b
 module _ (c : Chart) (passed : Passed c) (ranges : Ranges c) (σ : ChartConfiguration) (given : chart.isConfiguration c σ ≡ true) where
   tree : chart.isTree c σ ≡ true
   tree = configuration-tree c σ given
-
-  -- the picture is a configuration of the network, with no urgent place occupied
-  picture-configured : network.isConfiguration (flatten c) (picture c σ) ≡ true
-  picture-configured =
-      let f = pictured-fits c σ tree in
-      ap (network.isConfiguration (flatten c)) (picture-stands c σ) ∙ configuration-standing c passed (pictured c σ) f σ given ∙ bounds-standing c passed (pictured c σ) (σ .variables) (σ .clocks) f
-      ∙ sym (bounds-pictured c passed ranges σ tree (configuration-clocks c σ given)) ∙ configuration-bounds c σ given
-
-  picture-not-urgent : network.urgent (flatten c) (picture c σ) ≡ false
-  picture-not-urgent =
-      ap (network.urgent (flatten c)) (picture-stands c σ) ∙ urgent-standing c passed (pictured c σ) (σ .variables) (σ .clocks) (pictured-fits c σ tree)
-      ∙ none-any _ (sequentials c) (λ q m. ne-eqb (urgentPlace (pictured c σ q)) 1 (omega (arith, pictured-not-urgent c σ q)))
 
   -- edges ms that carry the transitions ts, which can be taken together
   module _ (ms ts : List ℕ) (matched : Matched (Carries c σ) ms ts) (together : Together c σ ts) where
@@ -227,10 +216,10 @@ module _ (c : Chart) (passed : Passed c) (ranges : Ranges c) (σ : ChartConfigur
 
     moves-accepted : network.step (flatten c) (picture c σ) moves ≡ done (standing c (departed c σ ts) (next moves ts step-matches step-together .variables) (next moves ts step-matches step-together .clocks))
     moves-accepted = accepted-by (flatten c) (picture c σ) moves (record {
-      given = picture-configured;
+      given = picture-configuration c passed ranges σ given;
       are-known = known-by _ moves (record { some = omega (arith, numbers-of .0, same-length); few = omega (arith, numbers-of .1, same-length); ascends = moves-ascend; each = λ m k. step-matches .right m k .2 .edge-known });
       each-active = λ m k. let r = step-matches .right m k in carries-active c passed ranges σ tree m (r .0) (r .2);
-      urgent-first = λ u. clash u picture-not-urgent;
+      urgent-first = λ u. clash u (picture-not-urgent c passed ranges σ tree);
       is-allowed = is-allowed;
       bounds-kept = bounds-alike moves ts step-matches step-together ∙ ap (chart.boundsKept c) (step .result) ∙ step .bounds-kept;
       result = moved-standing moves ts step-matches step-together (one-assigns is-allowed (carriers-silent moves (λ m k. let r = step-matches .right m k in (r .0, r .2))));
