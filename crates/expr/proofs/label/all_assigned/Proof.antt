@@ -1,15 +1,14 @@
 use mathlib.Core.Path.{_≡_, refl, sym, ap, ap₂, _∙_}
-use mathlib.Core.Bool.{true, false}
 use mathlib.Core.List.{List, []}
-use Prim.Native.Nat.{ℕ, _-_, _<_}
+use Prim.Native.Nat.{_-_}
 use native.Mathlib.Omega.{arith}
 use lib.IntN.{ℤ}
 use Rattle.expr.proofs.Integers.{read-back}
 use borrow.Author.Needs.{needs}
 use lib.ListN.{length, set, length-set}
-use Rattle.expr.specs.Reading.{got, fault, many, yield}
+use Rattle.expr.specs.Reading.{got, yield}
 use Rattle.expr.specs.Guard.{Update, limits, update, assign}
-use Rattle.expr.specs.Expression.{Expr, value, expression}
+use Rattle.expr.specs.Expression.{Expr, value}
 use Rattle.expr.specs.Places.{onward, byteOf, valueOf}
 use Rattle.expr.proofs.Places.{answered, bind-got, bind-fault}
 use Rattle.expr.proofs.Reading.{no-answer, got-value, mapped-at, fault-at}
@@ -17,10 +16,6 @@ use Rattle.expr.proofs.Labels.{update-known, assign-more}
 use Rattle.expr.proofs.Many.{Going, going-none, going-more, going-stop, going-all}
 use Rattle.expr.proofs.label.all_assigned.Statement.{statement}
 use Rattle.expr.proofs.label.all_assigned.Tie as tie
-use Rattle.expr.proofs.label.all_assigned.Reads as reads
-use Rattle.expr.proofs.label.all_assigned.Lts as lts
-use Rattle.expr.proofs.field.read_byte_below.Reads as read-byte-below-reads
-use Rattle.expr.proofs.label.value_from.Reads as value-from-reads
 
 abbrev Inv-loop : tie.InvT-loop
 Inv-loop s at count variables old values₀ place₀ i₀ values place i = (us : List Update) × Going (update (limits 0 variables)) count (onward s at) (onward s place) i us × (values ≡ assign old us values₀) × (length values ≡ 16)

@@ -1,23 +1,14 @@
-use mathlib.Core.Path.{_≡_, refl, sym, ap, _∙_}
-use native.Mathlib.Omega.{arith}
-use Rattle.expr.specs.Reading.{got, skipped}
+use mathlib.Core.Path.{sym, _∙_}
+use Rattle.expr.specs.Reading.{skipped}
 use Rattle.expr.specs.Guard.{update}
 use Rattle.expr.specs.Label.{body}
-use Rattle.expr.specs.Places.{onward, byteOf, reached}
+use Rattle.expr.specs.Places.{byteOf, reached}
 use Rattle.expr.proofs.Places.{bind-got, bind-fault, answered}
-use Rattle.expr.proofs.Reading.{no-answer, got-value, got-rest, mapped-at, fault-at}
+use Rattle.expr.proofs.Reading.{no-answer, got-rest, mapped-at, fault-at}
 use Rattle.expr.proofs.Labels.{body-parts}
-use mathlib.Core.List.{List}
-use Prim.Native.Nat.{ℕ}
-use Rattle.expr.specs.Reading.{many}
 use borrow.Author.Needs.{needs}
 use Rattle.expr.proofs.label.assigned.Statement.{statement}
 use Rattle.expr.proofs.label.assigned.Tie as tie
-use Rattle.expr.proofs.label.assigned.Reads as reads
-use Rattle.expr.proofs.label.assigned.Lts as lts
-use Rattle.expr.proofs.field.read_byte.Reads as read-byte-reads
-use Rattle.expr.proofs.label.all_assigned.Reads as all-assigned-reads
-use Rattle.expr.proofs.label.read_guards.Reads as read-guards-reads
 
 read-byte-requires : tie.Need-read-byte-requires
 read-byte-requires c κs = search needs

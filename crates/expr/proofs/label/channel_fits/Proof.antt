@@ -2,8 +2,6 @@ use borrow.Author.Tests.{eq-eqb, ne-eqb}
 use Rattle.expr.specs.Label.{channelFits}
 use Rattle.expr.proofs.label.channel_fits.Statement.{statement}
 use Rattle.expr.proofs.label.channel_fits.Tie as tie
-use Rattle.expr.proofs.label.channel_fits.Reads as reads
-use Rattle.expr.proofs.label.channel_fits.Lts as lts
 
 returns : tie.Need-returns
 unfolding channelFits

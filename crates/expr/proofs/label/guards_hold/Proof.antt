@@ -1,19 +1,12 @@
-use mathlib.Core.Path.{_≡_, refl, sym, ap, _∙_}
-use native.Mathlib.Omega.{arith}
-use Rattle.expr.specs.Reading.{got, skipped}
-use Rattle.expr.specs.Guard.{update}
+use mathlib.Core.Path.{sym, _∙_}
 use Rattle.expr.specs.Label.{body}
-use Rattle.expr.specs.Places.{onward, byteOf, reached}
+use Rattle.expr.specs.Places.{byteOf}
 use Rattle.expr.proofs.Places.{bind-got, bind-fault, answered}
-use Rattle.expr.proofs.Reading.{no-answer, got-value, got-rest, mapped-at, fault-at}
+use Rattle.expr.proofs.Reading.{no-answer}
 use Rattle.expr.proofs.Labels.{body-parts}
 use borrow.Author.Needs.{needs}
 use Rattle.expr.proofs.label.guards_hold.Statement.{statement}
 use Rattle.expr.proofs.label.guards_hold.Tie as tie
-use Rattle.expr.proofs.label.guards_hold.Reads as reads
-use Rattle.expr.proofs.label.guards_hold.Lts as lts
-use Rattle.expr.proofs.field.read_byte.Reads as read-byte-reads
-use Rattle.expr.proofs.label.all_hold.Reads as all-hold-reads
 
 read-byte-requires : tie.Need-read-byte-requires
 read-byte-requires c κs = search needs

@@ -1,24 +1,15 @@
-use mathlib.Core.Path.{_≡_, refl, sym, ap, _∙_}
-use native.Mathlib.Omega.{arith}
-use Rattle.expr.specs.Reading.{got, fault, yield, mapped, skipped}
+use mathlib.Core.Path.{sym, ap, _∙_}
+use Rattle.expr.specs.Reading.{got, fault, yield, skipped}
 use mathlib.Core.Bool.{Bool}
 use Rattle.expr.specs.Guard.{update}
 use Rattle.expr.proofs.Labels.{body-once-by}
-use Rattle.expr.specs.Label.{body, bodyOnce, label, heading, assignsOnce}
-use Rattle.expr.specs.Places.{onward, byteOf, testOf, reached, faultOf, byteFault, testFault, reachedFault}
+use Rattle.expr.specs.Label.{body}
+use Rattle.expr.specs.Places.{onward, byteOf, testOf, reached, faultOf, byteFault, reachedFault}
 use Rattle.expr.proofs.Places.{bind-got, bind-fault, answered}
 use Rattle.expr.proofs.Reading.{mapped-got, mapped-fault, mapped-at, fault-at, many-at}
 use borrow.Author.Needs.{needs}
 use Rattle.expr.proofs.label.read_body.Statement.{statement}
 use Rattle.expr.proofs.label.read_body.Tie as tie
-use Rattle.expr.proofs.label.read_body.Reads as reads
-use Rattle.expr.proofs.label.read_body.Lts as lts
-use Rattle.expr.proofs.field.byte_fault.Reads as byte-fault-reads
-use Rattle.expr.proofs.field.reached_fault.Reads as reached-fault-reads
-use Rattle.expr.proofs.field.read_byte.Reads as read-byte-reads
-use Rattle.expr.proofs.label.keeps_rule.Reads as keeps-rule-reads
-use Rattle.expr.proofs.label.read_guards.Reads as read-guards-reads
-use Rattle.expr.proofs.label.read_updates.Reads as read-updates-reads
 
 read-byte-requires : tie.Need-read-byte-requires
 read-byte-requires c κs = search needs

@@ -1,14 +1,9 @@
-use mathlib.Core.Path.{_≡_, refl, sym, ap, _∙_}
-use native.Mathlib.Omega.{arith}
+use mathlib.Core.Path.{sym, ap, _∙_}
 use Rattle.expr.specs.Places.{byteOf}
 use Rattle.expr.proofs.Places.{such-got, such-not, such-fault, answered}
 use borrow.Author.Needs.{needs}
 use Rattle.expr.proofs.label.read_channel.Statement.{statement}
 use Rattle.expr.proofs.label.read_channel.Tie as tie
-use Rattle.expr.proofs.label.read_channel.Reads as reads
-use Rattle.expr.proofs.label.read_channel.Lts as lts
-use Rattle.expr.proofs.field.read_byte.Reads as read-byte-reads
-use Rattle.expr.proofs.label.channel_fits.Reads as channel-fits-reads
 
 read-byte-requires : tie.Need-read-byte-requires
 read-byte-requires c κs = search needs

@@ -1,22 +1,12 @@
-use mathlib.Core.Path.{_≡_, refl, sym, ap, _∙_}
-use native.Mathlib.Omega.{arith}
-use Rattle.expr.specs.Reading.{got, fault, yield, mapped, skipped}
-use Rattle.expr.specs.Guard.{update}
-use Rattle.expr.specs.Label.{body, bodyOnce, label, heading, assignsOnce}
-use Rattle.expr.specs.Places.{onward, byteOf, testOf, reached, faultOf, byteFault, testFault, reachedFault}
+use mathlib.Core.Path.{sym, ap, _∙_}
+use Rattle.expr.specs.Reading.{fault, yield}
+use Rattle.expr.specs.Label.{label, heading, assignsOnce}
+use Rattle.expr.specs.Places.{byteOf, testOf, faultOf, byteFault, testFault}
 use Rattle.expr.proofs.Places.{bind-got, bind-fault, next-got, next-fault, answered}
-use Rattle.expr.proofs.Reading.{mapped-got, mapped-fault, mapped-at, fault-at, many-at}
+use Rattle.expr.proofs.Reading.{mapped-got, mapped-fault, mapped-at, fault-at}
 use borrow.Author.Needs.{needs}
 use Rattle.expr.proofs.label.read_label.Statement.{statement}
 use Rattle.expr.proofs.label.read_label.Tie as tie
-use Rattle.expr.proofs.label.read_label.Reads as reads
-use Rattle.expr.proofs.label.read_label.Lts as lts
-use Rattle.expr.proofs.field.byte_fault.Reads as byte-fault-reads
-use Rattle.expr.proofs.field.read_byte_below.Reads as read-byte-below-reads
-use Rattle.expr.proofs.field.read_marks.Reads as read-marks-reads
-use Rattle.expr.proofs.field.test_fault.Reads as test-fault-reads
-use Rattle.expr.proofs.label.read_body.Reads as read-body-reads
-use Rattle.expr.proofs.label.read_channel.Reads as read-channel-reads
 
 read-byte-below-requires : tie.Need-read-byte-below-requires
 read-byte-below-requires c κs = search needs

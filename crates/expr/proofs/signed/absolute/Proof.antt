@@ -6,10 +6,6 @@ use Rattle.expr.proofs.Integers.{read-wide, cast-fits, absolute-below, 
 use borrow.Author.Needs.{needs}
 use Rattle.expr.proofs.signed.absolute.Statement.{statement}
 use Rattle.expr.proofs.signed.absolute.Tie as tie
-use Rattle.expr.proofs.signed.absolute.Reads as reads
-use Rattle.expr.proofs.signed.absolute.Lts as lts
-use Rattle.expr.proofs.signed.below_zero.Reads as below-zero-reads
-use Rattle.expr.proofs.signed.magnitude.Reads as magnitude-reads
 
 cast-z : tie.Need-cast-z
 cast-z c = cast-fits _ (c .fits .x)
