@@ -13,23 +13,6 @@ use expr::field::Reached;
 use expr::field::ShortRead;
 use expr::field::WordRead;
 
-// Past the bounds of so many clocks.
-fn read_bounds(s: &[u8], at: usize, clocks: u8) -> Reached
-    ensures { λ r. ⌜ reached (now (s .entry)) tt r ≡ skipped (row clocks (onward (now (s .entry)) at)) ⌝ }
-{
-    let mut place = at;
-    let mut i = 0;
-    while i < clocks {
-        let w = expr::clock::read_bound(s, place);
-        let WordRead::Value(_, next) = w else {
-            return Reached::Fault(expr::field::word_fault(w));
-        };
-        place = next;
-        i += 1;
-    }
-    Reached::At(place)
-}
-
 // The content of a state's record.
 fn read_state(s: &[u8], at: usize, counts: Counts) -> Reached
     ensures { λ r. ⌜ reached (now (s .entry)) tt r ≡ skipped (state (counts .clocks) (counts .entries) (counts .exits) (onward (now (s .entry)) at)) ⌝ }
@@ -50,7 +33,7 @@ fn read_state(s: &[u8], at: usize, counts: Counts) -> Reached
     let ByteRead::Value(_, at4) = o else {
         return Reached::Fault(expr::field::byte_fault(o));
     };
-    read_bounds(s, at4, counts.clocks)
+    expr::clock::read_bounds(s, at4, counts.clocks)
 }
 
 // The state's record at a place.

@@ -4,7 +4,7 @@ ghost use mathlib.Core.Bool.{true, cond};
 ghost use Prim.Native.Nat.{_+_, _≤_, _<_, min};
 ghost use lib.Dec.{leb};
 ghost use Rattle.expr.specs.Lists.{has};
-ghost use Rattle.expr.specs.Reading.{byte4, such};
+ghost use Rattle.expr.specs.Reading.{byte4, such, skipped};
 ghost use Rattle.expr.specs.Clocks.{clock-limit, isBound, row, join, joinTables, keeps, reset, later, inLimit, zeroPast};
 ghost use Rattle.expr.specs.Moves.{zerosPast};
 ghost use Rattle.expr.specs.Places.{onward, wordOf, reached};
@@ -53,6 +53,23 @@ fn no_row(f: Fault) -> RowRead
         reached: Reached::Fault(f),
         row: [0; 8],
     }
+}
+
+// The bounds of the declared clocks, as a file is checked.
+pub fn read_bounds(s: &[u8], at: usize, clocks: u8) -> Reached
+    ensures { λ r. ⌜ reached (now (s .entry)) tt r ≡ skipped (row clocks (onward (now (s .entry)) at)) ⌝ }
+{
+    let mut place = at;
+    let mut i = 0;
+    while i < clocks {
+        let w = read_bound(s, place);
+        let WordRead::Value(_, next) = w else {
+            return Reached::Fault(word_fault(w));
+        };
+        place = next;
+        i += 1;
+    }
+    Reached::At(place)
 }
 
 // The bounds of the declared clocks; the others have none.

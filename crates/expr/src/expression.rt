@@ -14,7 +14,7 @@ use crate::field::Reached;
 use crate::field::ValueRead;
 use crate::field::WordRead;
 use crate::field::byte_fault;
-use crate::field::read_byte;
+use crate::field::read_below;
 use crate::field::read_signed;
 use crate::field::read_word;
 use crate::field::word_fault;
@@ -48,22 +48,6 @@ fn read_constant(s: &[u8], at: usize) -> Reached
     ensures within { λ r. ⌜ reachedEnd r ≤ length (now (s .entry)) ⌝ }
 {
     word_reached(read_word(s, at))
-}
-
-// The number of a variable that is declared.
-fn read_variable(s: &[u8], at: usize, variables: u8) -> ByteRead
-    ensures means { λ r. ⌜ byteOf (now (s .entry)) r ≡ such byte (λ i. ltb i variables) (onward (now (s .entry)) at) ⌝ }
-    ensures within { λ r. ⌜ byteEnd r ≤ length (now (s .entry)) ⌝ }
-{
-    let b = read_byte(s, at);
-    let ByteRead::Value(i, _) = b else {
-        return b;
-    };
-    if i < variables {
-        b
-    } else {
-        ByteRead::Fault(Fault::Range)
-    }
 }
 
 fn is_divisor(d: u32) -> bool
@@ -102,7 +86,7 @@ pub fn read_expression(s: &[u8], levels: u8, variables: u8) -> Reached
     let code = s[0];
     match code {
         0 => read_constant(s, 1),
-        1 => byte_reached(read_variable(s, 1, variables)),
+        1 => byte_reached(read_below(s, 1, variables)),
         2 | 3 | 4 => {
             let first = read_expression(&s[1..], levels - 1, variables);
             let Reached::At(n) = first else {
@@ -137,7 +121,7 @@ fn evaluate_variable(s: &[u8], at: usize, variables: u8, values: &[i32; 16]) -> 
     ensures means { λ r. ⌜ valueOf (now (s .entry)) r ≡ mapped (λ i. getD (now (values .entry)) i (pos 0)) (such byte (λ i. ltb i variables) (onward (now (s .entry)) at)) ⌝ }
     ensures within { λ r. ⌜ valueEnd r ≤ length (now (s .entry)) ⌝ }
 {
-    let b = read_variable(s, at, variables);
+    let b = read_below(s, at, variables);
     let ByteRead::Value(i, next) = b else {
         return ValueRead::Fault(byte_fault(b));
     };

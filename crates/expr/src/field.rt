@@ -1,10 +1,11 @@
 // Fields of a record, read from left to right: one, two and four bytes, and the frame of a record.
 ghost use mathlib.Core.Path.{_≡_};
-ghost use Prim.Native.Nat.{_+_, _*_, _-_, _≤_, _^_};
+ghost use Prim.Native.Nat.{ℕ, _+_, _*_, _-_, _≤_, _^_};
 ghost use lib.ListN.{length, getD};
 ghost use mathlib.Core.Bool.{_||_};
+ghost use mathlib.Core.List.{List};
 ghost use lib.Dec.{ltb, eqb};
-ghost use Rattle.expr.specs.Reading.{got, byte, byte2, byte4, such, framed, mapped};
+ghost use Rattle.expr.specs.Reading.{Reader, got, byte, byte2, byte4, such, framed, mapped};
 ghost use Rattle.expr.specs.Integer.{signed};
 ghost use Rattle.expr.specs.Places.{onward, byteOf, byteEnd, shortOf, shortEnd, wordOf, wordEnd, valueOf, valueEnd, frameOf, FrameFits, wholly, byteFault, shortFault, wordFault, valueFault, testFault, frameFault, reachedFault};
 use crate::signed::signed;
@@ -143,8 +144,10 @@ pub fn read_byte(s: &[u8], at: usize) -> ByteRead
     }
 }
 
-pub fn read_byte_below(s: &[u8], at: usize, limit: u8) -> ByteRead
-    ensures { λ r. ⌜ byteOf (now (s .entry)) r ≡ such byte (λ x. ltb x limit) (onward (now (s .entry)) at) ⌝ }
+// A byte below a limit.
+pub fn read_below(s: &[u8], at: usize, limit: u8) -> ByteRead
+    ensures means { λ r. ⌜ byteOf (now (s .entry)) r ≡ such byte (λ x. ltb x limit) (onward (now (s .entry)) at) ⌝ }
+    ensures within { λ r. ⌜ byteEnd r ≤ length (now (s .entry)) ⌝ }
 {
     let b = read_byte(s, at);
     let ByteRead::Value(x, _) = b else {
@@ -155,6 +158,13 @@ pub fn read_byte_below(s: &[u8], at: usize, limit: u8) -> ByteRead
     } else {
         ByteRead::Fault(Fault::Range)
     }
+}
+
+// The same, for callers that do not ask where it ends.
+pub fn read_byte_below(s: &[u8], at: usize, limit: u8) -> ByteRead
+    ensures { λ r. ⌜ byteOf (now (s .entry)) r ≡ such byte (λ x. ltb x limit) (onward (now (s .entry)) at) ⌝ }
+{
+    read_below(s, at, limit)
 }
 
 // A number below a limit, or 255 for none.
@@ -285,6 +295,19 @@ pub fn read_signed(s: &[u8], at: usize) -> ValueRead
     ValueRead::Value(signed(x), next)
 }
 
+// So many bytes from a place on, the length of a record having been read before it.
+fn frame_of(s: &[u8], from: usize, size: usize) -> Frame
+    requires { ⌜ from ≤ length (now s) ⌝ }
+    ensures means { λ r. ⌜ ((q : Reader ℕ) (b : List ℕ) → q b ≡ got size (onward (now (s .entry)) from) → frameOf (now (s .entry)) r ≡ framed q b) ⌝ }
+    ensures within { λ r. ⌜ FrameFits (now (s .entry)) r ⌝ }
+{
+    if s.len() - from < size {
+        Frame::Fault(Fault::Length)
+    } else {
+        Frame::Part(from, from + size)
+    }
+}
+
 // A record's length, in one byte, and where its bytes stand.
 pub fn read_frame(s: &[u8], at: usize) -> Frame
     ensures means { λ r. ⌜ frameOf (now (s .entry)) r ≡ framed byte (onward (now (s .entry)) at) ⌝ }
@@ -294,12 +317,7 @@ pub fn read_frame(s: &[u8], at: usize) -> Frame
     let ByteRead::Value(n, from) = b else {
         return Frame::Fault(byte_fault(b));
     };
-    let size = n as usize;
-    if s.len() - from < size {
-        Frame::Fault(Fault::Length)
-    } else {
-        Frame::Part(from, from + size)
-    }
+    frame_of(s, from, n as usize)
 }
 
 // A record's length, in two bytes, and where its bytes stand.
@@ -311,12 +329,7 @@ pub fn read_long_frame(s: &[u8], at: usize) -> Frame
     let ShortRead::Value(n, from) = h else {
         return Frame::Fault(short_fault(h));
     };
-    let size = n as usize;
-    if s.len() - from < size {
-        Frame::Fault(Fault::Length)
-    } else {
-        Frame::Part(from, from + size)
-    }
+    frame_of(s, from, n as usize)
 }
 
 // What a reader of a record's `size` bytes has reached, as a place of the file: all of them must be used, and `to` follows.

@@ -14,23 +14,6 @@ use expr::field::Frame;
 use expr::field::Reached;
 use expr::field::WordRead;
 
-// One bound for each declared clock.
-fn read_bounds(s: &[u8], at: usize, clocks: u8) -> Reached
-    ensures { λ r. ⌜ reached (now (s .entry)) tt r ≡ skipped (row clocks (onward (now (s .entry)) at)) ⌝ }
-{
-    let mut place = at;
-    let mut i = 0;
-    while i < clocks {
-        let w = expr::clock::read_bound(s, place);
-        let WordRead::Value(_, next) = w else {
-            return Reached::Fault(expr::field::word_fault(w));
-        };
-        place = next;
-        i += 1;
-    }
-    Reached::At(place)
-}
-
 // The content of a location's record.
 fn read_location(s: &[u8], at: usize, automata: u8, clocks: u8) -> Reached
     ensures { λ r. ⌜ reached (now (s .entry)) tt r ≡ skipped (location automata clocks (onward (now (s .entry)) at)) ⌝ }
@@ -47,7 +30,7 @@ fn read_location(s: &[u8], at: usize, automata: u8, clocks: u8) -> Reached
     let ByteRead::Value(_, at3) = i else {
         return Reached::Fault(expr::field::byte_fault(i));
     };
-    read_bounds(s, at3, clocks)
+    expr::clock::read_bounds(s, at3, clocks)
 }
 
 // The location's record at a place.

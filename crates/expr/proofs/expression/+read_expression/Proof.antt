@@ -16,7 +16,7 @@ use Rattle.expr.proofs.expression.+read_expression.Lts-read_expression 
 use Rattle.expr.proofs.expression.byte_reached.Reads as byte-reached-reads
 use Rattle.expr.proofs.expression.read_constant.Reads as read-constant-reads
 use Rattle.expr.proofs.expression.read_divisor.Reads as read-divisor-reads
-use Rattle.expr.proofs.expression.read_variable.Reads as read-variable-reads
+use Rattle.expr.proofs.field.read_below.Reads as read-below-reads
 use Rattle.expr.proofs.expression.word_reached.Reads as word-reached-reads
 use Rattle.expr.proofs.expression.+read_expression.{statement}
 use Rattle.expr.proofs.expression.+read_expression.Tie.{close}
@@ -41,7 +41,7 @@ read-expression-below t =
     read-expression.Pre
 
 abbrev read-expression-cs : ℕ → read-expression-lts.Claims
-read-expression-cs t = (read-constant-reads.Asked, read-constant-reads.Learnt, read-variable-reads.Asked, read-variable-reads.Learnt, byte-reached-reads.Asked, byte-reached-reads.Learnt, read-expression-below t, read-expression.Post, read-divisor-reads.Asked, read-divisor-reads.Learnt, word-reached-reads.Asked, word-reached-reads.Learnt)
+read-expression-cs t = (read-constant-reads.Asked, read-constant-reads.Learnt, read-below-reads.Asked, read-below-reads.Learnt, byte-reached-reads.Asked, byte-reached-reads.Learnt, read-expression-below t, read-expression.Post, read-divisor-reads.Asked, read-divisor-reads.Learnt, word-reached-reads.Asked, word-reached-reads.Learnt)
 
 -- where an expression ends, or its fault
 abbrev ends : ℕ → ℕ → Reader (Unit {0})
@@ -86,8 +86,8 @@ read-expression-shared-slice-read-code t c = omega arith
 read-expression-read-constant-requires : (t : ℕ) → read-expression-lts.Need-read-constant-requires (read-expression-cs t) (read-expression-at t) read-expression.Post
 read-expression-read-constant-requires t c κs = tt
 
-read-expression-read-variable-requires : (t : ℕ) → read-expression-lts.Need-read-variable-requires (read-expression-cs t) (read-expression-at t) read-expression.Post
-read-expression-read-variable-requires t c κs = tt
+read-expression-read-below-requires : (t : ℕ) → read-expression-lts.Need-read-below-requires (read-expression-cs t) (read-expression-at t) read-expression.Post
+read-expression-read-below-requires t c κs = tt
 
 read-expression-byte-reached-requires : (t : ℕ) → read-expression-lts.Need-byte-reached-requires (read-expression-cs t) (read-expression-at t) read-expression.Post
 read-expression-byte-reached-requires t c κs = tt
@@ -200,7 +200,7 @@ read-expression-returns-6 t c = (c .read-constant .ensures .0 ∙ sym (read-cons
 
 read-expression-returns-7 : (t : ℕ) → read-expression-lts.Need-returns-7 (read-expression-cs t) (read-expression-at t) read-expression.Post
 unfolding skipped
-read-expression-returns-7 t c = (byte-skipped _ (c .before .read-variable .result) (c .byte-reached .ensures) (c .before .read-variable .ensures .0) ∙ sym (read-variable _ _ _ _ (c .before .before .before .before .before .if1 .left) (c .before .before .before .before .if2 .left) (c .before .before .match .keys2)), byte-skipped-end (c .before .read-variable .result) _ (c .byte-reached .ensures) (c .before .read-variable .ensures .1))
+read-expression-returns-7 t c = (byte-skipped _ (c .before .read-below .result) (c .byte-reached .ensures) (c .before .read-below .ensures .0) ∙ sym (read-variable _ _ _ _ (c .before .before .before .before .before .if1 .left) (c .before .before .before .before .if2 .left) (c .before .before .match .keys2)), byte-skipped-end (c .before .read-below .result) _ (c .byte-reached .ensures) (c .before .read-below .ensures .1))
 
 read-expression-returns-8 : (t : ℕ) → read-expression-lts.Need-returns-8 (read-expression-cs t) (read-expression-at t) read-expression.Post
 unfolding skipped yield
@@ -222,7 +222,7 @@ pub +read-expression-spec : {M : Type 1} → statement M
     (read-expression-returns-2 t)
     (read-expression-shared-slice-read-code t)
     (read-expression-read-constant-requires t)
-    (read-expression-read-variable-requires t)
+    (read-expression-read-below-requires t)
     (read-expression-byte-reached-requires t)
     (read-expression-sub-read-expression t)
     (read-expression-part-read-expression-start t)

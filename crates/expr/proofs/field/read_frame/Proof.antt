@@ -1,19 +1,11 @@
-use mathlib.Core.Path.{_≡_, refl, sym, ap, _∙_}
+use mathlib.Core.Path.{sym, ap, _∙_}
 use native.Mathlib.Omega.{arith}
-use Prim.Native.Nat.{_≤_}
-use lib.ListN.{length}
-use Rattle.expr.specs.Reading.{got, fault, byte}
-use Rattle.expr.specs.Places.{onward, byteOf, byteEnd, faultOf, byteFault}
-use Rattle.expr.proofs.Places.{framed-fault, framed-got, framed-long, answered}
+use Rattle.expr.specs.Reading.{fault}
+use Rattle.expr.specs.Places.{byteOf, byteEnd, faultOf, byteFault}
+use Rattle.expr.proofs.Places.{framed-fault, answered}
 use borrow.Author.Needs.{needs}
 use Rattle.expr.proofs.field.read_frame.Statement.{statement}
 use Rattle.expr.proofs.field.read_frame.Tie as tie
-
-got-n : (c : tie.After-known-told) → byte (onward (c .before .before .before .before .before .args .s .now) (c .before .before .before .before .before .args .at)) ≡ got (c .before .b .given .0 .0) (onward (c .before .before .before .before .before .args .s .now) (c .before .b .given .0 .1 .0))
-got-n c = answered (byteOf _) (c .before .before .before .read-byte .ensures .0) (c .before .b .given .1)
-
-from-fits : (c : tie.After-known-told) → c .before .b .given .0 .1 .0 ≤ length (c .before .before .before .before .before .args .s .now)
-from-fits c = omega (arith, ap byteEnd (c .before .b .given .1), c .before .before .before .read-byte .ensures .1)
 
 read-byte-requires : tie.Need-read-byte-requires
 read-byte-requires c κs = search needs
@@ -28,22 +20,16 @@ byte-fault-requires : tie.Need-byte-fault-requires
 byte-fault-requires c κs = search needs
 
 returns : tie.Need-returns
-returns c = (ap (λ f. fault (faultOf f)) ((c .byte-fault .ensures ∙ ap byteFault (c .before .enum-told .given .1))) ∙ sym (framed-fault _ _ (answered (byteOf _) (c .before .before .before .read-byte .ensures .0) (c .before .enum-told .given .1))), tt)
+returns c = (ap (λ f. fault (faultOf f)) (c .byte-fault .ensures ∙ ap byteFault (c .before .enum-told .given .1)) ∙ sym (framed-fault _ _ (answered (byteOf _) (c .before .before .before .read-byte .ensures .0) (c .before .enum-told .given .1))), tt)
 
-cast-size : tie.Need-cast-size
-cast-size c = search needs
+cast-frame-of : tie.Need-cast-frame-of
+cast-frame-of c = search needs
 
-sub-if1 : tie.Need-sub-if1
-sub-if1 c = from-fits c
-
-add-t13 : tie.Need-add-t13
-add-t13 c = search needs
+frame-of-requires : tie.Need-frame-of-requires
+frame-of-requires c κs = omega (arith, ap byteEnd (c .before .b .given .1), c .before .before .before .read-byte .ensures .1)
 
 returns-2 : tie.Need-returns-2
-returns-2 c = (sym (framed-long _ _ _ _ _ (got-n (c .before)) refl (c .if1 .taken)), tt)
-
-returns-3 : tie.Need-returns-3
-returns-3 c = (sym (framed-got _ _ _ _ _ (got-n (c .before)) refl (c .if1 .left)), omega (arith, from-fits (c .before)))
+returns-2 c = (c .frame-of .ensures .0 _ _ (answered (byteOf _) (c .before .before .before .before .read-byte .ensures .0) (c .before .before .b .given .1)), c .frame-of .ensures .1)
 
 pub read-frame-spec : {M : Type 1} → statement M
 read-frame-spec =
@@ -54,8 +40,6 @@ read-frame-spec =
     enum-told
     byte-fault-requires
     returns
-    cast-size
-    sub-if1
-    add-t13
-    returns-2
-    returns-3)
+    cast-frame-of
+    frame-of-requires
+    returns-2)

@@ -1,15 +1,15 @@
 use mathlib.Core.Path.{sym, ap, _∙_}
+use Prim.Native.Nat.{_-_}
+use Rattle.expr.specs.Reading.{such, byte4, skipped}
+use Rattle.expr.specs.Clocks.{isBound}
+use Rattle.expr.specs.Places.{onward, wordOf, wordFault}
+use Rattle.expr.proofs.Places.{answered}
+use Rattle.expr.proofs.Reading.{mapped-got, mapped-fault}
+use Rattle.expr.proofs.Skips.{Skipping, skipping-none, skipping-more, skipping-stop, skipping-all, skipped-row}
 use native.Mathlib.Omega.{arith}
 use borrow.Author.Needs.{needs}
-use Prim.Native.Nat.{_-_}
-use Rattle.expr.specs.Reading.{byte4, such, skipped}
-use Rattle.expr.specs.Clocks.{isBound}
-use Rattle.expr.specs.Places.{onward, wordOf, wordFault}
-use Rattle.expr.proofs.Places.{answered}
-use Rattle.expr.proofs.Reading.{mapped-got, mapped-fault}
-use Rattle.expr.proofs.Skips.{Skipping, skipping-none, skipping-more, skipping-stop, skipping-all, skipped-row}
-use Rattle.chart.proofs.state.read_bounds.Statement.{statement}
-use Rattle.chart.proofs.state.read_bounds.Tie as tie
+use Rattle.expr.proofs.clock.read_bounds.Statement.{statement}
+use Rattle.expr.proofs.clock.read_bounds.Tie as tie
 
 abbrev Inv-loop : tie.InvT-loop
 Inv-loop s at clocks place₀ i₀ place i = Skipping (such byte4 isBound) clocks (onward s at) (onward s place) i

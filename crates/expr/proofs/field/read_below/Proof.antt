@@ -4,8 +4,8 @@ use borrow.Author.Tests.{lt-ltb, le-ltb}
 use Rattle.expr.specs.Places.{byteOf, byteEnd}
 use Rattle.expr.proofs.Places.{such-got, such-not, such-fault, answered}
 use borrow.Author.Needs.{needs}
-use Rattle.expr.proofs.expression.read_variable.Statement.{statement}
-use Rattle.expr.proofs.expression.read_variable.Tie as tie
+use Rattle.expr.proofs.field.read_below.Statement.{statement}
+use Rattle.expr.proofs.field.read_below.Tie as tie
 
 read-byte-requires : tie.Need-read-byte-requires
 read-byte-requires c κs = search needs
@@ -25,6 +25,6 @@ returns-2 c = (sym (such-got _ _ _ (answered (byteOf _) (c .before .before .befo
 returns-3 : tie.Need-returns-3
 returns-3 c = (sym (such-not _ _ _ (answered (byteOf _) (c .before .before .before .before .read-byte .ensures .0) (c .before .before .b .given .1)) (le-ltb _ _ (c .if1 .left))), omega arith)
 
-pub read-variable-spec : {M : Type 1} → statement M
-read-variable-spec =
+pub read-below-spec : {M : Type 1} → statement M
+read-below-spec =
     tie.close (tie.spec read-byte-requires enum-known-b enum-told returns returns-2 returns-3)
