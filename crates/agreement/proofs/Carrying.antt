@@ -22,7 +22,7 @@ use Rattle.chart.specs.Chart.{Chart, transitionAt, home}
 use Rattle.chart.specs.Machine.{isTree, activeTransition}
 use Rattle.chart.proofs.Rules.{Passed}
 use Rattle.chart.proofs.Ranges.{Ranges}
-use Rattle.chart.proofs.Step.{transition-mem}
+use Rattle.chart.proofs.Step.{channel-lt}
 use Rattle.network.specs.Network.{Edge, ownerOf}
 use Rattle.network.specs.Machine.{edgeAt, activeEdge}
 use Rattle.flattener.specs.Flatten.{child, edge, automaton, placeHome, flatten, sorted}
@@ -66,11 +66,6 @@ unfolding carried
 carried-ascends c ms = sorted-ascending _
 
 module _ (c : Chart) (passed : Passed c) (ranges : Ranges c) where
-  -- a transition that signals does so on a channel of the chart
-  pub channel-lt : (t : ℕ) → t < length (c .transitions) → transitionAt c t .label .signal ≢ 0 → transitionAt c t .label .channel < c .rendezvous + c .broadcasts
-  unfolding channelFits
-  channel-lt t h d = ltb-true _ _ (sym (cond-no _ _ (ne-eqb (transitionAt c t .label .signal) 0 d)) ∙ ranges .of-transition (transitionAt c t) (transition-mem c t h) .label-known .channel-known)
-
   module _ (σ : ChartConfiguration) (tree : isTree c σ ≡ true) where
     -- its owner is the automaton of t's home
     pub carries-owner : (m t : ℕ) → Carries c σ m t → ownerOf (flatten c) (edgeAt (flatten c) m) ≡ automaton c (home c t)
@@ -100,7 +95,7 @@ module _ (c : Chart) (passed : Passed c) (ranges : Ranges c) where
     sender-channel : (m ch : ℕ) → m < length (flatten c .edges) → activeEdge (flatten c) (picture c σ) (edgeAt (flatten c) m) ≡ true → Sends (edgeAt (flatten c) m .label) ch → ch < c .rendezvous + c .broadcasts
     sender-channel m ch h a s = ⊎-elim
         (λ k. let e = carries-label c σ m (k .0) (k .1) in
-        omega (arith, s .1, ap (λ (l : Label). l .channel) e, channel-lt (k .0) (k .1 .known) (λ z. omega (arith, s .0, ap (λ (l : Label). l .signal) e))))
+        omega (arith, s .1, ap (λ (l : Label). l .channel) e, channel-lt c ranges (k .0) (k .1 .known) (λ z. omega (arith, s .0, ap (λ (l : Label). l .signal) e))))
         (λ k. absurd (omega (arith, s .0, k .1)))
         (active-carries m h a)
 

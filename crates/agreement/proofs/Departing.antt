@@ -30,19 +30,12 @@ use Rattle.flattener.specs.Picture.{pictured}
 use Rattle.flattener.proofs.Automata.{Region}
 use Rattle.flattener.proofs.Alternatives.{basic-under}
 use Rattle.flattener.proofs.Numbers.{PlaceOf}
-use Rattle.flattener.proofs.Arrivals.{ends, departure-place}
+use Rattle.flattener.proofs.Arrivals.{ends, source-basic, destination-basic, departure-place}
+use Rattle.flattener.proofs.Pictured.{pictured-idle, pictured-child, pictured-cases, pictured-fits}
 use Rattle.agreement.specs.Agreement.{ChartConfiguration, named}
 use Rattle.agreement.proofs.Relation.{Pending, entryPair, owes, owesAll, Concerns, Hearing, IsPending, Placed}
 use Rattle.agreement.proofs.Standing.{Fits}
-use Rattle.agreement.proofs.Bearing.{pictured-idle, pictured-child, pictured-cases, pictured-fits, source-composite, source-basic, exit-completed}
-
-neither-l : (a b : Bool) → (a || b) ≡ false → a ≡ false
-neither-l true b k = clash refl k
-neither-l false b k = refl
-
-neither-r : (a b : Bool) → (a || b) ≡ false → b ≡ false
-neither-r true b k = clash refl k
-neither-r false b k = k
+use Rattle.agreement.proofs.Bearing.{exit-completed}
 
 -- where the automata are after the transitions have departed
 unfoldable pub departed : Chart → ChartConfiguration → List ℕ → ℕ → Place
@@ -92,16 +85,6 @@ home-cases c ts q = ⊎-elim
     (decided (any (λ t. eqb (home c t) q) ts))
 
 module _ (c : Chart) (passed : Passed c) (ranges : Ranges c) where
-  -- 12: a transition without entry has a basic destination
-  pub destination-basic : (t : ℕ) → t < length (c .transitions) → hasEntry c t ≡ false → basic c (transitionAt c t .destination) ≡ true
-  unfolding hasEntry entries
-  destination-basic t h e = go (basic c (transitionAt c t .destination)) (eqb (transitionAt c t .entry) 255) (all-at _ _ (passed .enter) (transition-mem c t h)) e
-    where
-      go : (b x : Bool) → cond b x (not x && has (stateAt c (transitionAt c t .destination) .entries) (transitionAt c t .entry)) ≡ true → not x ≡ false → b ≡ true
-      go true x k l = refl
-      go false true k l = clash k refl
-      go false false k l = clash refl l
-
   -- no sequential state is at or below a basic one
   pub none-below-basic : (b q : ℕ) → Region c q → basic c b ≡ true → under c b q ≡ true → ⊥
   none-below-basic b q g z u = clash (ap (basic c) (basic-under c (passed .tree) (kinds-left c (kinds-of ranges)) b q (g .known) z u) ∙ z) (sequential-not-basic c q (g .is-sequential))
@@ -182,6 +165,12 @@ module _ (c : Chart) (passed : Passed c) (ranges : Ranges c) where
           from-source : (r : ℕ) → Region c r → under c (transitionAt c t .source) r ≡ true → (departed c σ ts r ≡ idle r) ⊎ Hearing c (departed c σ ts) (pendingOf c t) r
           from-source r g u = ⊎-elim (λ x. below-source t r m x g u) (λ x. absurd (none-below-basic _ r g (source-basic c passed ranges t h x) u)) (decided (hasExit c t))
 
+      no-exit : (t : ℕ) → (hasExit c t || hasEntry c t) ≡ false → hasExit c t ≡ false
+      no-exit t k = fails (hasExit c t) (λ e. clash (or-l _ e) k)
+
+      no-entry : (t : ℕ) → (hasExit c t || hasEntry c t) ≡ false → hasEntry c t ≡ false
+      no-entry t k = fails (hasEntry c t) (λ e. clash (or-r (hasExit c t) e) k)
+
       departing-by : {t : ℕ} → Mem t ts → (hasExit c t || hasEntry c t) ≡ true → Mem (pendingOf c t) (departing c ts)
       unfolding departing
       departing-by m k = map-by (pendingOf c) (keep-by (λ t. hasExit c t || hasEntry c t) ts m k)
@@ -195,13 +184,13 @@ module _ (c : Chart) (passed : Passed c) (ranges : Ranges c) where
         not-below-source : (t : ℕ) → Mem t ts → under c (transitionAt c t .source) q ≡ true → ⊥
         not-below-source t m u = ⊎-elim
             (λ k. clear (pendingOf c t) (departing-by m k) .1 (inl u))
-            (λ k. none-below-basic _ q g (source-basic c passed ranges t (together .each-known t m) (neither-l (hasExit c t) (hasEntry c t) k)) u)
+            (λ k. none-below-basic _ q g (source-basic c passed ranges t (together .each-known t m) (no-exit t k)) u)
             (decided (hasExit c t || hasEntry c t))
 
         not-below-destination : (t : ℕ) → Mem t ts → under c (transitionAt c t .destination) q ≡ true → ⊥
         not-below-destination t m u = ⊎-elim
             (λ k. clear (pendingOf c t) (departing-by m k) .1 (inr u))
-            (λ k. none-below-basic _ q g (destination-basic t (together .each-known t m) (neither-r (hasExit c t) (hasEntry c t) k)) u)
+            (λ k. none-below-basic _ q g (destination-basic c passed ranges t (together .each-known t m) (no-entry t k)) u)
             (decided (hasExit c t || hasEntry c t))
 
         next-tree : isTree c next ≡ true
@@ -214,7 +203,7 @@ module _ (c : Chart) (passed : Passed c) (ranges : Ranges c) where
             (λ k. absurd (clear (pendingOf c t) (departing-by m k) .0 (sym e)))
             (λ k. let f = together-fires c passed ranges σ ts together t m in
             ap (departed c σ ts) (sym e) ∙ departed-at t m
-            ∙ cond-no _ _ (neither-l (hasExit c t) (hasEntry c t) k) ∙ cond-no _ _ (neither-r (hasExit c t) (hasEntry c t) k)
+            ∙ cond-no _ _ (no-exit t k) ∙ cond-no _ _ (no-entry t k)
             ∙ sym (pictured-child c next next-tree g (subst (λ (x : ℕ). Child c x (transitionAt c t .destination)) e (ends c passed ranges t (together .each-known t m) .to))
                 (next-entered c passed ranges σ tree ts together t m _ (f .to .known) (entered-top c (passed .tree) (passed .entry-marks) _ (f .to .known) (f .entry-is)))))
             (decided (hasExit c t || hasEntry c t))

@@ -18,6 +18,7 @@ use Rattle.expr.specs.Clocks.{keeps}
 use Rattle.expr.specs.Moves.{known, allowed, variablesAfter, clocksAfter}
 use Rattle.expr.proofs.Bools.{parts, clash, both, same, or-else, not-no}
 use Rattle.expr.proofs.Lists.{Once, all-at, all-by, none-any, map-at, map-by, some-mem, ascending-once}
+use Rattle.expr.proofs.Labels.{receiver-assigns-nothing}
 use Rattle.expr.proofs.Rows.{keeps-clocks-after}
 use Rattle.expr.proofs.Sets.{ascending-same, Matched, matched-length, allowed-set-at, allowed-set-by, OneAssigns, one-assigns, variables-alike, clocks-alike}
 use Rattle.chart.specs.Chart.{Chart, Transition, transitionAt, home}
@@ -36,27 +37,19 @@ use Rattle.flattener.specs.Picture.{pictured, picture}
 use Rattle.flattener.proofs.Automata.{Region, sequentials-at, sequentials-by}
 use Rattle.flattener.proofs.Arrivals.{ends}
 use Rattle.flattener.proofs.Bounds.{bounds-pictured, bounds-after}
+use Rattle.flattener.proofs.Pictured.{pictured-child, pictured-fits, pictured-not-urgent}
 use Rattle.agreement.specs.Agreement.{ChartConfiguration, NetworkConfiguration, Accepts, carried, named}
 use Rattle.agreement.proofs.Relation.{standing, Related}
 use Rattle.agreement.proofs.Claims.{MoveIsStep, StepIsMove, OneMove}
 use Rattle.agreement.proofs.Standing.{Fits, bounds-standing, urgent-standing, configuration-standing, Takes, takes-by, after-standing}
 use Rattle.agreement.proofs.Accepted.{Known, known-at, known-by, Move, Accepted, accepted-at, accepted-by}
-use Rattle.agreement.proofs.Bearing.{testedBy, carrier, picture-stands, pictured-child, pictured-fits, pictured-not-urgent}
+use Rattle.agreement.proofs.Bearing.{testedBy, carrier, picture-stands}
 use Rattle.agreement.proofs.Carrying.{Carries, carries-label, carries-owner, carries-active, carries-one, move-carries, carried-ascends, carried-matches, carried-allowed, carriers, carriers-ascend, carried-carriers, carriers-match}
 use Rattle.agreement.proofs.Departing.{departed, departing, departing-owes, departed-at, departed-other, departed-fits, departed-placed, home-cases}
 
 known-parts : (count : ℕ) (ms : List ℕ) → known count ms ≡ true → (1 ≤ length ms) × (length ms ≤ 16) × (ascending ms ≡ true)
 unfolding known
 known-parts count ms h = (leb-true 1 (length ms) (search parts), leb-true (length ms) 16 (search parts), search parts)
-
--- 13: a receiver assigns nothing
-receiver-assigns-nothing : (l : Label) → assignsOnce l ≡ true → l .signal ≡ 2 → l .body .updates ≡ []
-unfolding assignsOnce
-receiver-assigns-nothing l h e = none (l .body .updates) (eqb-true (length (l .body .updates)) 0 (or-else (not (eqb (l .signal) 2)) _ (search parts) (not-no (eq-eqb (l .signal) 2 e))))
-  where
-    none : (us : List Update) → length us ≡ 0 → us ≡ []
-    none [] z = refl
-    none (u ∷ us) z = absurd (omega arith)
 
 module _ (c : Chart) (passed : Passed c) (ranges : Ranges c) (σ : ChartConfiguration) (given : chart.isConfiguration c σ ≡ true) where
   tree : chart.isTree c σ ≡ true

@@ -14,10 +14,10 @@ use Rattle.expr.specs.Lists.{all, any, elem, concat}
 use Rattle.expr.specs.Reading.{got, byte}
 use Rattle.expr.specs.Expression.{value}
 use Rattle.expr.specs.Guard.{Update, Limits, update, assign}
-use Rattle.expr.specs.Label.{Label, body, label, targets, distinct}
+use Rattle.expr.specs.Label.{Label, body, label, targets, distinct, assignsOnce}
 use Rattle.expr.specs.Clocks.{reset, resetFrom}
 use Rattle.expr.specs.Moves.{variablesAfter, clocksAfter}
-use Rattle.expr.proofs.Bools.{same, cond-no}
+use Rattle.expr.proofs.Bools.{parts, same, cond-no, or-else, not-no}
 use Rattle.expr.proofs.Lists.{any-more}
 use Rattle.expr.proofs.Bits.{has-zero}
 use Rattle.expr.proofs.Reading.{bind-at, next-at, such-at, yield-at, yield-rest}
@@ -90,6 +90,15 @@ label-body l channels s {b} {t} h =
     let w = next-at (body l (z .1)) _ (z .3) in
     let e = yield-at (w .1) (w .3) in
     sym (ap (λ (k : Label). body l (k .bytes)) e) ∙ w .2 ∙ ap₂ got (ap (λ (k : Label). k .body) e) (yield-rest _ (w .1) (w .3))
+
+-- 13: a receiver assigns nothing
+pub receiver-assigns-nothing : (l : Label) → assignsOnce l ≡ true → l .signal ≡ 2 → l .body .updates ≡ []
+unfolding assignsOnce
+receiver-assigns-nothing l h e = none (l .body .updates) (eqb-true (length (l .body .updates)) 0 (or-else (not (eqb (l .signal) 2)) _ (search parts) (not-no (eq-eqb (l .signal) 2 e))))
+  where
+    none : (us : List Update) → length us ≡ 0 → us ≡ []
+    none [] z = refl
+    none (u ∷ us) z = absurd (omega arith)
 
 -- labels without assignments leave the variables as they are, and labels without resets the clocks
 pub variables-stay : (ls : List Label) (vs : List ℤ) → ((l : Label) → Mem l ls → l .body .updates ≡ []) → variablesAfter ls vs ≡ vs
