@@ -1,14 +1,13 @@
 -- What it says that a network accepts a step or a wait.
-use mathlib.Core.Path.{_≡_, refl, sym, ap, _∙_, subst}
-use mathlib.Core.Bool.{Bool, true, false, not}
+use mathlib.Core.Path.{_≡_, sym, ap, _∙_, subst}
+use mathlib.Core.Bool.{true, false}
 use mathlib.Core.List.{List, map, List·Memᴰ as Mem}
 use Prim.Native.Nat.{ℕ, _≤_, _<_}
-use borrow.Author.Tests.{ltb-true, lt-ltb, le-leb, not-true}
-use lib.Dec.{ltb, leb}
+use borrow.Author.Tests.{ltb-true, lt-ltb, leb-true, le-leb, not-true}
+use lib.Dec.{ltb}
 use lib.ListN.{length}
-use Rattle.expr.specs.Lists.{all, any, ascending, implies}
-use Rattle.expr.specs.Answer.{Answer, done, refused}
-use Rattle.expr.specs.Clocks.{inLimit, later}
+use Rattle.expr.specs.Lists.{any, ascending}
+use Rattle.expr.specs.Answer.{done}
 use Rattle.expr.specs.Moves.{known}
 use Rattle.expr.proofs.Bools.{parts, both, implies-at, implies-by}
 use Rattle.expr.proofs.Lists.{all-at, all-by, any-at, any-by, map-at, map-by}
@@ -25,9 +24,14 @@ pub record Known (count : ℕ) (ms : List ℕ) : Type 0 where
   pub ascends : ascending ms ≡ true
   pub each : (m : ℕ) → Mem m ms → m < count
 
-pub known-at : (count : ℕ) (ms : List ℕ) → known count ms ≡ true → (m : ℕ) → Mem m ms → m < count
+pub known-at : (count : ℕ) (ms : List ℕ) → known count ms ≡ true → Known count ms
 unfolding known
-known-at count ms h m k = ltb-true m count (all-at (λ m. ltb m count) ms (search parts) k)
+known-at count ms h = record {
+  some = leb-true 1 (length ms) (search parts);
+  few = leb-true (length ms) 16 (search parts);
+  ascends = search parts;
+  each = λ m k. ltb-true m count (all-at (λ m. ltb m count) ms (search parts) k);
+}
 
 pub known-by : (count : ℕ) (ms : List ℕ) → Known count ms → known count ms ≡ true
 unfolding known

@@ -34,12 +34,7 @@ use Rattle.flattener.proofs.Pictured.{pictured-not-urgent, pictured-child, pict
 use Rattle.flattener.proofs.Printable.{alternative-lt}
 use Rattle.agreement.specs.Agreement.{ChartConfiguration, NetworkConfiguration}
 use Rattle.agreement.proofs.Relation.{standing}
-use Rattle.agreement.proofs.Standing.{flag-standing, active-standing}
-
--- the picture is a standing configuration
-pub picture-stands : (c : Chart) (σ : ChartConfiguration) → picture c σ ≡ standing c (pictured c σ) (σ .variables) (σ .clocks)
-unfolding picture standing
-picture-stands c σ = refl
+use Rattle.agreement.proofs.Standing.{picture-stands, flag-standing, active-standing}
 
 -- the edge that bears t when it is active in σ: it tests the automata that are at the exit
 abbrev pub testedBy : Chart → ChartConfiguration → ℕ → ℕ

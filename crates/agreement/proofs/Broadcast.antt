@@ -2,9 +2,9 @@
 -- automata are at f a move of which the sender is a member is this one, and leads to g (`broadcast-leads`); and there is such
 -- a move (`broadcast-accepted`).
 use mathlib.Core.Path.{_≡_, refl, sym, ap, ap₂, _∙_, subst}
-use mathlib.Core.Bool.{Bool, true, false, not, _&&_, _||_}
+use mathlib.Core.Bool.{Bool, true, not, _&&_, _||_}
 use mathlib.Core.Logic.{_⊎_, inl, inr, ⊎-elim, _≢_}
-use mathlib.Core.List.{List, [], _∷_, map, map-map, List·Memᴰ as Mem}
+use mathlib.Core.List.{List, [], map, List·Memᴰ as Mem}
 use Prim.Native.Nat.{ℕ, _≤_, _<_}
 use native.Mathlib.Omega.{arith}
 use native.Mathlib.Decide.{ℕ-discrete}
@@ -15,7 +15,7 @@ use lib.ListN.{length}
 use Rattle.expr.specs.Lists.{keep, below, ascending}
 use Rattle.expr.specs.Answer.{done}
 use Rattle.expr.specs.Label.{Label, receives}
-use Rattle.expr.proofs.Bools.{and-l, and-r, both, or-l, or-r, or-cases, clash, not-no}
+use Rattle.expr.proofs.Bools.{and-l, and-r, both, or-l, or-r, or-cases, not-no}
 use Rattle.expr.proofs.Lists.{map-at, map-by, keep-none, mem-some, Once, ascending-once}
 use Rattle.expr.proofs.Moves.{Receives, receives-at, receives-by}
 use Rattle.chart.specs.Chart.{Chart}
@@ -24,16 +24,16 @@ use Rattle.chart.proofs.Rules.{Passed}
 use Rattle.chart.proofs.Ranges.{Ranges}
 use Rattle.network.specs.Network.{Edge, Network, ownerOf}
 use Rattle.network.specs.Machine.{edgeAt, isConfiguration, boundsKept, activeEdge, urgentAt, after, step}
-use Rattle.flattener.specs.Flatten.{Place, automaton, placeHome, samePlace, sorted, signalling, edge, ownEdge, urgentPlace, number, flatten}
+use Rattle.flattener.specs.Flatten.{Place, automaton, samePlace, sorted, signalling, edge, ownEdge, urgentPlace, flatten}
 use Rattle.flattener.proofs.Automata.{Region, automaton-lt, automaton-injective}
-use Rattle.flattener.proofs.Numbers.{PlaceOf, same-place-by, urgent-of-place}
+use Rattle.flattener.proofs.Numbers.{same-place-by, urgent-of-place}
 use Rattle.flattener.proofs.Edges.{Leaves, edges-by, edge-at-mem, mem-edge-at, owner-of, source-of}
 use Rattle.flattener.proofs.Order.{edge-at-injective}
-use Rattle.agreement.specs.Agreement.{NetworkConfiguration, Accepts, isUrgent, carried}
+use Rattle.agreement.specs.Agreement.{NetworkConfiguration, isUrgent, carried}
 use Rattle.agreement.proofs.Relation.{standing}
-use Rattle.expr.proofs.Sets.{passing-at, passing-by, passing-ascending, values-length, AllowedSet, Joint, Signalled, Full}
+use Rattle.expr.proofs.Sets.{passing-at, passing-by, passing-ascending, values-length, AllowedSet, Joint, Full}
 use Rattle.agreement.proofs.Standing.{Fits, Takes, takes-by, Signals, signals-variables, signals-clocks, active-own, active-leaves, after-standing}
-use Rattle.agreement.proofs.Accepted.{Accepted, accepted-at, accepted-by, known-at, known-by, urgent-by}
+use Rattle.agreement.proofs.Accepted.{Accepted, accepted-by, known-at, known-by, urgent-by}
 
 -- the automaton of `home` sends, and takes itself from where f has it to where g has it; so do all that hear it
 pub record Broadcast (c : Chart) (f g : ℕ → Place) (home channel : ℕ) : Type 0 where
@@ -173,7 +173,7 @@ module _ (c : Chart) (passed : Passed c) (ranges : Ranges c) (f g : ℕ → Plac
     member-of : (m : ℕ) → Mem m ms → Member m
     member-of m k = ⊎-elim
         (λ e. subst Member (first-sends ∙ sym e) (home, b .region, from-home, inl (refl, b .sent-at _ from-home)))
-        (λ r. let j = receiver-at m (known-at count ms (accepted .are-known) m k) (accepted .each-active m k) (r .0, r .1 ∙ on-channel) in (j .0, j .1, j .2, inr (j .3)))
+        (λ r. let j = receiver-at m (known-at count ms (accepted .are-known) .each m k) (accepted .each-active m k) (r .0, r .1 ∙ on-channel) in (j .0, j .1, j .2, inr (j .3)))
         (joint .signalled .others m k)
 
     all-heard : (q : ℕ) → Region c q → (g q ≡ f q) ⊎ ((m : ℕ) × Mem m ms × (ownerOf net (edgeAt net m) ≡ automaton c q))

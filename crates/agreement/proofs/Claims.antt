@@ -1,9 +1,10 @@
 -- Steps 7 and 8: what is claimed of related configurations, for the network of a chart that passes.
 use mathlib.Core.Path.{_≡_}
-use mathlib.Core.Bool.{true}
+use mathlib.Core.Bool.{true, false}
 use mathlib.Core.List.{List, []}
 use Prim.Native.Nat.{ℕ, _+_, _<_}
-use Rattle.expr.specs.Answer.{Answer, done, refused}
+use Rattle.expr.specs.Label.{distinct}
+use Rattle.expr.specs.Answer.{done}
 use Rattle.chart.specs.Chart.{Chart}
 use Rattle.chart.specs.Machine as chart
 use Rattle.chart.proofs.Rules.{Passed}
@@ -11,7 +12,7 @@ use Rattle.chart.proofs.Ranges.{Ranges}
 use Rattle.network.specs.Machine as network
 use Rattle.flattener.specs.Flatten.{flatten}
 use Rattle.flattener.specs.Picture.{picture}
-use Rattle.agreement.specs.Agreement.{ChartConfiguration, NetworkConfiguration, Accepts, Alike, carried, isUrgent, named}
+use Rattle.agreement.specs.Agreement.{ChartConfiguration, NetworkConfiguration, Accepts, Alike, borne, carried, isUrgent, named}
 use Rattle.agreement.proofs.Relation.{Related}
 
 -- nothing owed: the network's configuration is the picture of the chart's
@@ -27,6 +28,14 @@ StartIsPicture = (c : Chart) → Passed c → Ranges c → network.start (flatte
 
 abbrev pub StartIsConfiguration : Type 0
 StartIsConfiguration = (c : Chart) → Passed c → Ranges c → chart.isConfiguration c (chart.start c) ≡ true
+
+-- no move bears a transition twice; and where nothing is owed none is urgent
+abbrev pub BearsOnce : Type 0
+BearsOnce = (c : Chart) → Passed c → Ranges c → (ν : NetworkConfiguration) (ms : List ℕ) → Accepts (network.step (flatten c) ν ms) → distinct (borne (flatten c) ms) ≡ true
+
+abbrev pub NoUrgentMove : Type 0
+NoUrgentMove = (c : Chart) → Passed c → Ranges c → (σ : ChartConfiguration) → chart.isConfiguration c σ ≡ true
+    → (ms : List ℕ) → Accepts (network.step (flatten c) (picture c σ) ms) → isUrgent (flatten c) ms ≡ false
 
 -- 7, settled: a move of the network carries a chart step, which the chart accepts; then as many moves are owed as are named
 abbrev pub MoveIsStep : Type 0
@@ -66,3 +75,20 @@ MovePays = (c : Chart) → Passed c → Ranges c → (σ : ChartConfiguration) (
 abbrev pub SomeMove : Type 0
 SomeMove = (c : Chart) → Passed c → Ranges c → (σ : ChartConfiguration) (ν : NetworkConfiguration) (k : ℕ) → Related c σ ν (k + 1)
     → (ms : List ℕ) × Accepts (network.step (flatten c) ν ms)
+
+-- all of them
+pub record AllClaims : Type 0 where
+  pub settled-is-picture : SettledIsPicture
+  pub picture-is-settled : PictureIsSettled
+  pub start-is-picture : StartIsPicture
+  pub start-is-configuration : StartIsConfiguration
+  pub bears-once : BearsOnce
+  pub no-urgent-move : NoUrgentMove
+  pub move-is-step : MoveIsStep
+  pub step-is-move : StepIsMove
+  pub one-move : OneMove
+  pub waits-alike : WaitsAlike
+  pub wait-is-picture : WaitIsPicture
+  pub no-wait-owed : NoWaitOwed
+  pub move-pays : MovePays
+  pub some-move : SomeMove

@@ -205,7 +205,7 @@ module _ (c : Chart) (passed : Passed c) (ranges : Ranges c) where
             ap (departed c σ ts) (sym e) ∙ departed-at t m
             ∙ cond-no _ _ (no-exit t k) ∙ cond-no _ _ (no-entry t k)
             ∙ sym (pictured-child c next next-tree g (subst (λ (x : ℕ). Child c x (transitionAt c t .destination)) e (ends c passed ranges t (together .each-known t m) .to))
-                (next-entered c passed ranges σ tree ts together t m _ (f .to .known) (entered-top c (passed .tree) (passed .entry-marks) _ (f .to .known) (f .entry-is)))))
+            (next-entered c passed ranges σ tree ts together t m _ (f .to .known) (entered-top c (passed .tree) (passed .entry-marks) _ (f .to .known) (f .entry-is)))))
             (decided (hasExit c t || hasEntry c t))
 
         -- any other is where it was

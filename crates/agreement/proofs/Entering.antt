@@ -1,38 +1,36 @@
 -- The move of a pending transition at pre: it enters its destination. Its automaton goes there; those of the states that are
 -- entered hear the entry, and go to the child that is marked with it. Then it owes nothing.
 use mathlib.Core.Path.{_≡_, refl, sym, ap, ap₂, _∙_, subst}
-use mathlib.Core.Bool.{Bool, true, false, cond}
-use mathlib.Core.Logic.{_⊎_, inl, inr, ⊎-elim, _≢_}
+use mathlib.Core.Bool.{true, false, cond}
+use mathlib.Core.Logic.{inl, inr, ⊎-elim, _≢_}
 use mathlib.Core.List.{List, List·Memᴰ as Mem}
-use Prim.Native.Nat.{ℕ, _+_, _<_}
+use Prim.Native.Nat.{ℕ, _<_}
 use native.Mathlib.Omega.{arith}
 use native.Mathlib.Decide.{ℕ-discrete}
 use borrow.Author.Tests.{eq-eqb, ne-eqb}
 use lib.Dec.{eqb}
-use lib.ListN.{length}
 use Rattle.expr.specs.Lists.{has}
 use Rattle.expr.specs.Clocks.{keeps}
 use Rattle.expr.proofs.Bools.{clash, decided, fails, cond-yes, cond-no}
 use Rattle.expr.proofs.Rows.{ClockValues}
 use Rattle.chart.specs.Chart.{Chart, transitionAt, stateAt, parentOf, home}
-use Rattle.chart.specs.Tree.{under, entered}
+use Rattle.chart.specs.Tree.{entered}
 use Rattle.chart.specs.Machine.{isTree}
-use Rattle.chart.proofs.Tree.{size, Child}
+use Rattle.chart.proofs.Tree.{size}
 use Rattle.chart.proofs.Entered.{entered-top, entered-under, all-entered-at}
 use Rattle.chart.proofs.Rules.{Passed}
 use Rattle.chart.proofs.Ranges.{Ranges}
 use Rattle.chart.proofs.Step.{channel-lt}
 use Rattle.network.specs.Network.{Edge}
-use Rattle.flattener.specs.Flatten.{Pair, Place, idle, child, pre, post, placeHome, joined, preBounds, boundsOf, hasEntry, markedChild, enterPairs, enterChannel, exitChannel, signalling, edge, ownEdge}
-use Rattle.flattener.specs.Picture.{pictured}
+use Rattle.flattener.specs.Flatten.{Pair, Place, idle, child, pre, post, placeHome, joined, boundsOf, hasEntry, markedChild, enterPairs, enterChannel, signalling, edge, ownEdge}
 use Rattle.flattener.proofs.Automata.{Region}
 use Rattle.flattener.proofs.Numbers.{PlaceOf}
-use Rattle.flattener.proofs.Channels.{enter-channel-ge, enter-channel-injective, enter-exit-apart, heard-entries-at, heard-entries-by, heard-exits-at}
-use Rattle.flattener.proofs.Arrivals.{enter-pair}
+use Rattle.flattener.proofs.Channels.{enter-channel-ge, enter-channel-injective, enter-exit-apart, heard-entries-at, heard-entries-by}
+use Rattle.flattener.proofs.Arrivals.{Ends, enter-pair}
 use Rattle.flattener.proofs.Edges.{Leaves}
 use Rattle.flattener.proofs.Bounds.{keeps-pre}
 use Rattle.agreement.specs.Agreement.{ChartConfiguration}
-use Rattle.agreement.proofs.Relation.{Pending, entryPair, Concerns, Hearing, IsPending, Placed}
+use Rattle.agreement.proofs.Relation.{Pending, entryPair, Concerns, IsPending, Placed}
 use Rattle.expr.proofs.Moves.{Receives}
 use Rattle.agreement.proofs.Broadcast.{Broadcast}
 use Rattle.agreement.proofs.Pending.{pending-ends, pending-entry, concerns-not-home, home-entering, home-place, pictured-home, pictured-left, pictured-entered, marked, marked-entered, placed-fits}
@@ -152,7 +150,7 @@ module _ (c : Chart) (passed : Passed c) (ranges : Ranges c) (σ : ChartConfigur
         (decided (entered c destination entry q))
   ]
     where
-      n : Rattle.flattener.proofs.Arrivals.Ends c t
+      n : Ends c t
       n = pending-ends c passed ranges σ tree f p k
 
       joined-kept : (s : ℕ) → s < size c → entered c destination entry s ≡ true → keeps (joined c s) (σ .clocks) ≡ true

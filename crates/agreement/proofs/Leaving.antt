@@ -1,15 +1,14 @@
 -- The move of a pending transition at post: it leaves its source. Its automaton goes to the arrival; those of states at or below
 -- the source that are not idle hear the exit, and become idle. Then the entry is owed, if it has one, and else nothing.
 use mathlib.Core.Path.{_≡_, refl, sym, ap, ap₂, _∙_, subst}
-use mathlib.Core.Bool.{Bool, true, false, cond}
-use mathlib.Core.Logic.{_⊎_, inl, inr, ⊎-elim, _≢_}
+use mathlib.Core.Bool.{true, false, cond}
+use mathlib.Core.Logic.{inl, inr, ⊎-elim, _≢_}
 use mathlib.Core.List.{List, _∷_, List·Memᴰ as Mem}
-use Prim.Native.Nat.{ℕ, _+_, _<_}
+use Prim.Native.Nat.{ℕ, _<_}
 use native.Mathlib.Omega.{arith}
 use native.Mathlib.Decide.{ℕ-discrete}
 use borrow.Author.Tests.{eq-eqb, ne-eqb}
 use lib.Dec.{eqb}
-use lib.ListN.{length}
 use Rattle.expr.specs.Clocks.{keeps}
 use Rattle.expr.proofs.Bools.{clash, decided, fails, cond-yes, cond-no}
 use Rattle.expr.proofs.Rows.{ClockValues, keeps-free}
@@ -21,16 +20,15 @@ use Rattle.chart.proofs.Rules.{Passed}
 use Rattle.chart.proofs.Ranges.{Ranges}
 use Rattle.chart.proofs.Step.{channel-lt}
 use Rattle.network.specs.Network.{Edge}
-use Rattle.flattener.specs.Flatten.{Pair, Place, idle, child, pre, post, placeHome, arrival, departure, boundsOf, hasExit, hasEntry, exitPairs, enterChannel, exitChannel, signalling, edge, ownEdge}
-use Rattle.flattener.specs.Picture.{pictured}
+use Rattle.flattener.specs.Flatten.{Pair, Place, idle, child, pre, post, placeHome, arrival, departure, boundsOf, hasExit, hasEntry, exitPairs, exitChannel, signalling, edge, ownEdge}
 use Rattle.flattener.proofs.Automata.{Region}
 use Rattle.flattener.proofs.Numbers.{PlaceOf}
 use Rattle.flattener.proofs.Channels.{exit-channel-ge, exit-channel-injective, enter-exit-apart, heard-entries-at, heard-exits-at, heard-exits-by}
 use Rattle.flattener.proofs.Arrivals.{exit-pair}
-use Rattle.flattener.proofs.Edges.{Leaves, HearsExit, BearsFrom}
+use Rattle.flattener.proofs.Edges.{Leaves}
 use Rattle.flattener.proofs.Bounds.{departure-arrives}
 use Rattle.agreement.specs.Agreement.{ChartConfiguration}
-use Rattle.agreement.proofs.Relation.{Pending, entryPair, owesAll, Concerns, Hearing, IsPending, Placed}
+use Rattle.agreement.proofs.Relation.{Pending, owesAll, Concerns, IsPending, Placed}
 use Rattle.expr.proofs.Moves.{Receives}
 use Rattle.agreement.proofs.Broadcast.{Broadcast}
 use Rattle.agreement.proofs.Pending.{pending-ends, concerns-not-home, home-leaving, home-place, pictured-home, pictured-left, not-entered, placed-fits}

@@ -3,6 +3,7 @@ pub mod Relation
 pub mod Claims
 pub mod Standing
 pub mod Bearing
+pub mod Picture
 pub mod Accepted
 pub mod Departing
 pub mod Carrying
@@ -13,3 +14,6 @@ pub mod Paying
 pub mod Leaving
 pub mod Entering
 pub mod Owed
+pub mod Borne
+pub mod Runs
+pub mod Demand

@@ -1,6 +1,6 @@
 -- While moves are owed: no wait (`no-wait-owed`), every move pays one (`move-pays`), and there is one (`some-move`).
 use mathlib.Core.Path.{_≡_, refl, sym, ap, _∙_, subst}
-use mathlib.Core.Bool.{Bool, true, false}
+use mathlib.Core.Bool.{true}
 use mathlib.Core.Logic.{⊎-elim}
 use mathlib.Core.List.{List, [], _∷_, List·Memᴰ as Mem, List·Memᴰ·head as here}
 use Prim.Native.Nat.{ℕ, _+_, _<_}
@@ -18,8 +18,7 @@ use Rattle.chart.specs.Machine.{isTree}
 use Rattle.chart.proofs.Rules.{Passed}
 use Rattle.chart.proofs.Ranges.{Ranges}
 use Rattle.chart.proofs.Step.{configuration-tree, configuration-clocks}
-use Rattle.network.specs.Network.{Network}
-use Rattle.network.specs.Machine.{edgeAt, boundsKept, isConfiguration, urgentAt, urgent, step, wait}
+use Rattle.network.specs.Machine.{edgeAt, boundsKept, urgentAt, urgent, step, wait}
 use Rattle.flattener.specs.Flatten.{Place, urgentPlace, boundsOf, flatten}
 use Rattle.flattener.proofs.Automata.{Region, sequentials-at, sequentials-by}
 use Rattle.flattener.proofs.Numbers.{urgent-of-place}
@@ -97,16 +96,34 @@ module _ (c : Chart) (passed : Passed c) (ranges : Ranges c) (σ : ChartConfigur
         ∙ all-by (λ q. keeps (boundsOf c (y .places q)) (σ .clocks)) (sequentials c) (λ q m. y .bounds
         (λ s z. all-at (λ q. keeps (boundsOf c (f q)) (σ .clocks)) (sequentials c) (sym (bounds-standing c passed f (σ .variables) (σ .clocks) fits) ∙ k) (sequentials-by c z)) q (sequentials-at c m))
 
+    -- a move with its sender makes it
+    paid-by : (ms : List ℕ) {μ : NetworkConfiguration} → Accepted (flatten c) now ms μ → (m : ℕ) → Mem m ms → Leaves c (f h) (edgeAt (flatten c) m)
+        → (isUrgent (flatten c) ms ≡ true) × (carried (flatten c) ms ≡ []) × Related c σ μ rest
+    paid-by ms a m k l =
+        let b = broadcast-leads c passed ranges f (y .places) fits then-fits (σ .variables) (σ .clocks) h (y .channel) (y .broadcast) ms a m k l in
+        (b .2, b .1, subst (λ (x : NetworkConfiguration). Related c σ x rest) (sym (b .0)) (paid (ap (boundsKept (flatten c)) (sym (b .0)) ∙ a .bounds-kept)))
+
+    -- and there is one
+    payable : (ms : List ℕ) × (step (flatten c) now ms ≡ done then)
+    payable =
+        let k : boundsKept (flatten c) now ≡ true = ap (boundsKept (flatten c)) (sym (r .network-is)) ∙ r .bounds-kept in
+        broadcast-accepted c passed ranges f (y .places) fits then-fits (σ .variables) (σ .clocks) h (y .channel) (y .broadcast) (configuration-standing c passed f fits σ (r .configured) ∙ k) (then-bounds k)
+
   -- a move has the sender of a pending transition
-  sender-of : (ms : List ℕ) {μ : NetworkConfiguration} → 0 < owed → Accepted (flatten c) now ms μ → (p : Pending) × Mem p (r .pending) × ((m : ℕ) × Mem m ms × Leaves c (f (home c (p .transition))) (edgeAt (flatten c) m))
-  unfolding urgentAt
-  sender-of ms h a =
-      let u = urgent-at (flatten c) ms (a .urgent-first (urgent-now h)) in
-      let l = active-leaves c passed f (σ .variables) (σ .clocks) fits (edge-at-mem (flatten c) (u .0) (known-at _ ms (a .are-known) (u .0) (u .1))) (a .each-active (u .0) (u .1)) in
-      let s : urgentAt (flatten c) (edgeAt (flatten c) (u .0) .source) ≡ eqb (urgentPlace (f (l .0))) 1
-      = ap (urgentAt (flatten c)) (source-of c (f (l .0)) _ (l .2)) ∙ ap (λ (n : ℕ). eqb n 1) (urgent-of-place c (fits (l .0) (l .1) .is-place)) in
-      let p = urgent-home c passed ranges σ tree f (r .pending) (r .placed) (l .0) (l .1) (eqb-true (urgentPlace (f (l .0))) 1 (sym s ∙ u .2)) in
-      (p .0, p .1, (u .0, u .1, subst (λ (q : ℕ). Leaves c (f q) (edgeAt (flatten c) (u .0))) (p .2) (l .2)))
+  module _ (ms : List ℕ) {μ : NetworkConfiguration} (some : 0 < owed) (a : Accepted (flatten c) now ms μ) where
+    sender-from : (m : ℕ) → Mem m ms → urgentAt (flatten c) (edgeAt (flatten c) m .source) ≡ true → (q : ℕ) → Region c q → Leaves c (f q) (edgeAt (flatten c) m)
+        → (p : Pending) × Mem p (r .pending) × Leaves c (f (home c (p .transition))) (edgeAt (flatten c) m)
+    unfolding urgentAt
+    sender-from m k u q g l =
+        let s : urgentPlace (f q) ≡ 1 = eqb-true (urgentPlace (f q)) 1 (ap (λ (n : ℕ). eqb n 1) (sym (urgent-of-place c (fits q g .is-place))) ∙ ap (urgentAt (flatten c)) (sym (source-of c (f q) _ l)) ∙ u) in
+        let p = urgent-home c passed ranges σ tree f (r .pending) (r .placed) q g s in
+        (p .0, p .1, subst (λ (x : ℕ). Leaves c (f x) (edgeAt (flatten c) m)) (p .2) l)
+
+    sender-of : (m : ℕ) × Mem m ms × ((p : Pending) × Mem p (r .pending) × Leaves c (f (home c (p .transition))) (edgeAt (flatten c) m))
+    sender-of =
+        let u = urgent-at (flatten c) ms (a .urgent-first (urgent-now some)) in
+        let l = active-leaves c passed f (σ .variables) (σ .clocks) fits (edge-at-mem (flatten c) (u .0) (known-at _ ms (a .are-known) .each (u .0) (u .1))) (a .each-active (u .0) (u .1)) in
+        (u .0, u .1, sender-from (u .0) (u .1) (u .2) (l .0) (l .1) (l .2))
 
   -- the claims
   waits-not : 0 < owed → (d : ℕ) → Accepts (wait (flatten c) ν d) → ⊥
@@ -117,19 +134,15 @@ module _ (c : Chart) (passed : Passed c) (ranges : Ranges c) (σ : ChartConfigur
   pays rest less ms μ h =
       let a = accepted-at (flatten c) now ms (ap (λ (x : NetworkConfiguration). step (flatten c) x ms) (sym (r .network-is)) ∙ h) in
       let s = sender-of ms (omega arith) a in
-      let y = payment (s .0) (s .1) in
-      let b = broadcast-leads c passed ranges f (y .places) fits (then-fits y rest less) (σ .variables) (σ .clocks) _ (y .channel) (y .broadcast) ms a (s .2 .0) (s .2 .1) (s .2 .2) in
-      (b .2, b .1, subst (λ (x : NetworkConfiguration). Related c σ x rest) (sym (b .0)) (paid y rest less (ap (boundsKept (flatten c)) (sym (b .0)) ∙ a .bounds-kept)))
+      let p = s .2 in
+      paid-by (payment (p .0) (p .1)) rest less ms a (s .0) (s .1) (p .2)
 
   moves : (rest : ℕ) → owed ≡ rest + 1 → (ms : List ℕ) × Accepts (step (flatten c) ν ms)
   unfolding Accepts
   moves rest less =
       let p = some-pending (omega arith) in
-      let y = payment (p .0) (p .1) in
-      let k = ap (boundsKept (flatten c)) (sym (r .network-is)) ∙ r .bounds-kept in
-      let b = broadcast-accepted c passed ranges f (y .places) fits (then-fits y rest less) (σ .variables) (σ .clocks) _ (y .channel) (y .broadcast)
-      (configuration-standing c passed f fits σ (r .configured) ∙ k) (then-bounds y rest less k) in
-      (b .0, (then y rest less, ap (λ (x : NetworkConfiguration). step (flatten c) x (b .0)) (r .network-is) ∙ b .1))
+      let b = payable (payment (p .0) (p .1)) rest less in
+      (b .0, (then (payment (p .0) (p .1)) rest less, ap (λ (x : NetworkConfiguration). step (flatten c) x (b .0)) (r .network-is) ∙ b .1))
 
 pub no-wait-owed : NoWaitOwed
 no-wait-owed c passed ranges σ ν k r h d a = waits-not c passed ranges σ ν k r h d a

@@ -1,13 +1,12 @@
 -- One pending transition makes a move, from f to g: the others stay pending, since their homes are not nested. It has made all
 -- its moves (`placed-rest`), or goes on to its entry (`placed-next`).
 use mathlib.Core.Path.{_≡_, refl, sym, ap, _∙_, subst}
-use mathlib.Core.Bool.{Bool, true, false, cond}
+use mathlib.Core.Bool.{true, false}
 use mathlib.Core.Logic.{_⊎_, inl, inr, ⊎-elim, _≢_}
-use mathlib.Core.List.{List, [], _∷_, List·Memᴰ as Mem, List·Memᴰ·head as here, List·Memᴰ·tail as there, List·Memᴰ·cases-cons as cases-cons, Memᴰ·cast as cast}
+use mathlib.Core.List.{List, _∷_, List·Memᴰ as Mem, List·Memᴰ·head as here, List·Memᴰ·tail as there, List·Memᴰ·cases-cons as cases-cons, Memᴰ·cast as cast}
 use Prim.Native.Nat.{ℕ, _+_, _<_}
 use native.Mathlib.Omega.{arith}
 use native.Mathlib.Decide.{ℕ-discrete}
-use lib.ListN.{length}
 use Rattle.expr.specs.Clocks.{keeps}
 use Rattle.expr.proofs.Bools.{clash, decided}
 use Rattle.expr.proofs.Lists.{Once}
@@ -22,7 +21,7 @@ use Rattle.flattener.specs.Picture.{pictured}
 use Rattle.flattener.proofs.Automata.{Region}
 use Rattle.flattener.proofs.Arrivals.{ends}
 use Rattle.agreement.specs.Agreement.{ChartConfiguration}
-use Rattle.agreement.proofs.Relation.{Pending, owes, owesAll, Concerns, Hearing, IsPending, Placed}
+use Rattle.agreement.proofs.Relation.{Pending, owes, owesAll, Concerns, IsPending, Placed}
 use Rattle.agreement.proofs.Broadcast.{Broadcast}
 use Rattle.agreement.proofs.Pending.{concerns-home}
 

@@ -2,17 +2,16 @@
 -- pending transitions at urgent places (`home-urgent`, `urgent-home`). What the picture has at the home of a pending transition
 -- and below its ends: `pictured-home`, `pictured-entered`, `pictured-left`.
 use mathlib.Core.Path.{_≡_, refl, sym, ap, _∙_, subst}
-use mathlib.Core.Bool.{Bool, true, false, cond, not, _||_}
+use mathlib.Core.Bool.{Bool, true, false, _||_}
 use mathlib.Core.Logic.{_⊎_, inl, inr, ⊎-elim, _≢_}
-use mathlib.Core.List.{List, [], _∷_, List·Memᴰ as Mem, List·Memᴰ·head as here, List·Memᴰ·tail as there, List·Memᴰ·cases-cons as cases-cons, Memᴰ·cast as cast}
-use Prim.Native.Nat.{ℕ, _+_, _<_}
+use mathlib.Core.List.{List, List·Memᴰ as Mem}
+use Prim.Native.Nat.{ℕ, _<_}
 use native.Mathlib.Omega.{arith}
-use borrow.Author.Tests.{eqb-true, eqb-false, eq-eqb, not-true}
+use borrow.Author.Tests.{eqb-true, eqb-false}
 use lib.Dec.{eqb}
-use lib.ListN.{length}
 use Rattle.expr.specs.Lists.{any, has}
 use Rattle.expr.proofs.Bools.{clash, decided, fails, or-l, or-r, or-cases, cond-yes, cond-no}
-use Rattle.expr.proofs.Lists.{all-at, any-at, any-by, any-none, Once}
+use Rattle.expr.proofs.Lists.{any-at, any-none}
 use Rattle.chart.specs.Chart.{Chart, transitionAt, home, basic, stateAt}
 use Rattle.chart.specs.Tree.{under, entered}
 use Rattle.chart.specs.Machine.{isActive, isTree}
@@ -22,13 +21,13 @@ use Rattle.chart.proofs.Active.{tree-at, active-above}
 use Rattle.chart.proofs.Rules.{Passed}
 use Rattle.chart.proofs.Ranges.{Ranges}
 use Rattle.chart.proofs.Step.{entry-of}
-use Rattle.flattener.specs.Flatten.{Place, idle, child, pre, post, hasExit, hasEntry, urgentPlace, markedChild, placeHome}
+use Rattle.flattener.specs.Flatten.{Place, idle, child, pre, post, hasEntry, urgentPlace, markedChild}
 use Rattle.flattener.specs.Picture.{pictured}
 use Rattle.flattener.proofs.Automata.{Region, marked-child}
 use Rattle.flattener.proofs.Numbers.{PlaceOf, idle-place, child-place}
 use Rattle.flattener.proofs.Arrivals.{has-entry-at, no-entry-at, Ends, ends, post-place, pre-place, entry-lt}
 use Rattle.agreement.specs.Agreement.{ChartConfiguration}
-use Rattle.agreement.proofs.Relation.{Pending, entryPair, owes, owesAll, Concerns, Hearing, IsPending, Placed}
+use Rattle.agreement.proofs.Relation.{Pending, entryPair, Concerns, IsPending, Placed}
 use Rattle.agreement.proofs.Standing.{Fits}
 use Rattle.flattener.proofs.Pictured.{pictured-idle, pictured-child, pictured-fits, pictured-not-urgent}
 

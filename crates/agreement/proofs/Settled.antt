@@ -6,7 +6,7 @@ use mathlib.Core.Logic.{_⊎_, inl, inr, ⊎-elim, _≢_}
 use mathlib.Core.List.{List, [], _∷_, map, map-map, List·Memᴰ as Mem, List·Memᴰ·not-nil as not-nil, Memᴰ·cast as cast}
 use Prim.Native.Nat.{ℕ, _≤_, _<_}
 use native.Mathlib.Omega.{arith}
-use borrow.Author.Tests.{eqb-true, eq-eqb, ne-eqb, leb-true}
+use borrow.Author.Tests.{eqb-true, eq-eqb, leb-true}
 use lib.Dec.{eqb, leb}
 use lib.IntN.{ℤ}
 use lib.ListN.{length}
@@ -17,7 +17,7 @@ use Rattle.expr.specs.Label.{Label, assignsOnce}
 use Rattle.expr.specs.Clocks.{keeps}
 use Rattle.expr.specs.Moves.{known, allowed, variablesAfter, clocksAfter}
 use Rattle.expr.proofs.Bools.{parts, clash, both, same, or-else, not-no}
-use Rattle.expr.proofs.Lists.{Once, all-at, all-by, none-any, map-at, map-by, some-mem, ascending-once}
+use Rattle.expr.proofs.Lists.{Once, all-at, all-by, map-at, map-by, some-mem, ascending-once}
 use Rattle.expr.proofs.Labels.{receiver-assigns-nothing}
 use Rattle.expr.proofs.Rows.{keeps-clocks-after}
 use Rattle.expr.proofs.Sets.{ascending-same, Matched, matched-length, allowed-set-at, allowed-set-by, OneAssigns, one-assigns, variables-alike, clocks-alike}
@@ -32,40 +32,25 @@ use Rattle.chart.proofs.Moved.{next-configured}
 use Rattle.network.specs.Network.{Edge, ownerOf}
 use Rattle.network.specs.Machine as network
 use Rattle.network.specs.Machine.{edgeAt, activeEdge}
-use Rattle.flattener.specs.Flatten.{Place, child, edge, number, automaton, placeHome, departure, boundsOf, urgentPlace, flatten}
+use Rattle.flattener.specs.Flatten.{Place, child, edge, number, automaton, placeHome, departure, boundsOf, flatten}
 use Rattle.flattener.specs.Picture.{pictured, picture}
 use Rattle.flattener.proofs.Automata.{Region, sequentials-at, sequentials-by}
 use Rattle.flattener.proofs.Arrivals.{ends}
 use Rattle.flattener.proofs.Bounds.{bounds-pictured, bounds-after}
-use Rattle.flattener.proofs.Pictured.{pictured-child, pictured-fits, pictured-not-urgent}
+use Rattle.flattener.proofs.Pictured.{pictured-child, pictured-fits}
 use Rattle.agreement.specs.Agreement.{ChartConfiguration, NetworkConfiguration, Accepts, carried, named}
 use Rattle.agreement.proofs.Relation.{standing, Related}
 use Rattle.agreement.proofs.Claims.{MoveIsStep, StepIsMove, OneMove}
-use Rattle.agreement.proofs.Standing.{Fits, bounds-standing, urgent-standing, configuration-standing, Takes, takes-by, after-standing}
+use Rattle.agreement.proofs.Standing.{picture-stands, bounds-standing, Takes, takes-by, after-standing}
 use Rattle.agreement.proofs.Accepted.{Known, known-at, known-by, Move, Accepted, accepted-at, accepted-by}
-use Rattle.agreement.proofs.Bearing.{testedBy, carrier, picture-stands}
+use Rattle.agreement.proofs.Bearing.{testedBy, carrier}
+use Rattle.agreement.proofs.Picture.{picture-configuration, picture-not-urgent}
 use Rattle.agreement.proofs.Carrying.{Carries, carries-label, carries-owner, carries-active, carries-one, move-carries, carried-ascends, carried-matches, carried-allowed, carriers, carriers-ascend, carried-carriers, carriers-match}
 use Rattle.agreement.proofs.Departing.{departed, departing, departing-owes, departed-at, departed-other, departed-fits, departed-placed, home-cases}
-
-known-parts : (count : ℕ) (ms : List ℕ) → known count ms ≡ true → (1 ≤ length ms) × (length ms ≤ 16) × (ascending ms ≡ true)
-unfolding known
-known-parts count ms h = (leb-true 1 (length ms) (search parts), leb-true (length ms) 16 (search parts), search parts)
 
 module _ (c : Chart) (passed : Passed c) (ranges : Ranges c) (σ : ChartConfiguration) (given : chart.isConfiguration c σ ≡ true) where
   tree : chart.isTree c σ ≡ true
   tree = configuration-tree c σ given
-
-  -- the picture is a configuration of the network, with no urgent place occupied
-  picture-configured : network.isConfiguration (flatten c) (picture c σ) ≡ true
-  picture-configured =
-      let f = pictured-fits c σ tree in
-      ap (network.isConfiguration (flatten c)) (picture-stands c σ) ∙ configuration-standing c passed (pictured c σ) f σ given ∙ bounds-standing c passed (pictured c σ) (σ .variables) (σ .clocks) f
-      ∙ sym (bounds-pictured c passed ranges σ tree (configuration-clocks c σ given)) ∙ configuration-bounds c σ given
-
-  picture-not-urgent : network.urgent (flatten c) (picture c σ) ≡ false
-  picture-not-urgent =
-      ap (network.urgent (flatten c)) (picture-stands c σ) ∙ urgent-standing c passed (pictured c σ) (σ .variables) (σ .clocks) (pictured-fits c σ tree)
-      ∙ none-any _ (sequentials c) (λ q m. ne-eqb (urgentPlace (pictured c σ q)) 1 (omega (arith, pictured-not-urgent c σ q)))
 
   -- edges ms that carry the transitions ts, which can be taken together
   module _ (ms ts : List ℕ) (matched : Matched (Carries c σ) ms ts) (together : Together c σ ts) where
@@ -140,14 +125,14 @@ module _ (c : Chart) (passed : Passed c) (ranges : Ranges c) (σ : ChartConfigur
     abbrev steps : List ℕ
     steps = carried (flatten c) ms
 
-    numbers : (1 ≤ length ms) × (length ms ≤ 16) × (ascending ms ≡ true)
-    numbers = known-parts _ ms (move .are-known)
+    numbers : Known (length (flatten c .edges)) ms
+    numbers = known-at _ ms (move .are-known)
 
     each-carries : (m : ℕ) → Mem m ms → (t : ℕ) × Carries c σ m t
-    each-carries = move-carries c passed ranges σ tree ms (known-at _ ms (move .are-known)) (move .each-active) (move .is-allowed)
+    each-carries = move-carries c passed ranges σ tree ms (numbers .each) (move .each-active) (move .is-allowed)
 
     move-matches : Matched (Carries c σ) ms steps
-    move-matches = carried-matches c passed ranges σ tree ms (numbers .2) each-carries
+    move-matches = carried-matches c passed ranges σ tree ms (numbers .ascends) each-carries
 
     steps-known : (t : ℕ) → Mem t steps → t < length (c .transitions)
     steps-known t n = move-matches .left t n .2 .known
@@ -170,7 +155,7 @@ module _ (c : Chart) (passed : Passed c) (ranges : Ranges c) (σ : ChartConfigur
     steps-accepted : chart.step c σ steps ≡ done (next ms steps move-matches steps-together)
     steps-accepted = step-by c σ steps (record {
       given = given;
-      are-known = known-by _ steps (record { some = omega (arith, numbers .0, same-length); few = omega (arith, numbers .1, same-length); ascends = carried-ascends c ms; each = steps-known });
+      are-known = known-by _ steps (record { some = omega (arith, numbers .some, same-length); few = omega (arith, numbers .few, same-length); ascends = carried-ascends c ms; each = steps-known });
       each-known = steps-known;
       each-active = steps-active;
       is-allowed = steps-allowed;
@@ -182,7 +167,7 @@ module _ (c : Chart) (passed : Passed c) (ranges : Ranges c) (σ : ChartConfigur
         same-length = matched-length (Carries c σ) ms steps move-matches
 
     steps-some : steps ≡ [] → ⊥
-    steps-some e = omega (arith, numbers .0, matched-length (Carries c σ) ms steps move-matches, ap (λ (l : List ℕ). length l) e)
+    steps-some e = omega (arith, numbers .some, matched-length (Carries c σ) ms steps move-matches, ap (λ (l : List ℕ). length l) e)
 
     steps-related : Related c (next ms steps move-matches steps-together) ν (named c steps)
     steps-related = record {
@@ -200,38 +185,35 @@ module _ (c : Chart) (passed : Passed c) (ranges : Ranges c) (σ : ChartConfigur
     moves : List ℕ
     moves = carriers c passed ranges σ tree ts
 
-    ascends : ascending ts ≡ true
-    ascends = known-parts _ ts (step .are-known) .2
+    step-numbers : Known (length (c .transitions)) ts
+    step-numbers = known-at _ ts (step .are-known)
 
     step-matches : Matched (Carries c σ) moves ts
     unfolding moves
-    step-matches = carriers-match c passed ranges σ tree ts ascends (step .each-known) (step .each-active)
+    step-matches = carriers-match c passed ranges σ tree ts (step-numbers .ascends) (step .each-known) (step .each-active)
 
     moves-carry : carried (flatten c) moves ≡ ts
     unfolding moves
-    moves-carry = carried-carriers c passed ranges σ tree ts ascends (step .each-known) (step .each-active)
+    moves-carry = carried-carriers c passed ranges σ tree ts (step-numbers .ascends) (step .each-known) (step .each-active)
 
     moves-ascend : ascending moves ≡ true
     unfolding moves
-    moves-ascend = carriers-ascend c passed ranges σ tree ts ascends (step .each-known) (step .each-active)
+    moves-ascend = carriers-ascend c passed ranges σ tree ts (step-numbers .ascends) (step .each-known) (step .each-active)
 
     step-together : Together c σ ts
     step-together = record { each-known = step .each-known; each-from = λ t n. active-source c σ _ (step .each-active t n); homes = allowed-apart c passed ranges _ ts (step .each-known) (step .is-allowed) }
 
     moves-accepted : network.step (flatten c) (picture c σ) moves ≡ done (standing c (departed c σ ts) (next moves ts step-matches step-together .variables) (next moves ts step-matches step-together .clocks))
     moves-accepted = accepted-by (flatten c) (picture c σ) moves (record {
-      given = picture-configured;
-      are-known = known-by _ moves (record { some = omega (arith, numbers-of .0, same-length); few = omega (arith, numbers-of .1, same-length); ascends = moves-ascend; each = λ m k. step-matches .right m k .2 .edge-known });
+      given = picture-configuration c passed ranges σ given;
+      are-known = known-by _ moves (record { some = omega (arith, step-numbers .some, same-length); few = omega (arith, step-numbers .few, same-length); ascends = moves-ascend; each = λ m k. step-matches .right m k .2 .edge-known });
       each-active = λ m k. let r = step-matches .right m k in carries-active c passed ranges σ tree m (r .0) (r .2);
-      urgent-first = λ u. clash u picture-not-urgent;
+      urgent-first = λ u. clash u (picture-not-urgent c passed ranges σ tree);
       is-allowed = is-allowed;
       bounds-kept = bounds-alike moves ts step-matches step-together ∙ ap (chart.boundsKept c) (step .result) ∙ step .bounds-kept;
       result = moved-standing moves ts step-matches step-together (one-assigns is-allowed (carriers-silent moves (λ m k. let r = step-matches .right m k in (r .0, r .2))));
     })
       where
-        numbers-of : (1 ≤ length ts) × (length ts ≤ 16) × (ascending ts ≡ true)
-        numbers-of = known-parts _ ts (step .are-known)
-
         same-length : length moves ≡ length ts
         same-length = matched-length (Carries c σ) moves ts step-matches
 
@@ -261,4 +243,4 @@ unfolding Accepts
 one-move c passed ranges σ given ms ns (μ, h) (ν, k) e =
     let a = accepted-at (flatten c) (picture c σ) ms h in
     let b = accepted-at (flatten c) (picture c σ) ns k in
-    ascending-same ms ns (known-parts _ ms (a .are-known) .2) (known-parts _ ns (b .are-known) .2) (edges-within c passed ranges σ given ms ns μ ν a b e) (edges-within c passed ranges σ given ns ms ν μ b a (sym e))
+    ascending-same ms ns (known-at _ ms (a .are-known) .ascends) (known-at _ ns (b .are-known) .ascends) (edges-within c passed ranges σ given ms ns μ ν a b e) (edges-within c passed ranges σ given ns ms ν μ b a (sym e))

@@ -2,39 +2,44 @@
 -- flags, which edges are active there, whether it is a configuration and keeps the bounds, whether an urgent place is occupied,
 -- and that edges that take automata from where f has them to where g has them lead to the one for g.
 use mathlib.Core.Path.{_≡_, refl, sym, ap, ap₂, _∙_, subst}
-use mathlib.Core.Bool.{Bool, true, false, cond, not, _&&_, _||_, xor}
+use mathlib.Core.Bool.{Bool, true, cond, _&&_, and-true}
 use mathlib.Core.Logic.{_⊎_, inl, inr, ⊎-elim, _≢_}
-use mathlib.Core.List.{List, [], _∷_, _++_, map, List·Memᴰ as Mem, List·Memᴰ·head as here, List·Memᴰ·tail as there, List·Memᴰ·cases-cons as cases-cons}
-use Prim.Native.Nat.{ℕ, suc, _+_, _≤_, _<_}
+use mathlib.Core.List.{List, map, List·Memᴰ as Mem}
+use Prim.Native.Nat.{ℕ, _+_, _≤_, _<_}
 use native.Mathlib.Omega.{arith}
-use native.Mathlib.Decide.{ℕ-discrete, decLt}
-use borrow.Author.Tests.{eqb-true, eqb-false, eq-eqb, ne-eqb, lt-ltb, le-ltb}
+use native.Mathlib.Decide.{decLt}
+use borrow.Author.Tests.{eqb-true, eqb-false, eq-eqb, lt-ltb, le-ltb}
 use lib.Dec.{ltb, eqb}
 use lib.IntN.{ℤ}
-use lib.ListN.{length, getD, set, drop, length-map, length-set}
-use lib.Seq.{ext-getD, getD-drop, getD-set-same, getD-set-other}
-use Rattle.expr.specs.Lists.{has, all, any, below, implies, bitsOf, concat}
+use lib.ListN.{length, getD, set, length-map, length-drop}
+use lib.Seq.{ext-getD, getD-drop}
+use Rattle.expr.specs.Lists.{has, all, any, below, implies, bitsOf}
 use Rattle.expr.specs.Label.{Label, guardsHold}
-use Rattle.expr.specs.Guard.{assign}
-use Rattle.expr.specs.Clocks.{keeps, zeroPast, inLimit, reset, resetFrom}
+use Rattle.expr.specs.Clocks.{keeps, zeroPast, inLimit}
 use Rattle.expr.specs.Moves.{variablesAfter, clocksAfter, zerosPast}
-use Rattle.expr.proofs.Bools.{parts, and-l, and-r, both, same, decided, cond-yes, cond-no, implies-by, clash, or-r}
-use Rattle.expr.proofs.Lists.{all-at, all-by, all-below, below-all, any-at, any-by, any-none, any-below, below-any, below-at, below-by, getD-mem, mem-getD, getD-mapped, length-below}
+use Rattle.expr.proofs.Bools.{parts, and-l, both, same, decided, cond-yes, cond-no}
+use Rattle.expr.proofs.Lists.{all-by, below-all, any-at, any-none, mem-getD, getD-mapped, length-below}
 use Rattle.expr.proofs.Labels.{variables-stay, clocks-stay}
 use Rattle.chart.specs.Chart.{Chart}
 use Rattle.chart.specs.Tree.{sequentials}
 use Rattle.chart.specs.Machine.{isConfiguration as isChartConfiguration}
 use Rattle.chart.proofs.Rules.{Passed}
-use Rattle.network.specs.Network.{Location, Edge, Network, locationAt, ownerOf}
+use Rattle.network.specs.Network.{Edge, locationAt, ownerOf}
 use Rattle.network.specs.Machine.{place, boundsKept, isConfiguration, flagsAgree, activeEdge, urgentAt, urgent, overwrite, move, write, after}
-use Rattle.flattener.specs.Flatten.{Place, samePlace, number, automaton, placeHome, boundsOf, atExit, initialPlace, flagAt, writtenBy, valuesBy, signalling, edge, ownEdge, urgentPlace, flatten}
+use Rattle.flattener.specs.Flatten.{Place, samePlace, number, automaton, placeHome, boundsOf, flagAt, writtenBy, valuesBy, signalling, edge, ownEdge, urgentPlace, flatten}
+use Rattle.flattener.specs.Picture.{pictured, picture}
 use Rattle.network.proofs.Moving.{move-length, move-other, move-to, write-length, write-other, write-to}
 use Rattle.flattener.proofs.Flags.{write-flags, write-again}
-use Rattle.flattener.proofs.Automata.{all-automata, any-automata, Region, sequentials-at, regionAt, region-at, automaton-lt, region-of-automaton, automaton-of-region, automaton-injective}
+use Rattle.flattener.proofs.Automata.{all-automata, any-automata, Region, regionAt, region-at, automaton-lt, region-of-automaton, automaton-of-region, automaton-injective}
 use Rattle.flattener.proofs.Numbers.{IsPlace, PlaceOf, same-place-at, same-place-by, number-lt, number-injective, automaton-of-place, urgent-of-place, bounds-of-place, locations-length}
 use Rattle.flattener.proofs.Edges.{Leaves, source-of, edges-at, owner-of}
-use Rattle.agreement.specs.Agreement.{ChartConfiguration, NetworkConfiguration}
+use Rattle.agreement.specs.Agreement.{ChartConfiguration}
 use Rattle.agreement.proofs.Relation.{standing}
+
+-- the picture is a standing configuration
+pub picture-stands : (c : Chart) (σ : ChartConfiguration) → picture c σ ≡ standing c (pictured c σ) (σ .variables) (σ .clocks)
+unfolding picture standing
+picture-stands c σ = refl
 
 -- f has each automaton at one of its places
 abbrev pub Fits : Chart → (ℕ → Place) → Type 0
@@ -74,7 +79,7 @@ per-zero c few f = all-by _ _ (λ x m.
     let e : getD (perAutomaton c f 0) (n + r .0) 0 ≡ x = sym (getD-drop n (perAutomaton c f 0) (r .0) 0) ∙ r .2 in
     elim (decLt (n + r .0) 16) [
       | yes l ↦ eq-eqb x 0 (sym e ∙ per-past c few f 0 (n + r .0) l (omega arith))
-      | no l ↦ absurd (omega (arith, r .1, lib.ListN.length-drop n (perAutomaton c f 0), per-length c few f 0))
+      | no l ↦ absurd (omega (arith, r .1, length-drop n (perAutomaton c f 0), per-length c few f 0))
     ])
 
 module _ (c : Chart) (passed : Passed c) (f : ℕ → Place) (vs : List ℤ) (cs : List ℕ) where
@@ -115,20 +120,13 @@ module _ (c : Chart) (passed : Passed c) (f : ℕ → Place) (vs : List ℤ) (cs
       -- an edge of the network's own has no guards and no test
       pub active-own : (r : Place) (signal channel : ℕ) → e ≡ ownEdge c p r (signalling signal channel) → activeEdge (flatten c) (standing c f vs cs) e ≡ samePlace (f (placeHome c p)) p
       unfolding activeEdge ownEdge edge signalling guardsHold flagsAgree all below implies has
-      active-own r signal channel s = ap₂ _&&_ (at-source (ap (λ (x : Edge). x .source) s ∙ from)) (both guards flags) ∙ and-yes (samePlace (f (placeHome c p)) p)
+      active-own r signal channel s = ap₂ _&&_ (at-source (ap (λ (x : Edge). x .source) s)) (both guards flags) ∙ and-true (samePlace (f (placeHome c p)) p)
         where
-          from : ownEdge c p r (signalling signal channel) .source ≡ number c p
-          from = refl
-
           guards : guardsHold (standing c f vs cs .variables) (standing c f vs cs .clocks) (e .label) ≡ true
-          guards = ap (λ (x : Edge). guardsHold (standing c f vs cs .variables) (standing c f vs cs .clocks) (x .label)) s ∙ refl
+          guards = ap (λ (x : Edge). guardsHold (standing c f vs cs .variables) (standing c f vs cs .clocks) (x .label)) s
 
           flags : flagsAgree (standing c f vs cs) e ≡ true
-          flags = ap (flagsAgree (standing c f vs cs)) s ∙ refl
-
-          and-yes : (b : Bool) → (b && true) ≡ b
-          and-yes true = refl
-          and-yes false = refl
+          flags = ap (flagsAgree (standing c f vs cs)) s
 
 -- an active edge leaves the place where f has its automaton
 pub active-leaves : (c : Chart) → Passed c → (f : ℕ → Place) (vs : List ℤ) (cs : List ℕ) → Fits c f → {e : Edge} → Mem e (flatten c .edges) → activeEdge (flatten c) (standing c f vs cs) e ≡ true

@@ -5,6 +5,7 @@ use mathlib.Core.List.{List, [], _∷_, _++_, map}
 use mathlib.Core.Path.{_≡_}
 use lib.Dec.{eqb}
 use Rattle.expr.specs.Lists.{any, keep}
+use Rattle.expr.specs.Label.{distinct}
 use Rattle.expr.specs.Answer.{Answer, done, refused}
 use Rattle.chart.specs.Chart.{Chart}
 use Rattle.chart.specs.Rules.{chartOf}
@@ -41,9 +42,12 @@ unfoldable pub left : {A : Type 0} → A → Answer A → A
 left a (done b) = b
 left a (refused k) = a
 
--- the transition numbers on a move's edges, ascending and without 255
+-- the transition numbers on a move's edges, without 255; and these ascending
+abbrev pub borne : Network → List ℕ → List ℕ
+borne n ms = keep (λ t. not (eqb t 255)) (map (λ m. network.edgeAt n m .transition) ms)
+
 unfoldable pub carried : Network → List ℕ → List ℕ
-carried n ms = sorted (keep (λ t. not (eqb t 255)) (map (λ m. network.edgeAt n m .transition) ms))
+carried n ms = sorted (borne n ms)
 
 -- a move with an edge that leaves an urgent location
 unfoldable pub isUrgent : Network → List ℕ → Bool
@@ -61,14 +65,15 @@ pub record Run : Type 0 where
   pub reading : List Call
   pub owed : ℕ
 
--- a move that carries ts adds the chart step with this list; an urgent one carries none and adds nothing
-moved : Chart → NetworkConfiguration → Run → List ℕ → Run
+-- a move that carries ts adds the chart step with this list, and owes what it names; an urgent one carries none, adds
+-- nothing and is one of those that are owed
+unfoldable pub moved : Chart → NetworkConfiguration → Run → List ℕ → Run
 moved c σ r [] = record { network = σ; chart = r .chart; reading = r .reading; owed = r .owed - 1 }
 moved c σ r (t ∷ ts) = record {
   network = σ;
   chart = left (r .chart) (chart.step c (r .chart) (t ∷ ts));
   reading = r .reading ++ (step (t ∷ ts) ∷ []);
-  owed = named c (t ∷ ts);
+  owed = r .owed + named c (t ∷ ts);
 }
 
 -- one more network call: a refused one adds nothing, an accepted wait itself
@@ -91,6 +96,11 @@ run c n calls = runFrom c n (record { network = network.start n; chart = chart.s
 unfoldable pub acceptsAll : Chart → ChartConfiguration → List Call → Bool
 acceptsAll c σ [] = true
 acceptsAll c σ (x ∷ xs) = elim (onChart c σ x) [ done τ ↦ acceptsAll c τ xs | refused k ↦ false ]
+
+-- what the last call of a chart list returns or leaves
+unfoldable pub chartAfter : Chart → ChartConfiguration → List Call → ChartConfiguration
+chartAfter c σ [] = σ
+chartAfter c σ (x ∷ xs) = chartAfter c (left σ (onChart c σ x)) xs
 
 -- a chart list without its refused calls
 unfoldable pub accepted : Chart → ChartConfiguration → List Call → List Call
@@ -125,14 +135,34 @@ pub record Settled (c : Chart) (n : Network) (r : Run) : Type 0 where
 -- one claim about a list of network calls
 pub record Agrees (c : Chart) (n : Network) (calls : List Call) : Type 0 where
   pub accepts-reading : acceptsAll c (chart.start c) (run c n calls .reading) ≡ true
+  pub reading-leaves : chartAfter c (chart.start c) (run c n calls .reading) ≡ run c n calls .chart
   pub same-variables : run c n calls .network .variables ≡ run c n calls .chart .variables
   pub same-clocks : run c n calls .network .clocks ≡ run c n calls .chart .clocks
+  -- no move bears a transition twice, and none that is urgent bears one
+  pub bears-once : (ms : List ℕ) → Accepts (network.step n (run c n calls .network) ms) → distinct (borne n ms) ≡ true
+  pub urgent-carries-none : (ms : List ℕ) → Accepts (network.step n (run c n calls .network) ms) → isUrgent n ms ≡ true → carried n ms ≡ []
   pub owing : 0 < run c n calls .owed → Owing n (run c n calls)
   pub settled : run c n calls .owed ≡ 0 → Settled c n (run c n calls)
 
--- demand 3: of a chart that flattening accepts and the network that it writes
+-- the operations on the two files are those on what they hold
+pub record Holds (file bytes : List ℕ) (c : Chart) (n : Network) : Type 0 where
+  pub network-is : networkOf bytes ≡ done n
+  pub chart-starts : chart.startOf file ≡ done (chart.start c)
+  pub chart-steps : (σ : ChartConfiguration) (ms : List ℕ) → chart.stepOf file σ ms ≡ chart.step c σ ms
+  pub chart-waits : (σ : ChartConfiguration) (d : ℕ) → chart.waitOf file σ d ≡ chart.wait c σ d
+  pub network-starts : network.startOf bytes ≡ done (network.start n)
+  pub network-steps : (σ : NetworkConfiguration) (ms : List ℕ) → network.stepOf bytes σ ms ≡ network.step n σ ms
+  pub network-waits : (σ : NetworkConfiguration) (d : ℕ) → network.waitOf bytes σ d ≡ network.wait n σ d
+
+-- a chart list, but for what is refused, is read from some network list, which leads to where the chart list does
+pub record IsRead (c : Chart) (n : Network) (calls : List Call) : Type 0 where
+  pub from : List Call
+  pub reading-is : run c n from .reading ≡ accepted c (chart.start c) calls
+  pub chart-is : run c n from .chart ≡ chartAfter c (chart.start c) calls
+  pub none-owed : run c n from .owed ≡ 0
+
+-- demand 3: of a chart that flattening accepts and the network that it writes. It is claimed of every list of network
+-- calls, so after every call of one
 abbrev pub Demand3 : Type 0
 Demand3 = (file bytes : List ℕ) (room : ℕ) (c : Chart) → chartOf file ≡ done c → flattenOf file room ≡ done bytes
-    → (n : Network) × (networkOf bytes ≡ done n)
-    × ((calls : List Call) → Agrees c n calls)
-    × ((calls : List Call) → (net : List Call) × (run c n net .reading ≡ accepted c (chart.start c) calls))
+    → (n : Network) × Holds file bytes c n × ((calls : List Call) → Agrees c n calls) × ((calls : List Call) → IsRead c n calls)

@@ -80,10 +80,10 @@ module _ (c : Chart) (passed : Passed c) (ranges : Ranges c) (σ : Configuration
   next-below t m s h u = same _ _
       (λ a. ⊎-elim
       (λ k. absurd (stays-clear c (passed .tree) (passed .entry-marks) (isActive σ) (tree-at c σ tree) (map (transitionAt c) ts) fires not-nested s h
-          (k .0, λ x n. let l = map-at (transitionAt c) ts n in λ v. k .1 (l .0) (l .1) (ap (λ (x : Transition). under c (x .source) s) (sym (l .2)) ∙ v)) _ (map-by (transitionAt c) m) u))
+      (k .0, λ x n. let l = map-at (transitionAt c) ts n in λ v. k .1 (l .0) (l .1) (ap (λ (x : Transition). under c (x .source) s) (sym (l .2)) ∙ v)) _ (map-by (transitionAt c) m) u))
       (λ k. let f = together-fires c passed ranges σ ts together (k .0) (k .1) in
       let e = destinations-same c (passed .tree) (passed .entry-marks) (isActive σ) (tree-at c σ tree) (map (transitionAt c) ts) fires not-nested _ _ (map-by (transitionAt c) m) (map-by (transitionAt c) (k .1)) s h u
-          (entered-under c (passed .tree) (passed .entry-marks) _ (f .to .known) s (f .entry-is) (k .2)) in
+      (entered-under c (passed .tree) (passed .entry-marks) _ (f .to .known) s (f .entry-is) (k .2)) in
       ap (λ (x : Transition). entered c (x .destination) (x .entry) s) e ∙ k .2)
       (next-cases s a))
       (λ a. next-entered t m s h a)

@@ -15,9 +15,9 @@ use Rattle.expr.specs.Label.{channelFits}
 use Rattle.expr.specs.Moves.{known, allowed}
 use Rattle.expr.proofs.Bools.{parts, clash, decided, and-l, both, cond-yes, cond-no, not-yes}
 use Rattle.expr.proofs.Lists.{all-at, all-by, all-below, map-at, map-by, getD-mem}
-use Rattle.expr.proofs.Answer.{unless-at, unless-by}
+use Rattle.expr.proofs.Answer.{unless-at, unless-by, done-injective}
 use Rattle.expr.proofs.Sets.{allowed-set-at, allowed-channels}
-use Rattle.expr.proofs.Rows.{ClockValues, values-in-limit, values-zeros, keeps-zeros}
+use Rattle.expr.proofs.Rows.{ClockValues, values-in-limit, values-zeros, keeps-zeros, in-limit-zeros, zero-past-zeros, zeros-past-zeros}
 use Rattle.chart.specs.Chart.{Chart, Transition, stateAt, transitionAt, parentOf, basic, sequential, home}
 use Rattle.chart.specs.Tree.{under}
 use Rattle.chart.specs.Rules.{siblings, entries, apart}
@@ -67,10 +67,7 @@ pub record Stepped (c : Chart) (σ : Configuration) (ms : List ℕ) (τ : Config
 
 tested-at : (c : Chart) (σ : Configuration) {τ : Configuration} → tested c σ ≡ done τ → (boundsKept c τ ≡ true) × (σ ≡ τ)
 unfolding tested
-tested-at c σ {τ} h = let u = unless-at 21 _ _ h in (subst (λ (x : Configuration). boundsKept c x ≡ true) (same (u .1)) (u .0), same (u .1))
-  where
-    same : done σ ≡ done τ → σ ≡ τ
-    same e = cc
+tested-at c σ h = let u = unless-at 21 _ _ h in let e = done-injective (u .1) in (subst (λ (x : Configuration). boundsKept c x ≡ true) e (u .0), e)
 
 known-at : (n : ℕ) (ms : List ℕ) → known n ms ≡ true → (m : ℕ) → Mem m ms → m < n
 unfolding known
@@ -168,13 +165,19 @@ module _ (c : Chart) (passed : Passed c) (ranges : Ranges c) where
       }
 
   -- the start
-  pub start-tree : isTree c (start c) ≡ true
+  pub root-entry : Entry c 0 0
   unfolding has
-  start-tree = start-is-tree c (passed .tree) (passed .entry-marks) (omega (arith, ranges .states-some)) (ranges .states-few)
-      (inr (omega arith, ranges .entries-some, ap (λ (x : ℕ). has x 0) (passed .entry-marks .root) ∙ first))
+  root-entry = inr (omega arith, ranges .entries-some, ap (λ (x : ℕ). has x 0) (passed .entry-marks .root) ∙ first)
     where
       first : has 1 0 ≡ true
       first = refl
+
+  pub start-tree : isTree c (start c) ≡ true
+  start-tree = start-is-tree c (passed .tree) (passed .entry-marks) (omega (arith, ranges .states-some)) (ranges .states-few) root-entry
+
+  pub start-configuration : isConfiguration c (start c) ≡ true
+  unfolding isConfiguration start
+  start-configuration = both start-tree (both (zeros-past-zeros (c .variables) 16) (both (in-limit-zeros (c .clocks) 8) (both (zero-past-zeros (c .clocks) 8) (start-bounds c))))
 
   -- the homes of transitions that are allowed together are not nested
   pub allowed-apart : (active : ℕ → Bool) (ms : List ℕ) → ((m : ℕ) → Mem m ms → m < length (c .transitions))

@@ -18,7 +18,7 @@ use Rattle.expr.specs.Label.{Label, body, channelFits}
 use Rattle.expr.proofs.Bools.{clash, fails, and-l, and-r}
 use Rattle.expr.proofs.Lists.{all-at, map-at}
 use Rattle.expr.proofs.Bits.{has-bits, has-zero, bits-lt, has-low-lt, subset-by}
-use Rattle.expr.proofs.Answer.{unless-at, unless-by, then-at}
+use Rattle.expr.proofs.Answer.{unless-at, unless-by, then-at, done-injective}
 use Rattle.expr.proofs.Places.{bind-got}
 use Rattle.expr.proofs.Printed.{byte-front}
 use Rattle.expr.proofs.Ranges.{Row, row-free, row-join, LabelRange, label-range-more}
@@ -206,7 +206,7 @@ flattened-at file room {s} h =
     let n = unless-at 15 _ _ (a .2) in
     let f = unless-at 16 _ _ (n .1) in
     let few = leb-true (length (flatten (a .0) .edges)) 1024 (n .0) in
-    let e : networkBytes (flatten (a .0)) ≡ s = same (f .1) in
+    let e : networkBytes (flatten (a .0)) ≡ s = done-injective (f .1) in
     record {
       chart = a .0;
       chart-is = a .1;
@@ -215,6 +215,3 @@ flattened-at file room {s} h =
       file-is = sym e;
       network-is = ap networkOf (sym e) ∙ network-of-flattened file (a .1) few;
     }
-  where
-    same : {x y : List ℕ} → done x ≡ done y → x ≡ y
-    same e = cc
