@@ -121,8 +121,8 @@ module _ (c : Chart) (passed : Passed c) (ranges : Ranges c) where
         (λ z.
         let is : e ≡ bears exit (b .set) = b .edge-is ∙ ap (λ (x : ℕ). bears x (b .set)) (z .1) in
         let r = completed-of-alternative c passed ranges σ tree source exit (source-composite c passed ranges t h (z .0)) active (b .set) (z .2) (λ a i.
-            flags-agree-at (child source) (departure c t) t exit (b .set) label (omega (arith, exit-lt c passed ranges t h (z .0), ranges .exits-few))
-            (ap (flagsAgree (picture c σ)) (sym is) ∙ and-r (guardsHold (σ .variables) (σ .clocks) (e .label)) _ holds) a (alternative-known t h (z .0) (z .2) a i) i) in
+        flags-agree-at (child source) (departure c t) t exit (b .set) label (omega (arith, exit-lt c passed ranges t h (z .0), ranges .exits-few))
+        (ap (flagsAgree (picture c σ)) (sym is) ∙ and-r (guardsHold (σ .variables) (σ .clocks) (e .label)) _ holds) a (alternative-known t h (z .0) (z .2) a i) i) in
         (both active (both guards (or-r (basic c source) (r .0))), is ∙ ap (bears exit) (r .1 ∙ sym (cond-yes _ 0 (z .0)))))
         (λ z. (
           both active (both guards (or-l _ (source-basic c passed ranges t h (z .0)))),

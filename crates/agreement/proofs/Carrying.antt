@@ -2,22 +2,21 @@
 -- network is made of such edges (`move-carries`): the edges of a move and the transitions that it carries correspond
 -- (`carried-matches`). So the one is allowed as the other is (`carried-allowed`), and a list of active transitions is carried
 -- by one list of edges (`carriers`).
-use mathlib.Core.Path.{_≡_, refl, sym, ap, _∙_, subst}
-use mathlib.Core.Bool.{Bool, true, false, cond, not, _&&_}
+use mathlib.Core.Path.{_≡_, sym, ap, _∙_, subst}
+use mathlib.Core.Bool.{true, _&&_}
 use mathlib.Core.Logic.{_⊎_, inl, inr, ⊎-elim, _≢_}
-use mathlib.Core.List.{List, map, List·Memᴰ as Mem, Memᴰ·cast as cast}
+use mathlib.Core.List.{List, List·Memᴰ as Mem, Memᴰ·cast as cast}
 use Prim.Native.Nat.{ℕ, _+_, _≤_, _<_}
 use native.Mathlib.Omega.{arith}
-use borrow.Author.Tests.{eqb-true, eqb-false, eq-eqb, ne-eqb, ltb-true, not-true}
-use lib.Dec.{eqb, ltb}
+use borrow.Author.Tests.{ne-eqb}
 use lib.ListN.{length}
 use Rattle.expr.specs.Lists.{keep, below, elem, ascending}
-use Rattle.expr.specs.Label.{Label, channelFits}
+use Rattle.expr.specs.Label.{Label}
 use Rattle.expr.specs.Moves.{allowed}
-use Rattle.expr.proofs.Bools.{clash, and-l, and-r, both, cond-no, not-yes}
-use Rattle.expr.proofs.Lists.{Once, keep-at, keep-by, map-at, map-by, elem-at, elem-by, ascending-once}
-use Rattle.expr.proofs.Moves.{Sends, Receives}
-use Rattle.expr.proofs.Sets.{ascending-same, passing-at, passing-by, passing-ascending, Matched, matched-by, Corresponds, Heard, allowed-alike, AllowedSet}
+use Rattle.expr.proofs.Bools.{and-l, and-r, both, not-yes}
+use Rattle.expr.proofs.Lists.{keep-at, keep-by, map-at, map-by, elem-at, elem-by, ascending-once}
+use Rattle.expr.proofs.Moves.{Sends}
+use Rattle.expr.proofs.Sets.{ascending-same, passing-at, passing-by, passing-ascending, Matched, matched-by, Corresponds, allowed-alike}
 use Rattle.chart.specs.Chart.{Chart, transitionAt, home}
 use Rattle.chart.specs.Machine.{isTree, activeTransition}
 use Rattle.chart.proofs.Rules.{Passed}
@@ -25,7 +24,7 @@ use Rattle.chart.proofs.Ranges.{Ranges}
 use Rattle.chart.proofs.Step.{channel-lt}
 use Rattle.network.specs.Network.{Edge, ownerOf}
 use Rattle.network.specs.Machine.{edgeAt, activeEdge}
-use Rattle.flattener.specs.Flatten.{child, edge, automaton, placeHome, flatten, sorted}
+use Rattle.flattener.specs.Flatten.{child, edge, automaton, placeHome, flatten}
 use Rattle.flattener.specs.Picture.{picture}
 use Rattle.flattener.proofs.Automata.{automaton-injective}
 use Rattle.flattener.proofs.Sums.{sorted-at, sorted-by, sorted-ascending}

@@ -1,29 +1,28 @@
 -- After a move of the picture: the home of each transition of the step is where the transition departs to, all else is where
 -- it was (`departed`). So the network is related to the chart after the step, and what the step names is owed (`departed-placed`).
 use mathlib.Core.Path.{_≡_, refl, sym, ap, _∙_, subst}
-use mathlib.Core.Bool.{Bool, true, false, cond, not, _&&_, _||_}
-use mathlib.Core.Logic.{_⊎_, inl, inr, ⊎-elim, _≢_}
-use mathlib.Core.List.{List, [], _∷_, map, List·Memᴰ as Mem, List·Memᴰ·head as here, List·Memᴰ·tail as there, List·Memᴰ·not-nil as not-nil, List·Memᴰ·cases-cons as cases-cons, Memᴰ·cast as cast}
+use mathlib.Core.Bool.{Bool, true, false, cond, _||_}
+use mathlib.Core.Logic.{_⊎_, inl, inr, ⊎-elim}
+use mathlib.Core.List.{List, [], _∷_, map, List·Memᴰ as Mem, List·Memᴰ·head as here, List·Memᴰ·tail as there, List·Memᴰ·cases-cons as cases-cons}
 use Prim.Native.Nat.{ℕ, _+_, _<_}
 use native.Mathlib.Omega.{arith}
 use native.Mathlib.Decide.{ℕ-discrete}
-use borrow.Author.Tests.{eqb-true, eqb-false, eq-eqb, ne-eqb, not-true, not-false}
+use borrow.Author.Tests.{eqb-true, eqb-false, eq-eqb, ne-eqb}
 use lib.Dec.{eqb}
 use lib.ListN.{length}
 use Rattle.expr.specs.Lists.{has, any, keep}
-use Rattle.expr.proofs.Bools.{clash, decided, fails, both, or-l, or-r, or-else, same, cond-yes, cond-no}
-use Rattle.expr.proofs.Lists.{Once, once-keep, all-at, any-by, any-at, any-none, keep-at, keep-by, map-at, map-by}
+use Rattle.expr.proofs.Bools.{clash, decided, fails, both, or-l, or-r, or-else, cond-yes, cond-no}
+use Rattle.expr.proofs.Lists.{Once, once-keep, any-by, any-at, any-none, keep-at, keep-by, map-at, map-by}
 use Rattle.expr.proofs.Pairwise.{map-once}
-use Rattle.chart.specs.Chart.{Chart, Transition, stateAt, transitionAt, states, parentOf, basic, sequential, home}
-use Rattle.chart.specs.Tree.{under, entered}
-use Rattle.chart.specs.Rules.{entries}
+use Rattle.chart.specs.Chart.{Chart, transitionAt, parentOf, basic, sequential, home}
+use Rattle.chart.specs.Tree.{under}
 use Rattle.chart.specs.Machine.{isActive, isTree, activeTransition, after}
 use Rattle.chart.proofs.Tree.{size, states-by, Child, known-below, under-refl, under-down, under-transitive, child-under, sequential-not-basic}
 use Rattle.chart.proofs.Entered.{entered-top, entered-under}
-use Rattle.chart.proofs.Active.{IsTree, tree-at, completed-at, active-above, active-basic, active-known}
+use Rattle.chart.proofs.Active.{tree-at, completed-at, active-above, active-basic}
 use Rattle.chart.proofs.Rules.{Passed, kinds-left}
 use Rattle.chart.proofs.Ranges.{Ranges, kinds-of}
-use Rattle.chart.proofs.Step.{Together, together-fires, together-tree, transition-mem}
+use Rattle.chart.proofs.Step.{Together, together-fires, together-tree}
 use Rattle.chart.proofs.Moved.{source-not-above, destination-not-above, destination-was-source, stays-active, next-cases, next-below, next-home, next-entered}
 use Rattle.flattener.specs.Flatten.{Place, idle, child, pre, post, hasExit, hasEntry, arrival, departure, marksBelow}
 use Rattle.flattener.specs.Picture.{pictured}

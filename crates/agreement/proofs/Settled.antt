@@ -1,23 +1,19 @@
 -- Step 7 with nothing owed: a move of the network carries a step that the chart accepts (`move-is-step`), a step of the chart is
 -- carried by a move (`step-is-move`), and by one only (`one-move`).
 use mathlib.Core.Path.{_≡_, refl, sym, ap, ap₂, _∙_, subst}
-use mathlib.Core.Bool.{Bool, true, false, _&&_, _||_, not}
-use mathlib.Core.Logic.{_⊎_, inl, inr, ⊎-elim, _≢_}
-use mathlib.Core.List.{List, [], _∷_, map, map-map, List·Memᴰ as Mem, List·Memᴰ·not-nil as not-nil, Memᴰ·cast as cast}
-use Prim.Native.Nat.{ℕ, _≤_, _<_}
+use mathlib.Core.Bool.{true}
+use mathlib.Core.Logic.{⊎-elim, _≢_}
+use mathlib.Core.List.{List, [], map, map-map, List·Memᴰ as Mem, Memᴰ·cast as cast}
+use Prim.Native.Nat.{ℕ, _<_}
 use native.Mathlib.Omega.{arith}
-use borrow.Author.Tests.{eqb-true, eq-eqb, leb-true}
-use lib.Dec.{eqb, leb}
-use lib.IntN.{ℤ}
 use lib.ListN.{length}
-use Rattle.expr.specs.Lists.{all, any, ascending}
+use Rattle.expr.specs.Lists.{all, ascending}
 use Rattle.expr.specs.Answer.{done}
-use Rattle.expr.specs.Guard.{Update}
-use Rattle.expr.specs.Label.{Label, assignsOnce}
+use Rattle.expr.specs.Label.{Label}
 use Rattle.expr.specs.Clocks.{keeps}
 use Rattle.expr.specs.Moves.{known, allowed, variablesAfter, clocksAfter}
-use Rattle.expr.proofs.Bools.{parts, clash, both, same, or-else, not-no}
-use Rattle.expr.proofs.Lists.{Once, all-at, all-by, map-at, map-by, some-mem, ascending-once}
+use Rattle.expr.proofs.Bools.{clash, same}
+use Rattle.expr.proofs.Lists.{all-at, all-by, map-at, map-by, ascending-once}
 use Rattle.expr.proofs.Labels.{receiver-assigns-nothing}
 use Rattle.expr.proofs.Rows.{keeps-clocks-after}
 use Rattle.expr.proofs.Sets.{ascending-same, Matched, matched-length, allowed-set-at, allowed-set-by, OneAssigns, one-assigns, variables-alike, clocks-alike}
@@ -31,10 +27,10 @@ use Rattle.chart.proofs.Step.{Together, Stepped, step-at, step-by, transition-m
 use Rattle.chart.proofs.Moved.{next-configured}
 use Rattle.network.specs.Network.{Edge, ownerOf}
 use Rattle.network.specs.Machine as network
-use Rattle.network.specs.Machine.{edgeAt, activeEdge}
-use Rattle.flattener.specs.Flatten.{Place, child, edge, number, automaton, placeHome, departure, boundsOf, flatten}
+use Rattle.network.specs.Machine.{edgeAt}
+use Rattle.flattener.specs.Flatten.{Place, edge, automaton, departure, boundsOf, flatten}
 use Rattle.flattener.specs.Picture.{pictured, picture}
-use Rattle.flattener.proofs.Automata.{Region, sequentials-at, sequentials-by}
+use Rattle.flattener.proofs.Automata.{Region, sequentials-by}
 use Rattle.flattener.proofs.Arrivals.{ends}
 use Rattle.flattener.proofs.Bounds.{bounds-pictured, bounds-after}
 use Rattle.flattener.proofs.Pictured.{pictured-child, pictured-fits}

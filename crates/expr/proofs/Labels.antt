@@ -10,7 +10,7 @@ use lib.Dec.{eqb}
 use lib.ListN.{length, getD, set}
 use lib.Seq.{getD-set-same, getD-set-other}
 use borrow.Author.Tests.{eqb-true, eq-eqb, ne-eqb, ltb-true}
-use Rattle.expr.specs.Lists.{all, any, elem, concat}
+use Rattle.expr.specs.Lists.{any, elem, concat}
 use Rattle.expr.specs.Reading.{got, byte}
 use Rattle.expr.specs.Expression.{value}
 use Rattle.expr.specs.Guard.{Update, Limits, update, assign}

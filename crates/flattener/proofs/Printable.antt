@@ -5,7 +5,7 @@ use mathlib.Core.Logic.{_⊎_, inl, inr, ⊎-elim}
 use mathlib.Core.List.{List, [], List·Memᴰ as Mem}
 use Prim.Native.Nat.{ℕ, _+_, _^_, _≤_, _<_}
 use native.Mathlib.Omega.{arith}
-use borrow.Author.Tests.{lt-ltb, leb-true, ne-eqb, not-true}
+use borrow.Author.Tests.{lt-ltb, leb-true, ne-eqb}
 use lib.Dec.{ltb, eqb}
 use lib.ListN.{length}
 use lib.Pow.{pow-pos}
@@ -15,15 +15,15 @@ use Rattle.expr.specs.Answer as answer
 use Rattle.expr.specs.Reading.{yield, many}
 use Rattle.expr.specs.Guard.{Limits, limits}
 use Rattle.expr.specs.Label.{Label, body, channelFits}
-use Rattle.expr.proofs.Bools.{clash, fails, and-l, and-r}
-use Rattle.expr.proofs.Lists.{all-at, map-at}
+use Rattle.expr.proofs.Bools.{clash, and-l, and-r}
+use Rattle.expr.proofs.Lists.{map-at}
 use Rattle.expr.proofs.Bits.{has-bits, has-zero, bits-lt, has-low-lt, subset-by}
 use Rattle.expr.proofs.Answer.{unless-at, unless-by, then-at, done-injective}
 use Rattle.expr.proofs.Places.{bind-got}
 use Rattle.expr.proofs.Printed.{byte-front}
 use Rattle.expr.proofs.Ranges.{Row, row-free, row-join, LabelRange, label-range-more}
 use Rattle.network.specs.Network.{Edge, readNetwork, networkOf}
-use Rattle.chart.specs.Chart.{Chart, transitionAt, basic}
+use Rattle.chart.specs.Chart.{Chart, transitionAt}
 use Rattle.chart.specs.Tree.{sequentials}
 use Rattle.chart.specs.Rules.{chartOf}
 use Rattle.chart.proofs.Tree.{size}
