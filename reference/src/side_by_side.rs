@@ -94,15 +94,11 @@ pub fn run_network_list(
     calls: usize,
     random: &mut Random,
 ) -> Result<Tally, Failure> {
-    let mut moment = Moment::start(machines);
-    moment.test(random)?;
-    for _ in 0..calls {
+    run_list(machines, calls, random, |moment, random| {
         let call = moment.random_network_call(random);
-        moment.call_network(&call).map_err(|failure| format!("{failure}, at {call:?}"))?;
-        moment.test(random).map_err(|failure| format!("{failure}, after {call:?}"))?;
-    }
-    moment.replay_chart_list()?;
-    Ok(moment.tally)
+        let outcome = moment.call_network(&call);
+        (call, outcome)
+    })
 }
 
 /// Runs a random chart list of this length, realising each accepted call on the network.
@@ -111,11 +107,25 @@ pub fn run_chart_list(
     calls: usize,
     random: &mut Random,
 ) -> Result<Tally, Failure> {
+    run_list(machines, calls, random, |moment, random| {
+        let call = moment.random_chart_call(random);
+        let outcome = moment.realise(&call, random);
+        (call, outcome)
+    })
+}
+
+/// Makes so many calls, and tests every clause before the first and after each.
+fn run_list(
+    machines: &Machines,
+    calls: usize,
+    random: &mut Random,
+    make_call: impl Fn(&mut Moment, &mut Random) -> (Call, Result<(), Failure>),
+) -> Result<Tally, Failure> {
     let mut moment = Moment::start(machines);
     moment.test(random)?;
     for _ in 0..calls {
-        let call = moment.random_chart_call(random);
-        moment.realise(&call, random).map_err(|failure| format!("{failure}, at {call:?}"))?;
+        let (call, outcome) = make_call(&mut moment, random);
+        outcome.map_err(|failure| format!("{failure}, at {call:?}"))?;
         moment.test(random).map_err(|failure| format!("{failure}, after {call:?}"))?;
     }
     moment.replay_chart_list()?;

@@ -36,6 +36,10 @@ use Rattle.agreement.proofs.Relation.{Pending, entryPair, owes, owesAll
 use Rattle.agreement.proofs.Standing.{Fits}
 use Rattle.agreement.proofs.Bearing.{exit-completed}
 
+-- the chart after a step
+abbrev pub afterStep : Chart → ChartConfiguration → List ℕ → ChartConfiguration
+afterStep c σ ts = after c (map (transitionAt c) ts) σ
+
 -- where the automata are after the transitions have departed
 unfoldable pub departed : Chart → ChartConfiguration → List ℕ → ℕ → Place
 departed c σ [] q = pictured c σ q
@@ -89,9 +93,6 @@ module _ (c : Chart) (passed : Passed c) (ranges : Ranges c) where
   none-below-basic b q g z u = clash (ap (basic c) (basic-under c (passed .tree) (kinds-left c (kinds-of ranges)) b q (g .known) z u) ∙ z) (sequential-not-basic c q (g .is-sequential))
 
   module _ (σ : ChartConfiguration) (tree : isTree c σ ≡ true) (ts : List ℕ) (together : Together c σ ts) where
-    abbrev next : ChartConfiguration
-    next = after c (map (transitionAt c) ts) σ
-
     one-home : (t u : ℕ) → Mem t ts → Mem u ts → home c u ≡ home c t → u ≡ t
     one-home t u m n e = together .homes u t n m (ap (λ (x : ℕ). under c x (home c t)) e ∙ under-refl c (home c t))
 
@@ -141,7 +142,7 @@ module _ (c : Chart) (passed : Passed c) (ranges : Ranges c) where
           (decided (isActive σ r))
 
       -- so a transition that departed is pending, if it names an exit or an entry
-      pub departing-pending : (t : ℕ) → Mem t ts → (hasExit c t || hasEntry c t) ≡ true → IsPending c next (departed c σ ts) (pendingOf c t)
+      pub departing-pending : (t : ℕ) → Mem t ts → (hasExit c t || hasEntry c t) ≡ true → IsPending c (afterStep c σ ts) (departed c σ ts) (pendingOf c t)
       unfolding departure arrival
       departing-pending t m k = record {
         known = h;
@@ -192,30 +193,30 @@ module _ (c : Chart) (passed : Passed c) (ranges : Ranges c) where
             (λ k. none-below-basic _ q g (destination-basic c passed ranges t (together .each-known t m) (no-entry t k)) u)
             (decided (hasExit c t || hasEntry c t))
 
-        next-tree : isTree c next ≡ true
+        next-tree : isTree c (afterStep c σ ts) ≡ true
         next-tree = together-tree c passed ranges σ ts tree together
 
         -- the home of a transition without exit and entry is at its destination
-        at-destination : (t : ℕ) → Mem t ts → home c t ≡ q → departed c σ ts q ≡ pictured c next q
+        at-destination : (t : ℕ) → Mem t ts → home c t ≡ q → departed c σ ts q ≡ pictured c (afterStep c σ ts) q
         unfolding departure arrival
         at-destination t m e = ⊎-elim
             (λ k. absurd (clear (pendingOf c t) (departing-by m k) .0 (sym e)))
             (λ k. let f = together-fires c passed ranges σ ts together t m in
             ap (departed c σ ts) (sym e) ∙ departed-at t m
             ∙ cond-no _ _ (no-exit t k) ∙ cond-no _ _ (no-entry t k)
-            ∙ sym (pictured-child c next next-tree g (subst (λ (x : ℕ). Child c x (transitionAt c t .destination)) e (ends c passed ranges t (together .each-known t m) .to))
+            ∙ sym (pictured-child c (afterStep c σ ts) next-tree g (subst (λ (x : ℕ). Child c x (transitionAt c t .destination)) e (ends c passed ranges t (together .each-known t m) .to))
             (next-entered c passed ranges σ tree ts together t m _ (f .to .known) (entered-top c (passed .tree) (passed .entry-marks) _ (f .to .known) (f .entry-is)))))
             (decided (hasExit c t || hasEntry c t))
 
         -- any other is where it was
-        stays-pictured : ((u : ℕ) → Mem u ts → home c u ≡ q → ⊥) → pictured c σ q ≡ pictured c next q
+        stays-pictured : ((u : ℕ) → Mem u ts → home c u ≡ q → ⊥) → pictured c σ q ≡ pictured c (afterStep c σ ts) q
         unfolding home
         stays-pictured w = ⊎-elim
-            (λ k. k .1 ∙ sym (pictured-idle c next q (fails (isActive next q) (λ a. ⊎-elim
+            (λ k. k .1 ∙ sym (pictured-idle c (afterStep c σ ts) q (fails (isActive (afterStep c σ ts) q) (λ a. ⊎-elim
             (λ l. clash (l .0) (k .0))
             (λ l. let f = together-fires c passed ranges σ ts together (l .0) (l .1) in not-below-destination (l .0) (l .1) (entered-under c (passed .tree) (passed .entry-marks) _ (f .to .known) q (f .entry-is) (l .2)))
             (next-cases c passed ranges σ tree ts together q a)))))
-            (λ k. k .3 ∙ sym (pictured-child c next next-tree g (k .1) (stays-active c passed ranges σ tree ts together (k .0) (k .1 .known) (k .2) (clear-child (k .0) (k .1)))))
+            (λ k. k .3 ∙ sym (pictured-child c (afterStep c σ ts) next-tree g (k .1) (stays-active c passed ranges σ tree ts together (k .0) (k .1 .known) (k .2) (clear-child (k .0) (k .1)))))
             (pictured-cases c σ tree g)
           where
             clear-child : (s : ℕ) → Child c q s → (t : ℕ) → Mem t ts → under c (transitionAt c t .source) s ≡ true → ⊥
@@ -224,14 +225,14 @@ module _ (c : Chart) (passed : Passed c) (ranges : Ranges c) where
               | no d ↦ not-below-source t m (ap (under c (transitionAt c t .source)) (sym (k .parent-is)) ∙ under-down c (passed .tree) _ s (k .known) d u .1)
             ]
 
-        other-is : departed c σ ts q ≡ pictured c next q
+        other-is : departed c σ ts q ≡ pictured c (afterStep c σ ts) q
         other-is = ⊎-elim (λ k. at-destination (k .0) (k .1) (k .2)) (λ w. departed-other c σ ts q w ∙ stays-pictured w) (home-cases c ts q)
 
       -- the places after the transitions have departed, and what is pending then
-      pub departed-placed : Once ts → Placed c next (departed c σ ts) (departing c ts)
+      pub departed-placed : Once ts → Placed c (afterStep c σ ts) (departed c σ ts) (departing c ts)
       unfolding departing
       departed-placed o = record {
-        each = λ p m. let k = departing-at p m in subst (IsPending c next (departed c σ ts)) (sym (k .3)) (departing-pending (k .0) (k .1) (k .2));
+        each = λ p m. let k = departing-at p m in subst (IsPending c (afterStep c σ ts) (departed c σ ts)) (sym (k .3)) (departing-pending (k .0) (k .1) (k .2));
         apart = λ p r m n u.
             let k = departing-at p m in
             let l = departing-at r n in

@@ -1,2 +1,8 @@
 // The check of charts, and the chart machine.
+pub mod activity;
 pub mod configuration;
+pub mod entry;
+pub mod header;
+pub mod rule;
+pub mod state;
+pub mod table;

@@ -8,7 +8,7 @@ use borrow.Author.Tests.{le-leb, leb-true}
 use lib.Dec.{leb}
 use lib.ListN.{length, drop, length-append, List·getD-append}
 use lib.Seq.{drop-append-le}
-use Rattle.expr.specs.Reading.{Fault, got, fault, length-fault, Reader, yield, _>>=_, field, byte, byte4, such, many, mapped}
+use Rattle.expr.specs.Reading.{Fault, got, fault, length-fault, Reader, yield, _>>=_, field, byte, byte2, byte4, such, many, mapped}
 use Rattle.expr.specs.Places.{onward}
 use Rattle.expr.proofs.Reading.{no-answer, bind-at, such-at, mapped-got, mapped-at}
 use Rattle.expr.proofs.Places.{onward-all, onward-onward, length-onward, bind-got, such-got}
@@ -74,6 +74,10 @@ module _ (n : ℕ) (value : List ℕ → ℕ) where
 pub byte-front : InFront byte
 unfolding byte
 byte-front = field-front 1 _ (λ s u h. List·getD-append s u 0 0 h)
+
+pub byte2-front : InFront byte2
+unfolding byte2
+byte2-front = field-front 2 _ (λ s u h. rw (List·getD-append s u 0 0 (omega arith), List·getD-append s u 0 1 (omega arith)))
 
 pub byte4-front : InFront byte4
 unfolding byte4

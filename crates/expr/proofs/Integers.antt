@@ -6,7 +6,7 @@ use Prim.Native.Nat.{ℕ, zero, suc, _+_, _-_, _*_, _/_, _%_, _^_, _≤_, _<_}
 use native.Mathlib.Omega.{arith}
 use native.Mathlib.Nat.{le-trans, lt-trans, mul-le-mul}
 use lib.Dec.{ltb, lit<}
-use lib.IntN.{ℤ, pos, negsuc, negℤ, subℕ, _+ℤ_, _-ℤ_, _*ℤ_}
+use lib.IntN.{ℤ, pos, negsuc, natAbs, negℤ, subℕ, _+ℤ_, _-ℤ_, _*ℤ_}
 use lib.ListN.{getD}
 use lib.Signed.{mag, ltZ}
 use borrow.Author.Tests.{ltb-true, lt-ltb, le-ltb}
@@ -146,3 +146,12 @@ first-relation (suc (suc (suc zero))) a b c d e = absurd (c refl)
 first-relation (suc (suc (suc (suc zero)))) a b c d e = absurd (d refl)
 first-relation (suc (suc (suc (suc (suc zero))))) a b c d e = absurd (e refl)
 first-relation (suc (suc (suc (suc (suc (suc n)))))) a b c d e = refl
+
+-- a number without its sign
+pub absolute-below : (z : ℤ) {m : ℕ} → ltZ z (pos 0) ≡ true → m ≡ mag z → m + 1 ≡ natAbs z
+absolute-below (pos n) h e = absurd (omega (arith, ltb-true n 0 h))
+absolute-below (negsuc n) h e = omega arith
+
+pub absolute-not : (z : ℤ) {m : ℕ} → ltZ z (pos 0) ≡ false → m ≡ mag z → m ≡ natAbs z
+absolute-not (pos n) h e = e
+absolute-not (negsuc n) h e = clash refl h

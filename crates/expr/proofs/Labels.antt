@@ -11,14 +11,15 @@ use lib.ListN.{length, getD, set}
 use lib.Seq.{getD-set-same, getD-set-other}
 use borrow.Author.Tests.{eqb-true, eq-eqb, ne-eqb, ltb-true}
 use Rattle.expr.specs.Lists.{any, elem, concat}
-use Rattle.expr.specs.Reading.{got, byte}
+use Rattle.expr.specs.Reading.{got, byte, many}
 use Rattle.expr.specs.Expression.{value}
-use Rattle.expr.specs.Guard.{Update, Limits, update, assign}
-use Rattle.expr.specs.Label.{Label, body, label, targets, distinct, assignsOnce}
-use Rattle.expr.specs.Clocks.{reset, resetFrom}
-use Rattle.expr.specs.Moves.{variablesAfter, clocksAfter}
+use Rattle.expr.specs.Guard.{Update, Limits, guard, update, assign}
+use Rattle.expr.specs.Label.{Label, Body, body, label, targets, distinct, bodyOnce, assignsOnce}
 use Rattle.expr.proofs.Bools.{parts, same, cond-no, or-else, not-no}
 use Rattle.expr.proofs.Lists.{any-more}
+use Rattle.expr.proofs.Places.{bind-got}
+use Rattle.expr.specs.Clocks.{reset, resetFrom}
+use Rattle.expr.specs.Moves.{variablesAfter, clocksAfter}
 use Rattle.expr.proofs.Bits.{has-zero}
 use Rattle.expr.proofs.Reading.{bind-at, next-at, such-at, yield-at, yield-rest}
 
@@ -79,6 +80,22 @@ pub assign-append : (old : List ℤ) (us vs : List Update) (new : List ℤ) → 
 unfolding assign
 assign-append old [] vs new = refl
 assign-append old (u ∷ us) vs new = assign-append old us vs _
+
+-- rule 13 of a body, by what was counted and seen of its assignments
+pub body-once-by : (signal : ℕ) (b : Body) {u : ℕ} {o r : Bool} → r ≡ ((not (eqb signal 2) || eqb u 0) && o) → length (b .updates) ≡ u → distinct (targets (b .updates)) ≡ o → r ≡ bodyOnce signal b
+unfolding bodyOnce
+body-once-by signal b h e d = h ∙ ap₂ (λ (n : ℕ) (x : Bool). (not (eqb signal 2) || eqb n 0) && x) (sym e) (sym d)
+
+-- the parts of a body that was read
+pub body-parts : (l : Limits) (s : List ℕ) {b : Body} {t : List ℕ} → body l s ≡ got b t → {g a : ℕ} {u v : List ℕ} → byte s ≡ got g u → byte u ≡ got a v
+    → (w : List ℕ) × (many g (guard l) v ≡ got (b .guards) w) × (many a (update l) w ≡ got (b .updates) t)
+unfolding body
+body-parts l s {b} {t} h {g} {a} {u} {v} p q =
+    let k = sym (bind-got _ _ s p ∙ bind-got _ _ u q) ∙ h in
+    let x = bind-at _ _ v k in
+    let y = bind-at _ _ (x .1) (x .3) in
+    let e = yield-at (y .1) (y .3) in
+    (x .1, x .2 ∙ ap (λ (k : Body). got (k .guards) (x .1)) e, y .2 ∙ ap₂ (λ (k : Body) (r : List ℕ). got (k .updates) r) e (yield-rest _ (y .1) (y .3)))
 
 -- a label that was read has the body that its bytes give
 pub label-body : (l : Limits) (channels : ℕ) (s : List ℕ) {b : Label} {t : List ℕ} → label l channels s ≡ got b t → body l (b .bytes) ≡ got (b .body) t

@@ -14,34 +14,34 @@ use Rattle.expr.proofs.Reading.{no-answer, next-at, bind-at, yield-at, 
 use Rattle.expr.proofs.InFront.{field-at}
 
 -- a reader that takes n bytes in front, and one that leaves at most what it is given
-abbrev pub Takes : {A : Type 0} → ℕ → Reader A → Type 0
-Takes {A} n r = (s : List ℕ) (a : A) (t : List ℕ) → r s ≡ got a t → length t + n ≡ length s
+abbrev pub Consumes : {A : Type 0} → ℕ → Reader A → Type 0
+Consumes {A} n r = (s : List ℕ) (a : A) (t : List ℕ) → r s ≡ got a t → length t + n ≡ length s
 
 abbrev pub Shrinks : {A : Type 0} → Reader A → Type 0
 Shrinks {A} r = (s : List ℕ) (a : A) (t : List ℕ) → r s ≡ got a t → length t ≤ length s
 
-field-takes : (n : ℕ) (value : List ℕ → ℕ) → Takes n (field n value)
+field-consumes : (n : ℕ) (value : List ℕ → ℕ) → Consumes n (field n value)
 unfolding onward
-field-takes n value s x t h = let k = field-at n value s h in omega (arith, k .0, ap length (k .2), length-drop n s)
+field-consumes n value s x t h = let k = field-at n value s h in omega (arith, k .0, ap length (k .2), length-drop n s)
 
-pub byte-takes : Takes 1 byte
+pub byte-consumes : Consumes 1 byte
 unfolding byte
-byte-takes = field-takes 1 _
+byte-consumes = field-consumes 1 _
 
-pub byte2-takes : Takes 2 byte2
+pub byte2-consumes : Consumes 2 byte2
 unfolding byte2
-byte2-takes = field-takes 2 _
+byte2-consumes = field-consumes 2 _
 
-pub such-takes : (n : ℕ) (r : Reader ℕ) (p : ℕ → Bool) → Takes n r → Takes n (such r p)
-such-takes n r p f s x t h = f s x t (such-at r p s h .1)
+pub such-consumes : (n : ℕ) (r : Reader ℕ) (p : ℕ → Bool) → Consumes n r → Consumes n (such r p)
+such-consumes n r p f s x t h = f s x t (such-at r p s h .1)
 
-pub bytes-take : (n : ℕ) → Takes n (many n byte)
+pub bytes-consume : (n : ℕ) → Consumes n (many n byte)
 unfolding many
-bytes-take zero s xs t h = omega (arith, ap length (yield-rest _ s h))
-bytes-take (suc n) s xs t h =
+bytes-consume zero s xs t h = omega (arith, ap length (yield-rest _ s h))
+bytes-consume (suc n) s xs t h =
     let a = bind-at byte _ s h in
     let b = bind-at (many n byte) _ (a .1) (a .3) in
-    omega (arith, byte-takes s (a .0) (a .1) (a .2), bytes-take n (a .1) (b .0) (b .1) (b .2), ap length (yield-rest _ (b .1) (b .3)))
+    omega (arith, byte-consumes s (a .0) (a .1) (a .2), bytes-consume n (a .1) (b .0) (b .1) (b .2), ap length (yield-rest _ (b .1) (b .3)))
 
 -- nothing is left
 pub end-at : (s : List ℕ) {u : Unit {0}} {t : List ℕ} → end s ≡ got u t → s ≡ []
@@ -57,7 +57,7 @@ end-at s {u} {t} h = go (eqb (length s) 0) refl h
     go false e k = no-answer k
 
 -- a record's length and its bytes are taken, and all of its bytes are used
-pub framed-at : (n : ℕ) (size : Reader ℕ) → Takes n size → (s : List ℕ) {u t : List ℕ} → framed size s ≡ got u t → length u + length t + n ≡ length s
+pub framed-at : (n : ℕ) (size : Reader ℕ) → Consumes n size → (s : List ℕ) {u t : List ℕ} → framed size s ≡ got u t → length u + length t + n ≡ length s
 unfolding framed
 framed-at n size f s {u} {t} h = let w = bind-at size _ s h in go (w .0) (w .1) (f s (w .0) (w .1) (w .2)) (leb (w .0) (length (w .1))) refl (w .3)
   where
@@ -68,7 +68,7 @@ framed-at n size f s {u} {t} h = let w = bind-at size _ s h in go (w .0) (w .1) 
         omega (arith, leb-true m (length v) l, length-take m v, length-drop m v, ap length y, ap length z)
     go m v e false l k = no-answer k
 
-pub recorded-all : {A : Type 0} (n : ℕ) (size : Reader ℕ) → Takes n size → (r : Reader A) (s : List ℕ) {a : A} {t : List ℕ} → recorded size r s ≡ got a t
+pub recorded-all : {A : Type 0} (n : ℕ) (size : Reader ℕ) → Consumes n size → (r : Reader A) (s : List ℕ) {a : A} {t : List ℕ} → recorded size r s ≡ got a t
     → (u : List ℕ) × (r u ≡ got a []) × (length u + length t + n ≡ length s)
 unfolding recorded whole
 recorded-all {A} n size f r s {a} {t} h =
@@ -83,7 +83,7 @@ recorded-all {A} n size f r s {a} {t} h =
     left : {y : A} {q : List ℕ} → got y q ≡ got a t → q ≡ t
     left e = cc
 
-pub recorded-shrinks : {A : Type 0} (n : ℕ) (size : Reader ℕ) → Takes n size → (r : Reader A) → Shrinks (recorded size r)
+pub recorded-shrinks : {A : Type 0} (n : ℕ) (size : Reader ℕ) → Consumes n size → (r : Reader A) → Shrinks (recorded size r)
 recorded-shrinks n size f r s a t h = let w = recorded-all n size f r s h in omega (arith, w .2)
 
 -- of many that shrink each is read within the bytes

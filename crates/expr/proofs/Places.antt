@@ -100,6 +100,14 @@ module _ {A B : Type 0} (r : Reader A) (k : A → Reader B) (s : List ℕ) where
   unfolding _>>=_ next
   bind-fault h = rw h
 
+pub next-got : {A B : Type 0} {q : Read A} (k : A → Reader B) {a : A} {t : List ℕ} → q ≡ got a t → next q k ≡ k a t
+unfolding next
+next-got k h = rw h
+
+pub next-fault : {A B : Type 0} {q : Read A} (k : A → Reader B) {f : Fault} → q ≡ fault f → next q k ≡ fault f
+unfolding next
+next-fault k h = rw h
+
 module _ (r : Reader ℕ) (p : ℕ → Bool) (s : List ℕ) where
   pub such-got : {x : ℕ} {t : List ℕ} → r s ≡ got x t → p x ≡ true → such r p s ≡ got x t
   unfolding such

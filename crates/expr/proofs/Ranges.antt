@@ -16,7 +16,7 @@ use Rattle.expr.specs.Guard.{Limits}
 use Rattle.expr.specs.Label.{Label, body, channelFits, label}
 use Rattle.expr.proofs.Places.{bind-got, such-got}
 use Rattle.expr.proofs.Reading.{next-at, bind-at, yield-at, yield-rest, such-at, many-at}
-use Rattle.expr.proofs.Lengths.{byte-takes}
+use Rattle.expr.proofs.Lengths.{byte-consumes}
 use Rattle.expr.proofs.Clocks.{length-join}
 use Rattle.expr.proofs.Printed.{such-front, many-printed}
 
@@ -132,7 +132,7 @@ label-at l channels s {x} h =
         resets-known = ltb-true (r .0) (2 ^ (l .clocks)) (sr .0);
         body-read = b .2 ∙ ap (λ t. got (b .0) t) (yield-rest _ (b .1) (b .3));
       },
-      omega (arith, byte-takes s (a .0) (a .1) (sa .1), byte-takes (a .1) (c .0) (c .1) (sc .1), byte-takes (c .1) (r .0) (r .1) (sr .1)),
+      omega (arith, byte-consumes s (a .0) (a .1) (sa .1), byte-consumes (a .1) (c .0) (c .1) (sc .1), byte-consumes (c .1) (r .0) (r .1) (sr .1)),
     )
 
 -- more channels do no harm

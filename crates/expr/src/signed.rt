@@ -4,7 +4,7 @@
 ghost use mathlib.Core.Path.{_≡_};
 ghost use mathlib.Core.Bool.{cond, _&&_};
 ghost use Prim.Native.Nat.{_<_, _^_};
-ghost use lib.IntN.{pos, negsuc, _+ℤ_, _-ℤ_, _*ℤ_};
+ghost use lib.IntN.{pos, negsuc, natAbs, _+ℤ_, _-ℤ_, _*ℤ_};
 ghost use lib.Signed.{mag, ltZ, leZ};
 ghost use lib.ListN.{getD};
 ghost use Rattle.expr.specs.Integer.{signed, wrap, floorDiv, floorMod};
@@ -52,6 +52,21 @@ pub fn wrap(x: i64) -> i32
     } else {
         signed(m as u32)
     }
+}
+
+pub fn is_negative(x: i32) -> bool
+    ensures { λ r. ⌜ r ≡ ltZ x (pos 0) ⌝ }
+{
+    x < 0
+}
+
+// The number without its sign.
+pub fn absolute(x: i32) -> u32
+    ensures { λ r. ⌜ r ≡ natAbs x ⌝ }
+{
+    let z = x as i64;
+    let m = magnitude(z) as u32;
+    if below_zero(z) { m + 1 } else { m }
 }
 
 pub fn sum(x: i32, y: i32) -> i32

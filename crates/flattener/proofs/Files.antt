@@ -3,7 +3,7 @@ use mathlib.Core.Path.{_≡_, refl, sym, ap, _∙_}
 use mathlib.Core.Bool.{true, _||_, _&&_}
 use mathlib.Core.Logic.{_⊎_, ⊎-elim}
 use mathlib.Core.List.{List, [], _∷_, _++_, append-nil, List·Memᴰ as Mem}
-use Prim.Native.Nat.{ℕ, _+_, _*_, _^_, _/_, _%_, _≤_, _<_}
+use Prim.Native.Nat.{ℕ, _+_, _-_, _*_, _^_, _/_, _%_, _≤_, _<_}
 use native.Mathlib.Omega.{arith}
 use native.Mathlib.Nat.{div-div-eq-div-mul, lt-of-lt-of-le}
 use borrow.Author.Tests.{lt-ltb, le-leb, eq-eqb, eqb-true, leb-true}
@@ -12,6 +12,8 @@ use lib.ListN.{length, take, length-append, length-take}
 use lib.Pow.{pow-mono}
 use Rattle.expr.specs.Lists.{concat, implies, subset}
 use Rattle.expr.specs.Answer.{done}
+use Rattle.expr.specs.Answer as answer
+use Rattle.expr.specs.Places.{onward}
 use Rattle.expr.specs.Reading.{got, yield, byte, byte2, byte4, many}
 use Rattle.expr.specs.Guard.{Limits, limits}
 use Rattle.expr.specs.Label.{label}
@@ -22,7 +24,8 @@ use Rattle.expr.proofs.Answer.{unless-by}
 use Rattle.expr.proofs.Places.{bind-got, such-got}
 use Rattle.expr.proofs.Printed.{byte-front, byte2-front, byte4-front, such-front, end-front, then-got, bytes-front, many-printed, recorded-printed}
 use Rattle.expr.proofs.Ranges.{Row, row-printed, LabelRange, label-printed}
-use Rattle.network.specs.Network.{Location, Edge, Network, location, edge, records, numbered, counted, header, readNetwork}
+use Rattle.network.specs.Network.{Location, Edge, Network, location, edge, records, numbered, headed, countsAt, inRange, countsOf, readNetwork}
+use Rattle.network.specs.declared.header.Counts.{Counts}
 use Rattle.flattener.specs.File.{out2, out4, locationBytes, edgeBytes, recordBytes, contentBytes, networkBytes}
 
 -- numbers
@@ -30,14 +33,12 @@ pub byte2-printed : (x : ℕ) → x < 2 ^ 16 → (s : List ℕ) → byte2 (out2 
 unfolding out2
 byte2-printed x h s = byte2-front (x / 256 % 256) (x % 256) s ∙ ap (λ (n : ℕ). got n s) (omega arith)
 
-pub byte4-printed : (x : ℕ) → x < 2 ^ 32 → (s : List ℕ) → byte4 (out4 x ++ s) ≡ got x s
-unfolding out4
-byte4-printed x h s =
-    byte4-front (x / 2 ^ 24 % 256) (x / 2 ^ 16 % 256) (x / 256 % 256) (x % 256) s
-    ∙ ap (λ (n : ℕ). got n s) (digits (x / 256) (x / 2 ^ 16) (x / 2 ^ 24) refl (sym (div-div-eq-div-mul x 256 256)) (sym (div-div-eq-div-mul x (2 ^ 16) 256)))
+-- four digits of a number to the base 256
+digits : (x : ℕ) → x < 2 ^ 32 → 256 * (256 * (256 * (x / 2 ^ 24 % 256) + x / 2 ^ 16 % 256) + x / 256 % 256) + x % 256 ≡ x
+digits x h = go (x / 256) (x / 2 ^ 16) (x / 2 ^ 24) refl (sym (div-div-eq-div-mul x 256 256)) (sym (div-div-eq-div-mul x (2 ^ 16) 256))
   where
-    digits : (a b c : ℕ) → a ≡ x / 256 → b ≡ x / 256 / 256 → c ≡ x / 2 ^ 16 / 256 → 256 * (256 * (256 * (c % 256) + b % 256) + a % 256) + x % 256 ≡ x
-    digits a b c d e f =
+    go : (a b c : ℕ) → a ≡ x / 256 → b ≡ x / 256 / 256 → c ≡ x / 2 ^ 16 / 256 → 256 * (256 * (256 * (c % 256) + b % 256) + a % 256) + x % 256 ≡ x
+    go a b c d e f =
         let g : b ≡ a / 256 = e ∙ ap (λ (z : ℕ). z / 256) (sym d) in
         let k : c ≡ b / 256 = f ∙ ap (λ (z : ℕ). z / 256) (sym (div-div-eq-div-mul x 256 256) ∙ sym e) in
         let l : a < 2 ^ 24 = omega arith in
@@ -47,6 +48,10 @@ byte4-printed x h s =
         let q : 256 * c + b % 256 ≡ b = omega arith in
         let r : 256 * b + a % 256 ≡ a = omega arith in
         omega arith
+
+pub byte4-printed : (x : ℕ) → x < 2 ^ 32 → (s : List ℕ) → byte4 (out4 x ++ s) ≡ got x s
+unfolding out4
+byte4-printed x h s = byte4-front (x / 2 ^ 24 % 256) (x / 2 ^ 16 % 256) (x / 256 % 256) (x % 256) s ∙ ap (λ (n : ℕ). got n s) (digits x h)
 
 bound-lt : (b : ℕ) → isBound b ≡ true → b < 2 ^ 32
 bound-lt b h = ⊎-elim (λ e. let l = leb-true b clock-limit e in omega arith) (λ e. let l = eqb-true b no-bound e in omega arith) (or-cases (leb b clock-limit) (eqb b no-bound) h)
@@ -116,8 +121,8 @@ edge-printed automata locations l channels h e p =
     tested = both (lt-ltb _ _ (p .tested-known)) (implies-by _ _ (λ z. eq-eqb _ 0 (p .tested-none (eqb-true (e .exit) 255 z))))
 
 -- the counts of a network's file, and its records
-counts : Network → List ℕ
-counts n = n .automata ∷ length (n .locations) ∷ length (n .edges) / 256 % 256 ∷ length (n .edges) % 256 ∷ n .clocks ∷ n .variables ∷ n .rendezvous ∷ n .broadcasts ∷ []
+abbrev countsIn : Network → Counts
+countsIn n = record { automata = n .automata; locations = length (n .locations); edges = length (n .edges); clocks = n .clocks; variables = n .variables; rendezvous = n .rendezvous; broadcasts = n .broadcasts }
 
 locationRecord : Network → Location → List ℕ
 locationRecord n l = recordBytes (λ k. k ∷ []) (locationBytes (n .clocks) l)
@@ -128,26 +133,36 @@ edgeRecord e = recordBytes out2 (edgeBytes e)
 content : Network → List ℕ
 content n = concat (locationRecord n) (n .locations) ++ concat edgeRecord (n .edges)
 
-records-printed : (n : Network) → Printable n → records (n .automata) (length (n .locations)) (length (n .edges)) (n .clocks) (n .variables) (n .rendezvous) (n .broadcasts) (content n) ≡ got n []
+records-printed : (n : Network) → Printable n → records (countsIn n) (content n) ≡ got n []
 unfolding records content locationRecord edgeRecord recordBytes yield
 records-printed n p =
     bind-got _ _ _ (many-printed _ _ (n .locations) (λ l m s. recorded-printed byte (λ k. k ∷ []) _ (locationBytes (n .clocks) l) s (λ t. byte-front _ t) (location-printed _ _ (p .clocks-few) l (p .of-location l m))) _)
     ∙ (bind-got _ _ _ (ap (many _ _) (sym (append-nil _)) ∙ many-printed _ _ (n .edges) (λ e m s. recorded-printed byte2 out2 _ (edgeBytes e) s (λ t. byte2-printed _ (p .of-edge e m .record-short) t) (edge-printed _ _ _ _ (p .automata-few) e (p .of-edge e m))) [])
     ∙ then-got _ _ _ end-front)
 
-counted-printed : (n : Network) → Printable n → counted (counts n) (content n) ≡ done n
-unfolding counted counts numbered
-counted-printed n p =
+counts-printed : (n : Network) → Printable n → countsAt (networkBytes n) ≡ countsIn n
+unfolding networkBytes recordBytes contentBytes out2 out4
+counts-printed n p =
     let z : 256 * (length (n .edges) / 256 % 256) + length (n .edges) % 256 ≡ length (n .edges) = omega (arith, p .edges-few) in
-    rw z (unless-by 24 _ (both (le-leb _ _ (p .automata-some)) (both (le-leb _ _ (p .automata-few)) (both (le-leb _ _ (p .locations-some)) (both (le-leb _ _ (p .locations-few)) (both (le-leb _ _ (p .edges-few)) (both (le-leb _ _ (p .clocks-few)) (both (le-leb _ _ (p .variables-few)) (both (le-leb _ _ (p .rendezvous-few)) (le-leb _ _ (p .broadcasts-few))))))))))
-    ∙ rw (records-printed n p))
+    ap (λ (e : ℕ). record { automata = n .automata; locations = length (n .locations); edges = e; clocks = n .clocks; variables = n .variables; rendezvous = n .rendezvous; broadcasts = n .broadcasts }) z
 
-header-printed : (n : Network) → length (contentBytes n) < 2 ^ 32 → header (networkBytes n) ≡ got (counts n) (content n)
-unfolding header networkBytes recordBytes contentBytes counts content locationRecord edgeRecord out2
+in-range-printed : (n : Network) → Printable n → inRange (countsIn n) ≡ true
+in-range-printed n p = both (le-leb _ _ (p .automata-some)) (both (le-leb _ _ (p .automata-few)) (both (le-leb _ _ (p .locations-some)) (both (le-leb _ _ (p .locations-few)) (both (le-leb _ _ (p .edges-few)) (both (le-leb _ _ (p .clocks-few)) (both (le-leb _ _ (p .variables-few)) (both (le-leb _ _ (p .rendezvous-few)) (le-leb _ _ (p .broadcasts-few)))))))))
+
+network-length : (n : Network) → length (networkBytes n) ≡ 5 + length (contentBytes n)
+unfolding networkBytes recordBytes out4
+network-length n = omega arith
+
+content-some : (n : Network) → 8 ≤ length (contentBytes n)
+unfolding contentBytes out2
+content-some n = omega arith
+
+header-printed : (n : Network) → length (contentBytes n) < 2 ^ 32 → headed (networkBytes n) ≡ true
+unfolding headed networkBytes recordBytes out4
 header-printed n h =
-    then-got _ _ _ (such-front _ 1 _ refl)
-    ∙ (bind-got _ _ _ (byte4-printed (length (contentBytes n)) h (contentBytes n))
-    ∙ rw (eq-eqb (length (contentBytes n)) (length (contentBytes n)) refl) (bytes-front (counts n) (content n)))
+    let some : 13 ≤ length (networkBytes n) = omega (arith, network-length n, content-some n) in
+    let rest : length (contentBytes n) ≡ length (networkBytes n) - 5 = omega (arith, network-length n) in
+    both (le-leb 13 (length (networkBytes n)) some) (both refl (eq-eqb _ (length (networkBytes n) - 5) (digits (length (contentBytes n)) h ∙ rest)))
 
 -- its length fits four bytes
 content-short : (n : Network) → Printable n → length (contentBytes n) < 2 ^ 32
@@ -167,6 +182,13 @@ content-short n p = omega (
     edge-short : (e : Edge) → Mem e (n .edges) → length (edgeRecord e) ≤ 65537
     edge-short e m = omega (arith, p .of-edge e m .record-short)
 
+rest-printed : (n : Network) → onward (networkBytes n) 13 ≡ content n
+unfolding onward networkBytes recordBytes contentBytes content locationRecord edgeRecord out2 out4
+rest-printed n = refl
+
 pub read-printed : (n : Network) → Printable n → readNetwork (networkBytes n) ≡ done n
-unfolding readNetwork
-read-printed n p = rw (header-printed n (content-short n p)) (counted-printed n p)
+unfolding readNetwork countsOf numbered answer._>>=_
+read-printed n p =
+    let e = counts-printed n p in
+    rw (unless-by 24 (done (countsAt (networkBytes n))) (both (header-printed n (content-short n p)) (ap inRange e ∙ in-range-printed n p)))
+    (rw (e, rest-printed n, records-printed n p))

@@ -9,7 +9,7 @@ use borrow.Author.Tests.{eqb-true, eq-eqb}
 use lib.Dec.{eqb}
 use lib.ListN.{length}
 use Rattle.expr.specs.Lists.{all, below}
-use Rattle.expr.specs.Label.{assignsOnce}
+use Rattle.expr.specs.Label.{assignsOnce, distinct}
 use Rattle.expr.proofs.Bools.{parts, both, or-r, cond-yes}
 use Rattle.expr.proofs.Lists.{all-at, all-by, below-all, below-at, below-by, keep-at, keep-by, once-keep, once-below, one-length}
 use Rattle.chart.specs.Chart.{Chart}
@@ -27,7 +27,7 @@ use Rattle.flattener.proofs.Order.{edges-ascend}
 
 -- a label that only signals assigns nothing
 signalling-assigns : (signal channel : ℕ) → assignsOnce (signalling signal channel) ≡ true
-unfolding assignsOnce signalling
+unfolding assignsOnce distinct signalling
 signalling-assigns signal channel = both (or-r (not (eqb signal 2)) refl) refl
 
 -- the location of a place is initial just where its automaton starts

@@ -1,2 +1,5 @@
 -- Laws of the definitions of this crate.
+pub mod Headers
+pub mod Records
+pub mod Waits
 pub mod Moving

@@ -1,13 +1,25 @@
--- What the structs of the code stand for.
-use Prim.Native.Nat.{ℕ}
-use mathlib.Core.List.{List, map}
-use lib.ListN.{take}
-use Rattle.network.specs.Network.{Location}
-use Rattle.network.specs.declared.location.Location as code
+-- What the answers of the code stand for.
+use Prim.Native.Nat.{ℕ, _-_, _≤_, _<_, _^_}
+use mathlib.Core.List.{List}
+use lib.ListN.{length}
+use Rattle.expr.specs.Answer.{Answer, done, refused}
+use Rattle.network.specs.declared.header.Counts.{Counts}
+use Rattle.network.specs.declared.header.HeaderRead.{HeaderRead}
+use Rattle.network.specs.declared.header.HeaderRead.the-variants as Hd
+use Rattle.network.specs.declared.configuration.Configuration.{Configuration}
+use Rattle.network.specs.declared.moved.Verdict.the-variants as Vd
+use Rattle.network.specs.declared.moved.Moved.{Moved}
 
-abbrev pub locationOf : code.Location → Location
-locationOf l = record { automaton = l .automaton; urgent = l .urgent; initial = l .initial; bounds = l .bounds }
+abbrev pub headerOf : HeaderRead → Answer Counts
+headerOf (Hd.Counts k) = done k
+headerOf Hd.Refused = refused 24
 
--- the first n of a table
-abbrev pub locationsOf : ℕ → List code.Location → List Location
-locationsOf n t = map locationOf (take n t)
+-- the counts are there, and the places of what follows the length fit 32 bits
+abbrev pub HeaderFits : List ℕ → HeaderRead → Type 0
+HeaderFits file (Hd.Counts k) = (13 ≤ length file) × (length file - 5 < 2 ^ 32)
+HeaderFits file Hd.Refused = Unit
+
+-- the configuration after a call on c: a call that is refused returns c
+abbrev pub movedOf : Configuration → Answer Configuration → Moved
+movedOf c (done d) = record { verdict = Vd.Done; configuration = d }
+movedOf c (refused n) = record { verdict = Vd.Refused n; configuration = c }

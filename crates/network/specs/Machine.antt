@@ -1,16 +1,16 @@
 -- The network machine: start, step and wait.
-use Prim.Native.Nat.{ℕ, zero, suc, _+_, _*_, _-_, _^_}
-use mathlib.Core.Bool.{Bool, true, false, cond, not, _&&_, _||_, Bool·beq}
-use mathlib.Core.List.{List, [], _∷_, _++_, map}
-use lib.IntN.{ℤ, pos}
+use Prim.Native.Nat.{ℕ, _-_}
+use mathlib.Core.Bool.{Bool, cond, not, _&&_, Bool·beq}
+use mathlib.Core.List.{List, [], _∷_, map}
+use lib.IntN.{pos}
 use lib.Dec.{leb, ltb, eqb}
 use lib.ListN.{getD, length, replicate, set}
-use Rattle.expr.specs.Lists.{has, all, any, below, keep, implies, bitsOf}
-use Rattle.expr.specs.Label.{Label, Body, guardsHold}
+use Rattle.expr.specs.Lists.{has, all, any, below, implies, bitsOf}
+use Rattle.expr.specs.Label.{Label, guardsHold}
 use Rattle.expr.specs.Clocks.{keeps, later, inLimit, zeroPast}
 use Rattle.expr.specs.Moves.{known, allowed, variablesAfter, clocksAfter, zerosPast}
-use Rattle.expr.specs.Answer.{Answer, done, refused, unless, _>>=_}
-use Rattle.network.specs.Network.{Location, Edge, Network, locationAt, ownerOf, initials, networkOf}
+use Rattle.expr.specs.Answer.{Answer, done, unless, _>>=_}
+use Rattle.network.specs.Network.{Edge, Network, locationAt, ownerOf, initials, networkOf}
 use Rattle.network.specs.declared.configuration.Configuration.{Configuration}
 
 silent : Label

@@ -1,3 +1,7 @@
 // The network machine.
 pub mod configuration;
+pub mod header;
+pub mod initial;
 pub mod location;
+pub mod moved;
+pub mod wait;

@@ -1,118 +1,144 @@
-// The location records of a network file.
+// The location records of a network file. Once they are checked they all have one size, so each one's place is known.
 ghost use mathlib.Core.Path.{_≡_};
-ghost use Prim.Native.Nat.{_≤_};
-ghost use Rattle.expr.specs.Reading.{byte, many, recorded};
+ghost use Prim.Native.Nat.{_+_, _<_};
+ghost use lib.Dec.{eqb};
+ghost use Rattle.expr.specs.Reading.{byte, many, recorded, skipped};
 ghost use Rattle.expr.specs.Places.{onward, reached};
-ghost use Rattle.network.specs.Network.{location};
-ghost use Rattle.network.specs.Answers.{locationOf, locationsOf};
+ghost use Rattle.expr.specs.Clocks.{row, keeps};
+ghost use Rattle.network.specs.Network.{Network, location, locationAt};
+ghost use Rattle.network.specs.Machine.{urgentAt};
+ghost use Rattle.network.specs.Layout.{locationPlace, Located};
+use crate::header::Counts;
 use expr::field::ByteRead;
-use expr::field::Fault;
 use expr::field::Frame;
 use expr::field::Reached;
+use expr::field::WordRead;
 
-pub struct Location {
-    pub automaton: u8,
-    pub urgent: u8,
-    pub initial: u8,
-    pub bounds: [u32; 8],
-}
-
-pub struct LocationRead {
-    pub reached: Reached,
-    pub location: Location,
-}
-
-pub struct Locations {
-    pub reached: Reached,
-    pub table: [Location; 192],
-}
-
-fn empty() -> Location {
-    Location {
-        automaton: 0,
-        urgent: 0,
-        initial: 0,
-        bounds: [0; 8],
-    }
-}
-
-fn no_location(f: Fault) -> LocationRead
-    ensures { λ r. ⌜ r .reached ≡ Reached.Fault f ⌝ }
+// One bound for each declared clock.
+fn read_bounds(s: &[u8], at: usize, clocks: u8) -> Reached
+    ensures { λ r. ⌜ reached (now (s .entry)) tt r ≡ skipped (row clocks (onward (now (s .entry)) at)) ⌝ }
 {
-    LocationRead {
-        reached: Reached::Fault(f),
-        location: empty(),
-    }
-}
-
-// The content of a location's record.
-pub fn read_location(s: &[u8], at: usize, automata: u8, clocks: usize) -> LocationRead
-    requires { ⌜ clocks ≤ 8 ⌝ }
-    ensures { λ r. ⌜ reached (now (s .entry)) (locationOf (r .location)) (r .reached) ≡ location automata clocks (onward (now (s .entry)) at) ⌝ }
-{
-    let a = expr::field::read_byte_below(s, at, automata);
-    let ByteRead::Value(automaton, at1) = a else {
-        return no_location(expr::field::byte_fault(a));
-    };
-    let u = expr::field::read_byte_below(s, at1, 2);
-    let ByteRead::Value(urgent, at2) = u else {
-        return no_location(expr::field::byte_fault(u));
-    };
-    let i = expr::field::read_byte_below(s, at2, 2);
-    let ByteRead::Value(initial, at3) = i else {
-        return no_location(expr::field::byte_fault(i));
-    };
-    let b = expr::clock::read_row(s, at3, clocks);
-    let reached = b.reached;
-    let bounds = b.row;
-    LocationRead {
-        reached,
-        location: Location {
-            automaton,
-            urgent,
-            initial,
-            bounds,
-        },
-    }
-}
-
-// The location's record at a place.
-pub fn location_at(s: &[u8], at: usize, automata: u8, clocks: usize) -> LocationRead
-    requires { ⌜ clocks ≤ 8 ⌝ }
-    ensures { λ r. ⌜ reached (now (s .entry)) (locationOf (r .location)) (r .reached) ≡ recorded byte (location automata clocks) (onward (now (s .entry)) at) ⌝ }
-{
-    let p = expr::field::read_frame(s, at);
-    let Frame::Part(from, to) = p else {
-        return no_location(expr::field::frame_fault(p));
-    };
-    let l = read_location(&s[from..to], 0, automata, clocks);
-    let q = l.reached;
-    let reached = expr::field::whole(q, to - from, to);
-    let location = l.location;
-    LocationRead { reached, location }
-}
-
-// So many records from a place on.
-pub fn read_locations(s: &[u8], at: usize, count: usize, automata: u8, clocks: usize) -> Locations
-    requires { ⌜ (count ≤ 192) × (clocks ≤ 8) ⌝ }
-    ensures { λ r. ⌜ reached (now (s .entry)) (locationsOf count (r .table)) (r .reached) ≡ many count (recorded byte (location automata clocks)) (onward (now (s .entry)) at) ⌝ }
-{
-    let mut table = [empty(); 192];
     let mut place = at;
     let mut i = 0;
-    while i < count {
-        let l = location_at(s, place, automata, clocks);
-        let q = l.reached;
-        let Reached::At(next) = q else {
-            return Locations { reached: q, table };
+    while i < clocks {
+        let w = expr::clock::read_bound(s, place);
+        let WordRead::Value(_, next) = w else {
+            return Reached::Fault(expr::field::word_fault(w));
         };
-        let location = l.location;
-        table[i] = location;
         place = next;
         i += 1;
     }
-    Locations {
-        reached: Reached::At(place),
-        table,
+    Reached::At(place)
+}
+
+// The content of a location's record.
+fn read_location(s: &[u8], at: usize, automata: u8, clocks: u8) -> Reached
+    ensures { λ r. ⌜ reached (now (s .entry)) tt r ≡ skipped (location automata clocks (onward (now (s .entry)) at)) ⌝ }
+{
+    let a = expr::field::read_byte_below(s, at, automata);
+    let ByteRead::Value(_, at1) = a else {
+        return Reached::Fault(expr::field::byte_fault(a));
+    };
+    let u = expr::field::read_byte_below(s, at1, 2);
+    let ByteRead::Value(_, at2) = u else {
+        return Reached::Fault(expr::field::byte_fault(u));
+    };
+    let i = expr::field::read_byte_below(s, at2, 2);
+    let ByteRead::Value(_, at3) = i else {
+        return Reached::Fault(expr::field::byte_fault(i));
+    };
+    read_bounds(s, at3, clocks)
+}
+
+// The location's record at a place.
+fn location_at(s: &[u8], at: usize, automata: u8, clocks: u8) -> Reached
+    ensures { λ r. ⌜ reached (now (s .entry)) tt r ≡ skipped (recorded byte (location automata clocks) (onward (now (s .entry)) at)) ⌝ }
+{
+    let p = expr::field::read_frame(s, at);
+    let Frame::Part(from, to) = p else {
+        return Reached::Fault(expr::field::frame_fault(p));
+    };
+    let q = read_location(&s[from..to], 0, automata, clocks);
+    expr::field::whole(q, to - from, to)
+}
+
+// All location records, from a place on.
+pub fn read_locations(rest: &[u8], at: usize, counts: Counts) -> Reached
+    ensures { λ r. ⌜ reached (now (rest .entry)) tt r ≡ skipped (many (counts .locations) (recorded byte (location (counts .automata) (counts .clocks))) (onward (now (rest .entry)) at)) ⌝ }
+{
+    let mut place = at;
+    let mut i = 0;
+    while i < counts.locations {
+        let q = location_at(rest, place, counts.automata, counts.clocks);
+        let Reached::At(next) = q else {
+            return q;
+        };
+        place = next;
+        i += 1;
+    }
+    Reached::At(place)
+}
+
+// The place of a byte of location i's record, which is the first at 0.
+fn location_place(clocks: u8, i: u8, byte: u8) -> usize
+    ensures { λ r. ⌜ r ≡ locationPlace clocks i + byte ⌝ }
+{
+    8 + (i as usize) * (4 + 4 * (clocks as usize)) + (byte as usize)
+}
+
+// What location i of a checked file has; there is no location from the count on.
+pub fn automaton_of(rest: &[u8], counts: Counts, i: u8) -> u8
+    ensures { λ r. ⌜ ((n : Network) → Located (now (rest .entry)) counts n → r ≡ locationAt n i .automaton) ⌝ }
+{
+    if i < counts.locations {
+        expr::field::byte_at(rest, location_place(counts.clocks, i, 1))
+    } else {
+        0
+    }
+}
+
+pub fn is_urgent(rest: &[u8], counts: Counts, i: u8) -> bool
+    ensures { λ r. ⌜ ((n : Network) → Located (now (rest .entry)) counts n → r ≡ urgentAt n i) ⌝ }
+{
+    if i < counts.locations {
+        expr::field::byte_at(rest, location_place(counts.clocks, i, 2)) == 1
+    } else {
+        false
+    }
+}
+
+pub fn is_initial(rest: &[u8], counts: Counts, i: u8) -> bool
+    ensures { λ r. ⌜ ((n : Network) → Located (now (rest .entry)) counts n → r ≡ eqb (locationAt n i .initial) 1) ⌝ }
+{
+    if i < counts.locations {
+        expr::field::byte_at(rest, location_place(counts.clocks, i, 3)) == 1
+    } else {
+        false
+    }
+}
+
+// The bounds of a location; from the count on none is said.
+pub fn bounds_of(rest: &[u8], counts: Counts, i: u8) -> [u32; 8]
+    ensures { λ r. ⌜ ((n : Network) → Located (now (rest .entry)) counts n → i < counts .locations → r ≡ locationAt n i .bounds) ⌝ }
+{
+    if counts.clocks > 8 {
+        return [4294967295; 8];
+    }
+    let read = expr::clock::read_row(
+        rest,
+        location_place(counts.clocks, i, 4),
+        counts.clocks as usize,
+    );
+    read.row
+}
+
+// Whether clocks keep the bounds of location i.
+pub fn keeps_bounds(rest: &[u8], counts: Counts, i: u8, clocks: [u32; 8]) -> bool
+    ensures { λ r. ⌜ ((n : Network) → Located (now (rest .entry)) counts n → r ≡ keeps (locationAt n i .bounds) clocks) ⌝ }
+{
+    if i < counts.locations {
+        expr::clock::keeps(bounds_of(rest, counts, i), clocks)
+    } else {
+        true
     }
 }

@@ -1,14 +1,10 @@
 use borrow.Author.Tests.{lt-ltb, le-ltb}
 use Rattle.expr.proofs.field.known_or_none.Statement.{statement}
 use Rattle.expr.proofs.field.known_or_none.Tie as tie
-use Rattle.expr.proofs.field.known_or_none.Reads as reads
-use Rattle.expr.proofs.field.known_or_none.Lts as lts
 
--- src/field.rt:152:1
 returns : tie.Need-returns
 returns c = rw (lt-ltb _ _ (c .if1 .taken))
 
--- src/field.rt:152:1
 returns-2 : tie.Need-returns-2
 returns-2 c = rw (le-ltb _ _ (c .if1 .left))
 

@@ -4,22 +4,16 @@ use Rattle.expr.proofs.Places.{byte-some, byte-none}
 use borrow.Author.Needs.{needs}
 use Rattle.expr.proofs.field.read_byte.Statement.{statement}
 use Rattle.expr.proofs.field.read_byte.Tie as tie
-use Rattle.expr.proofs.field.read_byte.Reads as reads
-use Rattle.expr.proofs.field.read_byte.Lts as lts
 
--- src/lib.rt:83:25
 shared-slice-read-t7 : tie.Need-shared-slice-read-t7
 shared-slice-read-t7 c = search needs
 
--- src/lib.rt:83:32
 add-t8 : tie.Need-add-t8
 add-t8 c = search needs
 
--- src/lib.rt:78:1
 returns : tie.Need-returns
 returns c = (sym (byte-some _ _ (c .before .if1 .taken)), omega arith)
 
--- src/lib.rt:78:1
 returns-2 : tie.Need-returns-2
 returns-2 c = (sym (byte-none _ _ (c .if1 .left)), omega arith)
 

@@ -5,31 +5,22 @@ use Rattle.expr.proofs.Places.{such-got, such-not, such-fault, answered
 use borrow.Author.Needs.{needs}
 use Rattle.expr.proofs.field.read_byte_below.Statement.{statement}
 use Rattle.expr.proofs.field.read_byte_below.Tie as tie
-use Rattle.expr.proofs.field.read_byte_below.Reads as reads
-use Rattle.expr.proofs.field.read_byte_below.Lts as lts
-use Rattle.expr.proofs.field.read_byte.Reads as read-byte-reads
 
--- src/lib.rt:92:9
 read-byte-requires : tie.Need-read-byte-requires
 read-byte-requires c κs = search needs
 
--- src/lib.rt:93:25
 enum-known-b : tie.Need-enum-known-b
 enum-known-b c = search needs
 
--- src/lib.rt:94:9
 enum-told : tie.Need-enum-told
 enum-told c = search needs
 
--- src/lib.rt:94:9
 returns : tie.Need-returns
 returns c = ap (byteOf _) (c .enum-told .given .1) ∙ sym (such-fault _ _ _ (answered (byteOf _) (c .before .before .read-byte .ensures .0) (c .enum-told .given .1)))
 
--- src/lib.rt:89:1
 returns-2 : tie.Need-returns-2
 returns-2 c = sym (such-got _ _ _ (answered (byteOf _) (c .before .before .before .before .read-byte .ensures .0) (c .before .before .b .given .1)) (lt-ltb _ _ (c .if1 .taken)))
 
--- src/lib.rt:89:1
 returns-3 : tie.Need-returns-3
 returns-3 c = sym (such-not _ _ _ (answered (byteOf _) (c .before .before .before .before .read-byte .ensures .0) (c .before .before .b .given .1)) (le-ltb _ _ (c .if1 .left)))
 

@@ -4,36 +4,25 @@ use Rattle.expr.proofs.Places.{such-got, such-not, such-fault, answered
 use borrow.Author.Needs.{needs}
 use Rattle.expr.proofs.field.read_byte_or_none.Statement.{statement}
 use Rattle.expr.proofs.field.read_byte_or_none.Tie as tie
-use Rattle.expr.proofs.field.read_byte_or_none.Reads as reads
-use Rattle.expr.proofs.field.read_byte_or_none.Lts as lts
-use Rattle.expr.proofs.field.known_or_none.Reads as known-or-none-reads
-use Rattle.expr.proofs.field.read_byte.Reads as read-byte-reads
 
--- src/field.rt:161:9
 read-byte-requires : tie.Need-read-byte-requires
 read-byte-requires c κs = search needs
 
--- src/field.rt:162:25
 enum-known-b : tie.Need-enum-known-b
 enum-known-b c = search needs
 
--- src/field.rt:163:9
 enum-told : tie.Need-enum-told
 enum-told c = search needs
 
--- src/field.rt:163:9
 returns : tie.Need-returns
 returns c = ap (byteOf _) (c .enum-told .given .1) ∙ sym (such-fault _ _ _ (answered (byteOf _) (c .before .before .read-byte .ensures .0) (c .enum-told .given .1)))
 
--- src/field.rt:165:8
 known-or-none-requires : tie.Need-known-or-none-requires
 known-or-none-requires c κs = search needs
 
--- src/field.rt:158:1
 returns-2 : tie.Need-returns-2
 returns-2 c = sym (such-got _ _ _ (answered (byteOf _) (c .before .before .before .before .before .read-byte .ensures .0) (c .before .before .before .b .given .1)) (sym (c .before .known-or-none .ensures) ∙ c .if1 .taken))
 
--- src/field.rt:158:1
 returns-3 : tie.Need-returns-3
 returns-3 c = sym (such-not _ _ _ (answered (byteOf _) (c .before .before .before .before .before .read-byte .ensures .0) (c .before .before .before .b .given .1)) (sym (c .before .known-or-none .ensures) ∙ c .if1 .left))
 

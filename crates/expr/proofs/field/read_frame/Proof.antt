@@ -2,16 +2,12 @@ use mathlib.Core.Path.{_≡_, refl, sym, ap, _∙_}
 use native.Mathlib.Omega.{arith}
 use Prim.Native.Nat.{_≤_}
 use lib.ListN.{length}
-use Rattle.expr.specs.Reading.{got, fault, byte, framed}
+use Rattle.expr.specs.Reading.{got, fault, byte}
 use Rattle.expr.specs.Places.{onward, byteOf, byteEnd, faultOf, byteFault}
 use Rattle.expr.proofs.Places.{framed-fault, framed-got, framed-long, answered}
 use borrow.Author.Needs.{needs}
 use Rattle.expr.proofs.field.read_frame.Statement.{statement}
 use Rattle.expr.proofs.field.read_frame.Tie as tie
-use Rattle.expr.proofs.field.read_frame.Reads as reads
-use Rattle.expr.proofs.field.read_frame.Lts as lts
-use Rattle.expr.proofs.field.byte_fault.Reads as byte-fault-reads
-use Rattle.expr.proofs.field.read_byte.Reads as read-byte-reads
 
 got-n : (c : tie.After-known-told) → byte (onward (c .before .before .before .before .before .args .s .now) (c .before .before .before .before .before .args .at)) ≡ got (c .before .b .given .0 .0) (onward (c .before .before .before .before .before .args .s .now) (c .before .b .given .0 .1 .0))
 got-n c = answered (byteOf _) (c .before .before .before .read-byte .ensures .0) (c .before .b .given .1)
@@ -19,43 +15,33 @@ got-n c = answered (byteOf _) (c .before .before .before .read-byte .ensures .0)
 from-fits : (c : tie.After-known-told) → c .before .b .given .0 .1 .0 ≤ length (c .before .before .before .before .before .args .s .now)
 from-fits c = omega (arith, ap byteEnd (c .before .b .given .1), c .before .before .before .read-byte .ensures .1)
 
--- src/lib.rt:177:9
 read-byte-requires : tie.Need-read-byte-requires
 read-byte-requires c κs = search needs
 
--- src/lib.rt:178:25
 enum-known-b : tie.Need-enum-known-b
 enum-known-b c = search needs
 
--- src/lib.rt:179:29
 enum-told : tie.Need-enum-told
 enum-told c = search needs
 
--- src/lib.rt:179:29
 byte-fault-requires : tie.Need-byte-fault-requires
 byte-fault-requires c κs = search needs
 
--- src/lib.rt:179:9
 returns : tie.Need-returns
 returns c = (ap (λ f. fault (faultOf f)) ((c .byte-fault .ensures ∙ ap byteFault (c .before .enum-told .given .1))) ∙ sym (framed-fault _ _ (answered (byteOf _) (c .before .before .before .read-byte .ensures .0) (c .before .enum-told .given .1))), tt)
 
--- src/lib.rt:181:16
 cast-size : tie.Need-cast-size
 cast-size c = search needs
 
--- src/lib.rt:182:8
 sub-if1 : tie.Need-sub-if1
 sub-if1 c = from-fits c
 
--- src/lib.rt:185:27
 add-t13 : tie.Need-add-t13
 add-t13 c = search needs
 
--- src/lib.rt:173:1
 returns-2 : tie.Need-returns-2
 returns-2 c = (sym (framed-long _ _ _ _ _ (got-n (c .before)) refl (c .if1 .taken)), tt)
 
--- src/lib.rt:173:1
 returns-3 : tie.Need-returns-3
 returns-3 c = (sym (framed-got _ _ _ _ _ (got-n (c .before)) refl (c .if1 .left)), omega (arith, from-fits (c .before)))
 

@@ -4,40 +4,28 @@ use Rattle.expr.proofs.Places.{such-got, such-not, such-fault, answered
 use borrow.Author.Needs.{needs}
 use Rattle.expr.proofs.field.read_long_marks.Statement.{statement}
 use Rattle.expr.proofs.field.read_long_marks.Tie as tie
-use Rattle.expr.proofs.field.read_long_marks.Reads as reads
-use Rattle.expr.proofs.field.read_long_marks.Lts as lts
-use Rattle.expr.proofs.field.in_width.Reads as in-width-reads
-use Rattle.expr.proofs.field.read_short.Reads as read-short-reads
 
--- src/field.rt:214:9
 read-short-requires : tie.Need-read-short-requires
 read-short-requires c κs = search needs
 
--- src/field.rt:215:26
 enum-known-h : tie.Need-enum-known-h
 enum-known-h c = search needs
 
--- src/field.rt:216:9
 enum-told : tie.Need-enum-told
 enum-told c = search needs
 
--- src/field.rt:216:9
 returns : tie.Need-returns
 returns c = ap (shortOf _) (c .enum-told .given .1) ∙ sym (such-fault _ _ _ (answered (shortOf _) (c .before .before .read-short .ensures .0) (c .enum-told .given .1)))
 
--- src/field.rt:218:13
 cast-in-width : tie.Need-cast-in-width
 cast-in-width c = search needs
 
--- src/field.rt:218:8
 in-width-requires : tie.Need-in-width-requires
 in-width-requires c κs = search needs
 
--- src/field.rt:211:1
 returns-2 : tie.Need-returns-2
 returns-2 c = sym (such-got _ _ _ (answered (shortOf _) (c .before .before .before .before .before .read-short .ensures .0) (c .before .before .before .h .given .1)) (sym (c .before .in-width .ensures) ∙ c .if1 .taken))
 
--- src/field.rt:211:1
 returns-3 : tie.Need-returns-3
 returns-3 c = sym (such-not _ _ _ (answered (shortOf _) (c .before .before .before .before .before .read-short .ensures .0) (c .before .before .before .h .given .1)) (sym (c .before .in-width .ensures) ∙ c .if1 .left))
 

@@ -4,40 +4,28 @@ use Rattle.expr.proofs.Places.{byte2-some, byte2-none}
 use borrow.Author.Needs.{needs}
 use Rattle.expr.proofs.field.read_short.Statement.{statement}
 use Rattle.expr.proofs.field.read_short.Tie as tie
-use Rattle.expr.proofs.field.read_short.Reads as reads
-use Rattle.expr.proofs.field.read_short.Lts as lts
-use Rattle.expr.proofs.field.left.Reads as left-reads
-use Rattle.expr.proofs.field.short_of.Reads as short-of-reads
 
--- src/field.rt:161:8
 left-requires : tie.Need-left-requires
 left-requires c κs = search needs
 
--- src/field.rt:164:35
 shared-slice-read-short-of : tie.Need-shared-slice-read-short-of
 shared-slice-read-short-of c = search needs
 
--- src/field.rt:164:44
 add-short-of : tie.Need-add-short-of
 add-short-of c = search needs
 
--- src/field.rt:164:42
 shared-slice-read-short-of-2 : tie.Need-shared-slice-read-short-of-2
 shared-slice-read-short-of-2 c = search needs
 
--- src/field.rt:164:26
 short-of-requires : tie.Need-short-of-requires
 short-of-requires c κs = search needs
 
--- src/field.rt:164:54
 add-t13 : tie.Need-add-t13
 add-t13 c = search needs
 
--- src/field.rt:157:1
 returns : tie.Need-returns
 returns c = (sym (byte2-none _ _ (c .before .left .ensures) (c .if1 .taken)), omega arith)
 
--- src/field.rt:157:1
 returns-2 : tie.Need-returns-2
 returns-2 c = (rw (c .short-of .ensures) (sym (byte2-some _ _ (c .before .before .before .before .left .ensures) (c .before .before .before .if1 .left))), omega arith)
 

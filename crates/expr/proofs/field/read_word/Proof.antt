@@ -4,56 +4,40 @@ use Rattle.expr.proofs.Places.{byte4-some, byte4-none}
 use borrow.Author.Needs.{needs}
 use Rattle.expr.proofs.field.read_word.Statement.{statement}
 use Rattle.expr.proofs.field.read_word.Tie as tie
-use Rattle.expr.proofs.field.read_word.Reads as reads
-use Rattle.expr.proofs.field.read_word.Lts as lts
-use Rattle.expr.proofs.field.left.Reads as left-reads
-use Rattle.expr.proofs.field.word_of.Reads as word-of-reads
 
--- src/lib.rt:113:8
 left-requires : tie.Need-left-requires
 left-requires c κs = search needs
 
--- src/lib.rt:116:33
 shared-slice-read-word-of : tie.Need-shared-slice-read-word-of
 shared-slice-read-word-of c = search needs
 
--- src/lib.rt:116:42
 add-word-of : tie.Need-add-word-of
 add-word-of c = search needs
 
--- src/lib.rt:116:40
 shared-slice-read-word-of-2 : tie.Need-shared-slice-read-word-of-2
 shared-slice-read-word-of-2 c = search needs
 
--- src/lib.rt:116:53
 add-word-of-2 : tie.Need-add-word-of-2
 add-word-of-2 c = search needs
 
--- src/lib.rt:116:51
 shared-slice-read-word-of-3 : tie.Need-shared-slice-read-word-of-3
 shared-slice-read-word-of-3 c = search needs
 
--- src/lib.rt:116:64
 add-word-of-3 : tie.Need-add-word-of-3
 add-word-of-3 c = search needs
 
--- src/lib.rt:116:62
 shared-slice-read-word-of-4 : tie.Need-shared-slice-read-word-of-4
 shared-slice-read-word-of-4 c = search needs
 
--- src/lib.rt:116:25
 word-of-requires : tie.Need-word-of-requires
 word-of-requires c κs = search needs
 
--- src/lib.rt:116:74
 add-t19 : tie.Need-add-t19
 add-t19 c = search needs
 
--- src/lib.rt:110:1
 returns : tie.Need-returns
 returns c = (sym (byte4-none _ _ (c .before .left .ensures) (c .if1 .taken)), omega arith)
 
--- src/lib.rt:110:1
 returns-2 : tie.Need-returns-2
 returns-2 c = (rw (c .word-of .ensures) (sym (byte4-some _ _ (c .before .before .before .before .before .before .left .ensures) (c .before .before .before .before .before .if1 .left))), omega arith)
 

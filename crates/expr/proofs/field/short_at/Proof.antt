@@ -5,27 +5,19 @@ use Rattle.expr.proofs.Reading.{no-answer, got-value}
 use borrow.Author.Needs.{needs}
 use Rattle.expr.proofs.field.short_at.Statement.{statement}
 use Rattle.expr.proofs.field.short_at.Tie as tie
-use Rattle.expr.proofs.field.short_at.Reads as reads
-use Rattle.expr.proofs.field.short_at.Lts as lts
-use Rattle.expr.proofs.field.read_short.Reads as read-short-reads
 
--- src/field.rt:229:9
 read-short-requires : tie.Need-read-short-requires
 read-short-requires c κs = search needs
 
--- src/field.rt:230:26
 enum-known-h : tie.Need-enum-known-h
 enum-known-h c = search needs
 
--- src/field.rt:231:9
 enum-told : tie.Need-enum-told
 enum-told c = search needs
 
--- src/field.rt:231:9
 returns : tie.Need-returns
 returns c = λ x t e. no-answer (sym (answered (shortOf _) (c .before .before .read-short .ensures .0) (c .enum-told .given .1)) ∙ e)
 
--- src/field.rt:226:1
 returns-2 : tie.Need-returns-2
 returns-2 c = λ x t e. got-value (sym (answered (shortOf _) (c .before .before .before .read-short .ensures .0) (c .before .h .given .1)) ∙ e)
 

@@ -5,27 +5,19 @@ use Rattle.expr.proofs.Reading.{no-answer, got-value}
 use borrow.Author.Needs.{needs}
 use Rattle.expr.proofs.field.word_at.Statement.{statement}
 use Rattle.expr.proofs.field.word_at.Tie as tie
-use Rattle.expr.proofs.field.word_at.Reads as reads
-use Rattle.expr.proofs.field.word_at.Lts as lts
-use Rattle.expr.proofs.field.read_word.Reads as read-word-reads
 
--- src/field.rt:273:9
 read-word-requires : tie.Need-read-word-requires
 read-word-requires c κs = search needs
 
--- src/field.rt:274:25
 enum-known-w : tie.Need-enum-known-w
 enum-known-w c = search needs
 
--- src/field.rt:275:9
 enum-told : tie.Need-enum-told
 enum-told c = search needs
 
--- src/field.rt:275:9
 returns : tie.Need-returns
 returns c = λ x t e. no-answer (sym (answered (wordOf _) (c .before .before .read-word .ensures .0) (c .enum-told .given .1)) ∙ e)
 
--- src/field.rt:270:1
 returns-2 : tie.Need-returns-2
 returns-2 c = λ x t e. got-value (sym (answered (wordOf _) (c .before .before .before .read-word .ensures .0) (c .before .w .given .1)) ∙ e)
 

@@ -1,86 +1,61 @@
-use mathlib.Core.Path.{_≡_, refl, sym, ap, ap₂, _∙_}
-use native.Mathlib.Omega.{arith}
-use Prim.Native.Nat.{_+_}
-use Rattle.expr.specs.Reading.{got, fault, yield, mapped, skipped}
-use Rattle.expr.specs.Guard.{dataGuard, clockGuard, differenceGuard, clock, holds, compareℕ}
-use Rattle.expr.specs.Places.{onward, byteOf, wordOf, reached, faultOf, byteFault, wordFault}
+use mathlib.Core.Path.{sym, ap, _∙_}
+use Rattle.expr.specs.Reading.{fault, yield}
+use Rattle.expr.specs.Guard.{clockGuard, clock, holds}
+use Rattle.expr.specs.Places.{byteOf, wordOf, faultOf, byteFault, wordFault}
 use Rattle.expr.proofs.Places.{bind-got, bind-fault, answered}
-use Rattle.expr.proofs.Reading.{mapped-got, mapped-fault, mapped-at, fault-at}
+use Rattle.expr.proofs.Reading.{mapped-got, mapped-fault}
 use Rattle.expr.proofs.Guards.{relation-got, relation-fault}
 use borrow.Author.Needs.{needs}
 use Rattle.expr.proofs.guard.clock_guard_holds.Statement.{statement}
 use Rattle.expr.proofs.guard.clock_guard_holds.Tie as tie
-use Rattle.expr.proofs.guard.clock_guard_holds.Reads as reads
-use Rattle.expr.proofs.guard.clock_guard_holds.Lts as lts
-use Rattle.expr.proofs.field.byte_fault.Reads as byte-fault-reads
-use Rattle.expr.proofs.field.read_byte_below.Reads as read-byte-below-reads
-use Rattle.expr.proofs.field.word_fault.Reads as word-fault-reads
-use Rattle.expr.proofs.guard.read_ticks.Reads as read-ticks-reads
-use Rattle.expr.proofs.guard.time_of.Reads as time-of-reads
-use Rattle.expr.proofs.signed.compare_clocks.Reads as compare-clocks-reads
 
--- src/guard.rt:100:9
 read-byte-below-requires : tie.Need-read-byte-below-requires
 read-byte-below-requires c κs = search needs
 
--- src/guard.rt:101:25
 enum-known-c : tie.Need-enum-known-c
 enum-known-c c = search needs
 
--- src/guard.rt:102:32
 enum-told : tie.Need-enum-told
 enum-told c = search needs
 
--- src/guard.rt:102:32
 byte-fault-requires : tie.Need-byte-fault-requires
 byte-fault-requires c κs = search needs
 
--- src/guard.rt:102:9
 returns : tie.Need-returns
 unfolding clockGuard clock yield holds
 returns c = λ v vars. ap (λ f. fault (faultOf f)) (c .byte-fault .ensures ∙ ap byteFault (c .before .enum-told .given .1))
     ∙ sym (mapped-fault _ (bind-fault _ _ _ ((answered (byteOf _) (c .before .before .before .read-byte-below .ensures) (c .before .enum-told .given .1)))))
 
--- src/guard.rt:104:9
 read-byte-below-requires-2 : tie.Need-read-byte-below-requires-2
 read-byte-below-requires-2 c κs = search needs
 
--- src/guard.rt:105:25
 enum-known-k : tie.Need-enum-known-k
 enum-known-k c = search needs
 
--- src/guard.rt:106:32
 enum-told-2 : tie.Need-enum-told-2
 enum-told-2 c = search needs
 
--- src/guard.rt:106:32
 byte-fault-requires-2 : tie.Need-byte-fault-requires-2
 byte-fault-requires-2 c κs = search needs
 
--- src/guard.rt:106:9
 returns-2 : tie.Need-returns-2
 unfolding clockGuard clock yield holds
 returns-2 c = λ v vars. ap (λ f. fault (faultOf f)) (c .byte-fault2 .ensures ∙ ap byteFault (c .before .enum-told2 .given .1))
     ∙ sym (mapped-fault _ (bind-got _ _ _ ((answered (byteOf _) (c .before .before .before .before .before .before .before .read-byte-below .ensures) (c .before .before .before .before .before .c .given .1)))
     ∙ bind-fault _ _ _ (relation-fault _ (answered (byteOf _) (c .before .before .before .read-byte-below2 .ensures) (c .before .enum-told2 .given .1)))))
 
--- src/guard.rt:108:9
 read-ticks-requires : tie.Need-read-ticks-requires
 read-ticks-requires c κs = search needs
 
--- src/guard.rt:109:25
 enum-known-w : tie.Need-enum-known-w
 enum-known-w c = search needs
 
--- src/guard.rt:110:32
 enum-told-3 : tie.Need-enum-told-3
 enum-told-3 c = search needs
 
--- src/guard.rt:110:32
 word-fault-requires : tie.Need-word-fault-requires
 word-fault-requires c κs = search needs
 
--- src/guard.rt:110:9
 returns-3 : tie.Need-returns-3
 unfolding clockGuard clock yield holds
 returns-3 c = λ v vars. ap (λ f. fault (faultOf f)) (c .word-fault .ensures ∙ ap wordFault (c .before .enum-told3 .given .1))
@@ -88,19 +63,15 @@ returns-3 c = λ v vars. ap (λ f. fault (faultOf f)) (c .word-fault .ensures �
     ∙ bind-got _ _ _ (relation-got _ (answered (byteOf _) (c .before .before .before .before .before .before .before .read-byte-below2 .ensures) (c .before .before .before .before .before .k .given .1)))
     ∙ bind-fault _ _ _ ((answered (wordOf _) (c .before .before .before .read-ticks .ensures) (c .before .enum-told3 .given .1)))))
 
--- src/guard.rt:112:54
 time-of-requires : tie.Need-time-of-requires
 time-of-requires c κs = search needs
 
--- src/guard.rt:112:77
 cast-compare-clocks : tie.Need-cast-compare-clocks
 cast-compare-clocks c = search needs
 
--- src/guard.rt:112:21
 compare-clocks-requires : tie.Need-compare-clocks-requires
 compare-clocks-requires c κs = search needs
 
--- src/guard.rt:97:1
 returns-4 : tie.Need-returns-4
 unfolding clockGuard clock yield holds
 returns-4 c = λ v vars. rw (c .compare-clocks .ensures, c .before .time-of .ensures .0)

@@ -1,8 +1,7 @@
-use mathlib.Core.Path.{_≡_, refl, sym, ap, _∙_}
-use native.Mathlib.Omega.{arith}
-use Rattle.expr.specs.Reading.{got, fault, yield, mapped}
+use mathlib.Core.Path.{sym, ap, _∙_}
+use Rattle.expr.specs.Reading.{fault, yield}
 use Rattle.expr.specs.Guard.{dataGuard, holds}
-use Rattle.expr.specs.Places.{onward, byteOf, valueOf, faultOf, byteFault, valueFault}
+use Rattle.expr.specs.Places.{byteOf, valueOf, faultOf, byteFault, valueFault}
 use Rattle.expr.proofs.Places.{bind-got, bind-fault, answered}
 use Rattle.expr.proofs.Reading.{mapped-got, mapped-fault, mapped-at, fault-at}
 use Rattle.expr.proofs.Integers.{read-back}
@@ -10,76 +9,54 @@ use Rattle.expr.proofs.Guards.{relation-got, relation-fault}
 use borrow.Author.Needs.{needs}
 use Rattle.expr.proofs.guard.data_guard_holds.Statement.{statement}
 use Rattle.expr.proofs.guard.data_guard_holds.Tie as tie
-use Rattle.expr.proofs.guard.data_guard_holds.Reads as reads
-use Rattle.expr.proofs.guard.data_guard_holds.Lts as lts
-use Rattle.expr.proofs.field.byte_fault.Reads as byte-fault-reads
-use Rattle.expr.proofs.field.read_byte_below.Reads as read-byte-below-reads
-use Rattle.expr.proofs.field.value_fault.Reads as value-fault-reads
-use Rattle.expr.proofs.guard.value_at.Reads as value-at-reads
-use Rattle.expr.proofs.signed.compare.Reads as compare-reads
 
--- src/guard.rt:157:9
 read-byte-below-requires : tie.Need-read-byte-below-requires
 read-byte-below-requires c κs = search needs
 
--- src/guard.rt:158:25
 enum-known-k : tie.Need-enum-known-k
 enum-known-k c = search needs
 
--- src/guard.rt:159:32
 enum-told : tie.Need-enum-told
 enum-told c = search needs
 
--- src/guard.rt:159:32
 byte-fault-requires : tie.Need-byte-fault-requires
 byte-fault-requires c κs = search needs
 
--- src/guard.rt:159:9
 returns : tie.Need-returns
 unfolding dataGuard yield holds
 returns c = λ l times. ap (λ f. fault (faultOf f)) (c .byte-fault .ensures ∙ ap byteFault (c .before .enum-told .given .1))
     ∙ sym (mapped-fault _ (bind-fault _ _ _ (relation-fault _ (answered (byteOf _) (c .before .before .before .read-byte-below .ensures) (c .before .enum-told .given .1)))))
 
--- src/guard.rt:161:9
 value-at-requires : tie.Need-value-at-requires
 value-at-requires c κs = search needs
 
--- src/guard.rt:162:26
 enum-known-v : tie.Need-enum-known-v
 enum-known-v c = search needs
 
--- src/guard.rt:163:32
 enum-told-2 : tie.Need-enum-told-2
 enum-told-2 c = search needs
 
--- src/guard.rt:163:32
 value-fault-requires : tie.Need-value-fault-requires
 value-fault-requires c κs = search needs
 
--- src/guard.rt:163:9
 returns-2 : tie.Need-returns-2
 unfolding dataGuard yield holds
 returns-2 c = λ l times. ap (λ f. fault (faultOf f)) (c .value-fault .ensures ∙ ap valueFault (c .before .enum-told2 .given .1))
     ∙ sym (mapped-fault _ (bind-got _ _ _ (relation-got _ (answered (byteOf _) (c .before .before .before .before .before .before .before .read-byte-below .ensures) (c .before .before .before .before .before .k .given .1)))
     ∙ bind-fault _ _ _ (fault-at _ _ (answered (valueOf _) (c .before .before .before .value-at .ensures) (c .before .enum-told2 .given .1)))))
 
--- src/guard.rt:165:9
 value-at-requires-2 : tie.Need-value-at-requires-2
 value-at-requires-2 c κs = search needs
 
--- src/guard.rt:166:26
 enum-known-w : tie.Need-enum-known-w
 enum-known-w c = search needs
 
--- src/guard.rt:167:32
 enum-told-3 : tie.Need-enum-told-3
 enum-told-3 c = search needs
 
--- src/guard.rt:167:32
 value-fault-requires-2 : tie.Need-value-fault-requires-2
 value-fault-requires-2 c κs = search needs
 
--- src/guard.rt:167:9
 returns-3 : tie.Need-returns-3
 unfolding dataGuard yield holds
 returns-3 c = λ l times. ap (λ f. fault (faultOf f)) (c .value-fault2 .ensures ∙ ap valueFault (c .before .enum-told3 .given .1))
@@ -87,11 +64,9 @@ returns-3 c = λ l times. ap (λ f. fault (faultOf f)) (c .value-fault2 .ensures
     ∙ bind-got _ _ _ (mapped-at _ _ (answered (valueOf _) (c .before .before .before .before .before .before .before .value-at .ensures) (c .before .before .before .before .before .v .given .1)) .1)
     ∙ bind-fault _ _ _ (fault-at _ _ (answered (valueOf _) (c .before .before .before .value-at2 .ensures) (c .before .enum-told3 .given .1)))))
 
--- src/guard.rt:169:21
 compare-requires : tie.Need-compare-requires
 compare-requires c κs = search needs
 
--- src/guard.rt:154:1
 returns-4 : tie.Need-returns-4
 unfolding dataGuard yield holds
 returns-4 c = λ l times.

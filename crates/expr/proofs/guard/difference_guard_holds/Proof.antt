@@ -1,87 +1,61 @@
-use mathlib.Core.Path.{_≡_, refl, sym, ap, ap₂, _∙_}
-use native.Mathlib.Omega.{arith}
-use Prim.Native.Nat.{_+_}
-use Rattle.expr.specs.Reading.{got, fault, yield, mapped, skipped}
-use Rattle.expr.specs.Guard.{dataGuard, clockGuard, differenceGuard, clock, holds, compareℕ}
-use Rattle.expr.specs.Places.{onward, byteOf, wordOf, reached, faultOf, byteFault, wordFault}
+use mathlib.Core.Path.{sym, ap, _∙_}
+use Rattle.expr.specs.Reading.{fault, yield}
+use Rattle.expr.specs.Guard.{differenceGuard, clock, holds}
+use Rattle.expr.specs.Places.{byteOf, wordOf, faultOf, byteFault, wordFault}
 use Rattle.expr.proofs.Places.{bind-got, bind-fault, answered}
-use Rattle.expr.proofs.Reading.{mapped-got, mapped-fault, mapped-at, fault-at}
+use Rattle.expr.proofs.Reading.{mapped-got, mapped-fault}
 use Rattle.expr.proofs.Guards.{relation-got, relation-fault}
 use borrow.Author.Needs.{needs}
 use Rattle.expr.proofs.guard.difference_guard_holds.Statement.{statement}
 use Rattle.expr.proofs.guard.difference_guard_holds.Tie as tie
-use Rattle.expr.proofs.guard.difference_guard_holds.Reads as reads
-use Rattle.expr.proofs.guard.difference_guard_holds.Lts as lts
-use Rattle.expr.proofs.field.byte_fault.Reads as byte-fault-reads
-use Rattle.expr.proofs.field.read_byte_below.Reads as read-byte-below-reads
-use Rattle.expr.proofs.field.word_fault.Reads as word-fault-reads
-use Rattle.expr.proofs.guard.read_ticks.Reads as read-ticks-reads
-use Rattle.expr.proofs.guard.sum_of.Reads as sum-of-reads
-use Rattle.expr.proofs.guard.time_of.Reads as time-of-reads
-use Rattle.expr.proofs.signed.compare_clocks.Reads as compare-clocks-reads
 
--- src/guard.rt:119:9
 read-byte-below-requires : tie.Need-read-byte-below-requires
 read-byte-below-requires c κs = search needs
 
--- src/guard.rt:120:25
 enum-known-c : tie.Need-enum-known-c
 enum-known-c c = search needs
 
--- src/guard.rt:121:32
 enum-told : tie.Need-enum-told
 enum-told c = search needs
 
--- src/guard.rt:121:32
 byte-fault-requires : tie.Need-byte-fault-requires
 byte-fault-requires c κs = search needs
 
--- src/guard.rt:121:9
 returns : tie.Need-returns
 unfolding differenceGuard clock yield holds
 returns c = λ v vars. ap (λ f. fault (faultOf f)) (c .byte-fault .ensures ∙ ap byteFault (c .before .enum-told .given .1))
     ∙ sym (mapped-fault _ (bind-fault _ _ _ ((answered (byteOf _) (c .before .before .before .read-byte-below .ensures) (c .before .enum-told .given .1)))))
 
--- src/guard.rt:123:9
 read-byte-below-requires-2 : tie.Need-read-byte-below-requires-2
 read-byte-below-requires-2 c κs = search needs
 
--- src/guard.rt:124:25
 enum-known-d : tie.Need-enum-known-d
 enum-known-d c = search needs
 
--- src/guard.rt:125:32
 enum-told-2 : tie.Need-enum-told-2
 enum-told-2 c = search needs
 
--- src/guard.rt:125:32
 byte-fault-requires-2 : tie.Need-byte-fault-requires-2
 byte-fault-requires-2 c κs = search needs
 
--- src/guard.rt:125:9
 returns-2 : tie.Need-returns-2
 unfolding differenceGuard clock yield holds
 returns-2 c = λ v vars. ap (λ f. fault (faultOf f)) (c .byte-fault2 .ensures ∙ ap byteFault (c .before .enum-told2 .given .1))
     ∙ sym (mapped-fault _ (bind-got _ _ _ ((answered (byteOf _) (c .before .before .before .before .before .before .before .read-byte-below .ensures) (c .before .before .before .before .before .c .given .1)))
     ∙ bind-fault _ _ _ ((answered (byteOf _) (c .before .before .before .read-byte-below2 .ensures) (c .before .enum-told2 .given .1)))))
 
--- src/guard.rt:127:9
 read-byte-below-requires-3 : tie.Need-read-byte-below-requires-3
 read-byte-below-requires-3 c κs = search needs
 
--- src/guard.rt:128:25
 enum-known-k : tie.Need-enum-known-k
 enum-known-k c = search needs
 
--- src/guard.rt:129:32
 enum-told-3 : tie.Need-enum-told-3
 enum-told-3 c = search needs
 
--- src/guard.rt:129:32
 byte-fault-requires-3 : tie.Need-byte-fault-requires-3
 byte-fault-requires-3 c κs = search needs
 
--- src/guard.rt:129:9
 returns-3 : tie.Need-returns-3
 unfolding differenceGuard clock yield holds
 returns-3 c = λ v vars. ap (λ f. fault (faultOf f)) (c .byte-fault3 .ensures ∙ ap byteFault (c .before .enum-told3 .given .1))
@@ -89,23 +63,18 @@ returns-3 c = λ v vars. ap (λ f. fault (faultOf f)) (c .byte-fault3 .ensures �
     ∙ bind-got _ _ _ ((answered (byteOf _) (c .before .before .before .before .before .before .before .read-byte-below2 .ensures) (c .before .before .before .before .before .d .given .1)))
     ∙ bind-fault _ _ _ (relation-fault _ (answered (byteOf _) (c .before .before .before .read-byte-below3 .ensures) (c .before .enum-told3 .given .1)))))
 
--- src/guard.rt:131:9
 read-ticks-requires : tie.Need-read-ticks-requires
 read-ticks-requires c κs = search needs
 
--- src/guard.rt:132:25
 enum-known-w : tie.Need-enum-known-w
 enum-known-w c = search needs
 
--- src/guard.rt:133:32
 enum-told-4 : tie.Need-enum-told-4
 enum-told-4 c = search needs
 
--- src/guard.rt:133:32
 word-fault-requires : tie.Need-word-fault-requires
 word-fault-requires c κs = search needs
 
--- src/guard.rt:133:9
 returns-4 : tie.Need-returns-4
 unfolding differenceGuard clock yield holds
 returns-4 c = λ v vars. ap (λ f. fault (faultOf f)) (c .word-fault .ensures ∙ ap wordFault (c .before .enum-told4 .given .1))
@@ -114,23 +83,18 @@ returns-4 c = λ v vars. ap (λ f. fault (faultOf f)) (c .word-fault .ensures �
     ∙ bind-got _ _ _ (relation-got _ (answered (byteOf _) (c .before .before .before .before .before .before .before .read-byte-below3 .ensures) (c .before .before .before .before .before .k .given .1)))
     ∙ bind-fault _ _ _ ((answered (wordOf _) (c .before .before .before .read-ticks .ensures) (c .before .enum-told4 .given .1)))))
 
--- src/guard.rt:135:54
 time-of-requires : tie.Need-time-of-requires
 time-of-requires c κs = search needs
 
--- src/guard.rt:135:84
 time-of-requires-2 : tie.Need-time-of-requires-2
 time-of-requires-2 c κs = search needs
 
--- src/guard.rt:135:77
 sum-of-requires : tie.Need-sum-of-requires
 sum-of-requires c κs = search needs
 
--- src/guard.rt:135:21
 compare-clocks-requires : tie.Need-compare-clocks-requires
 compare-clocks-requires c κs = search needs
 
--- src/guard.rt:116:1
 returns-5 : tie.Need-returns-5
 unfolding differenceGuard clock yield holds
 returns-5 c = λ v vars. rw (c .compare-clocks .ensures, c .before .sum-of .ensures, c .before .before .time-of2 .ensures .0, c .before .before .before .time-of .ensures .0)

@@ -1,4 +1,4 @@
-use mathlib.Core.Path.{_≡_, refl, sym, ap, _∙_}
+use mathlib.Core.Path.{sym, ap, _∙_}
 use native.Mathlib.Omega.{arith}
 use lib.ListN.{length}
 use Rattle.expr.specs.Reading.{skipped}
@@ -9,49 +9,36 @@ use Rattle.expr.proofs.Expressions.{read-empty}
 use borrow.Author.Needs.{needs}
 use Rattle.expr.proofs.guard.expression_at.Statement.{statement}
 use Rattle.expr.proofs.guard.expression_at.Tie as tie
-use Rattle.expr.proofs.guard.expression_at.Reads as reads
-use Rattle.expr.proofs.guard.expression_at.Lts as lts
-use Rattle.expr.proofs.expression.read_expression.Reads as read-expression-reads
 
--- src/guard.rt:26:9
 returns : tie.Need-returns
 unfolding skipped
 returns c = sym (read-empty _ _ _ _ (length-onward _ _ ∙ omega arith))
 
--- src/guard.rt:28:41
 sub-read-expression : tie.Need-sub-read-expression
 sub-read-expression c = search needs
 
--- src/guard.rt:28:41
 part-read-expression-start : tie.Need-part-read-expression-start
 part-read-expression-start c = search needs
 
--- src/guard.rt:28:41
 part-read-expression-end : tie.Need-part-read-expression-end
 part-read-expression-end c = search needs
 
--- src/guard.rt:28:9
 read-expression-requires : tie.Need-read-expression-requires
 read-expression-requires c κs = search needs
 
--- src/guard.rt:29:21
 enum-known-q : tie.Need-enum-known-q
 enum-known-q c = search needs
 
--- src/guard.rt:30:9
 enum-told : tie.Need-enum-told
 enum-told c = search needs
 
--- src/guard.rt:30:9
 returns-2 : tie.Need-returns-2
 returns-2 c = let a = c .before .before .before .before .before .before .args in
     ap (reached _ tt) (c .enum-told .given .1) ∙ sym (part-fault (λ b. skipped (expression (a .variables) 8 b)) (a .s .now) (a .at) (answered (reached _ tt) (c .before .before .read-expression .ensures .0) (c .enum-told .given .1)))
 
--- src/guard.rt:32:17
 add-t6 : tie.Need-add-t6
 add-t6 c = let a = c .before .before .before .before .before .before .before in omega (arith, ap reachedEnd (c .before .q .given .1), c .before .before .before .read-expression .ensures .1, part-length (a .args .s .now) (a .args .at) (length (a .args .s .now)) (c .before .before .before .before .before .if1 .left) (omega arith))
 
--- src/guard.rt:22:1
 returns-3 : tie.Need-returns-3
 returns-3 c = let a = c .before .before .before .before .before .before .before .args in
     sym (part-got (λ b. skipped (expression (a .variables) 8 b)) (a .s .now) (a .at) _ (answered (reached _ tt) (c .before .before .before .read-expression .ensures .0) (c .before .q .given .1)))

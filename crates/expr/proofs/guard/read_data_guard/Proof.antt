@@ -1,66 +1,50 @@
-use mathlib.Core.Path.{_≡_, refl, sym, ap, _∙_}
-use Rattle.expr.specs.Reading.{got, fault, yield, mapped, skipped}
+use mathlib.Core.Path.{sym, ap, _∙_}
+use Rattle.expr.specs.Reading.{fault, yield, mapped, skipped}
 use Rattle.expr.specs.Expression.{expression}
 use Rattle.expr.specs.Guard.{dataGuard}
-use Rattle.expr.specs.Places.{onward, byteOf, reached, faultOf, byteFault}
+use Rattle.expr.specs.Places.{byteOf, reached, faultOf, byteFault}
 use Rattle.expr.proofs.Places.{bind-got, bind-fault, answered}
-use Rattle.expr.proofs.Reading.{mapped-got, mapped-fault, mapped-at, fault-at, mapped-yield}
+use Rattle.expr.proofs.Reading.{mapped-fault, mapped-at, fault-at, mapped-yield}
 use Rattle.expr.proofs.Guards.{relation-got, relation-fault}
 use borrow.Author.Needs.{needs}
 use Rattle.expr.proofs.guard.read_data_guard.Statement.{statement}
 use Rattle.expr.proofs.guard.read_data_guard.Tie as tie
-use Rattle.expr.proofs.guard.read_data_guard.Reads as reads
-use Rattle.expr.proofs.guard.read_data_guard.Lts as lts
-use Rattle.expr.proofs.field.byte_fault.Reads as byte-fault-reads
-use Rattle.expr.proofs.field.read_byte_below.Reads as read-byte-below-reads
-use Rattle.expr.proofs.guard.expression_at.Reads as expression-at-reads
 
--- src/guard.rt:79:9
 read-byte-below-requires : tie.Need-read-byte-below-requires
 read-byte-below-requires c κs = search needs
 
--- src/guard.rt:80:28
 enum-known-k : tie.Need-enum-known-k
 enum-known-k c = search needs
 
--- src/guard.rt:81:31
 enum-told : tie.Need-enum-told
 enum-told c = search needs
 
--- src/guard.rt:81:31
 byte-fault-requires : tie.Need-byte-fault-requires
 byte-fault-requires c κs = search needs
 
--- src/guard.rt:81:9
 returns : tie.Need-returns
 unfolding dataGuard skipped yield
 returns c = λ l. ap (λ f. fault (faultOf f)) (c .byte-fault .ensures ∙ ap byteFault (c .before .enum-told .given .1))
     ∙ sym (mapped-fault _ (bind-fault _ _ _ (relation-fault _ (answered (byteOf _) (c .before .before .before .read-byte-below .ensures) (c .before .enum-told .given .1)))))
 
--- src/guard.rt:83:9
 expression-at-requires : tie.Need-expression-at-requires
 expression-at-requires c κs = search needs
 
--- src/guard.rt:84:21
 enum-known-a : tie.Need-enum-known-a
 enum-known-a c = search needs
 
--- src/guard.rt:85:9
 enum-told-2 : tie.Need-enum-told-2
 enum-told-2 c = search needs
 
--- src/guard.rt:85:9
 returns-2 : tie.Need-returns-2
 unfolding dataGuard skipped yield
 returns-2 c = λ l. ap (reached _ tt) (c .enum-told2 .given .1)
     ∙ sym (mapped-fault _ (bind-got _ _ _ (relation-got _ (answered (byteOf _) (c .before .before .before .before .before .before .read-byte-below .ensures) (c .before .before .before .before .k .given .1)))
     ∙ bind-fault _ _ _ (fault-at _ _ (answered (reached _ tt) (c .before .before .expression-at .ensures) (c .enum-told2 .given .1)))))
 
--- src/guard.rt:87:5
 expression-at-requires-2 : tie.Need-expression-at-requires-2
 expression-at-requires-2 c κs = search needs
 
--- src/guard.rt:76:1
 returns-3 : tie.Need-returns-3
 unfolding dataGuard skipped yield
 returns-3 c = λ l. c .expression-at2 .ensures

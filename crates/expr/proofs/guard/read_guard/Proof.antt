@@ -1,75 +1,52 @@
-use mathlib.Core.Path.{_≡_, refl, sym, ap, _∙_}
-use native.Mathlib.Omega.{arith}
-use mathlib.Core.List.{[], _∷_}
-use Rattle.expr.specs.Reading.{got, fault, mapped, skipped}
-use Rattle.expr.specs.Guard.{guard}
-use Rattle.expr.specs.Places.{onward, byteOf, testOf, reached, faultOf, byteFault, testReached}
+use mathlib.Core.Path.{sym, ap, _∙_}
+use mathlib.Core.List.{[]}
+use Rattle.expr.specs.Reading.{fault, skipped}
+use Rattle.expr.specs.Places.{byteOf, faultOf, byteFault}
 use Rattle.expr.proofs.Places.{answered, test-skipped}
 use Rattle.expr.proofs.Reading.{mapped-fault, skipped-mapped}
 use Rattle.expr.proofs.Guards.{guard-data, guard-clock, guard-difference, guard-fault}
 use borrow.Author.Needs.{needs}
 use Rattle.expr.proofs.guard.read_guard.Statement.{statement}
 use Rattle.expr.proofs.guard.read_guard.Tie as tie
-use Rattle.expr.proofs.guard.read_guard.Reads as reads
-use Rattle.expr.proofs.guard.read_guard.Lts as lts
-use Rattle.expr.proofs.field.byte_fault.Reads as byte-fault-reads
-use Rattle.expr.proofs.field.read_byte_below.Reads as read-byte-below-reads
-use Rattle.expr.proofs.guard.clock_guard_holds.Reads as clock-guard-holds-reads
-use Rattle.expr.proofs.guard.difference_guard_holds.Reads as difference-guard-holds-reads
-use Rattle.expr.proofs.guard.read_data_guard.Reads as read-data-guard-reads
-use Rattle.expr.proofs.guard.test_reached.Reads as test-reached-reads
 
--- src/guard.rt:176:9
 read-byte-below-requires : tie.Need-read-byte-below-requires
 read-byte-below-requires c κs = search needs
 
--- src/guard.rt:177:25
 enum-known-b : tie.Need-enum-known-b
 enum-known-b c = search needs
 
--- src/guard.rt:178:31
 enum-told : tie.Need-enum-told
 enum-told c = search needs
 
--- src/guard.rt:178:31
 byte-fault-requires : tie.Need-byte-fault-requires
 byte-fault-requires c κs = search needs
 
--- src/guard.rt:178:9
 returns : tie.Need-returns
 unfolding skipped
 returns c = ap (λ f. fault (faultOf f)) (c .byte-fault .ensures ∙ ap byteFault (c .before .enum-told .given .1))
     ∙ sym (mapped-fault _ (guard-fault _ _ (answered (byteOf _) (c .before .before .before .read-byte-below .ensures) (c .before .enum-told .given .1))))
 
--- src/guard.rt:181:14
 read-data-guard-requires : tie.Need-read-data-guard-requires
 read-data-guard-requires c κs = search needs
 
--- src/guard.rt:182:27
 clock-guard-holds-requires : tie.Need-clock-guard-holds-requires
 clock-guard-holds-requires c κs = search needs
 
--- src/guard.rt:182:14
 test-reached-requires : tie.Need-test-reached-requires
 test-reached-requires c κs = search needs
 
--- src/guard.rt:183:27
 difference-guard-holds-requires : tie.Need-difference-guard-holds-requires
 difference-guard-holds-requires c κs = search needs
 
--- src/guard.rt:183:14
 test-reached-requires-2 : tie.Need-test-reached-requires-2
 test-reached-requires-2 c κs = search needs
 
--- src/guard.rt:173:1
 returns-2 : tie.Need-returns-2
 returns-2 c = c .read-data-guard .ensures _ ∙ sym (ap skipped (guard-data _ _ (answered (byteOf _) (c .before .before .before .before .before .read-byte-below .ensures) (c .before .before .before .b .given .1)) (c .before .match2 .keys1)))
 
--- src/guard.rt:173:1
 returns-3 : tie.Need-returns-3
 returns-3 c = test-skipped _ (c .before .clock-guard-holds .result) (c .test-reached .ensures) (c .before .clock-guard-holds .ensures _ []) ∙ skipped-mapped _ _ ∙ sym (ap skipped (guard-clock _ _ (answered (byteOf _) (c .before .before .before .before .before .before .read-byte-below .ensures) (c .before .before .before .before .b .given .1)) (c .before .before .match2 .keys2)))
 
--- src/guard.rt:173:1
 returns-4 : tie.Need-returns-4
 returns-4 c = test-skipped _ (c .before .difference-guard-holds .result) (c .test-reached2 .ensures) (c .before .difference-guard-holds .ensures _ []) ∙ skipped-mapped _ _ ∙ sym (ap skipped (guard-difference _ _ (answered (byteOf _) (c .before .before .before .before .before .before .read-byte-below .ensures) (c .before .before .before .before .b .given .1)) (c .before .before .match2 .rest .0 .1) (c .before .before .match2 .rest .1)))
 

@@ -6,33 +6,24 @@ use Rattle.expr.proofs.Places.{such-got, such-not, such-fault, answered
 use borrow.Author.Needs.{needs}
 use Rattle.expr.proofs.guard.read_ticks.Statement.{statement}
 use Rattle.expr.proofs.guard.read_ticks.Tie as tie
-use Rattle.expr.proofs.guard.read_ticks.Reads as reads
-use Rattle.expr.proofs.guard.read_ticks.Lts as lts
-use Rattle.expr.proofs.field.read_word.Reads as read-word-reads
 
--- src/guard.rt:19:9
 read-word-requires : tie.Need-read-word-requires
 read-word-requires c κs = search needs
 
--- src/guard.rt:20:25
 enum-known-w : tie.Need-enum-known-w
 enum-known-w c = search needs
 
--- src/guard.rt:21:9
 enum-told : tie.Need-enum-told
 enum-told c = search needs
 
--- src/guard.rt:21:9
 returns : tie.Need-returns
 unfolding ticks
 returns c = ap (wordOf _) (c .enum-told .given .1) ∙ sym (such-fault _ _ _ (answered (wordOf _) (c .before .before .read-word .ensures .0) (c .enum-told .given .1)))
 
--- src/guard.rt:16:1
 returns-2 : tie.Need-returns-2
 unfolding ticks
 returns-2 c = sym (such-got _ _ _ (answered (wordOf _) (c .before .before .before .before .read-word .ensures .0) (c .before .before .w .given .1)) (lt-ltb _ _ (c .if1 .taken)))
 
--- src/guard.rt:16:1
 returns-3 : tie.Need-returns-3
 unfolding ticks
 returns-3 c = sym (such-not _ _ _ (answered (wordOf _) (c .before .before .before .before .read-word .ensures .0) (c .before .before .w .given .1)) (le-ltb _ _ (c .if1 .left)))

@@ -1,22 +1,16 @@
 use borrow.Author.Needs.{needs}
 use Rattle.expr.proofs.guard.test_reached.Statement.{statement}
 use Rattle.expr.proofs.guard.test_reached.Tie as tie
-use Rattle.expr.proofs.guard.test_reached.Reads as reads
-use Rattle.expr.proofs.guard.test_reached.Lts as lts
 
--- src/guard.rt:70:28
 enum-known-t : tie.Need-enum-known-t
 enum-known-t c = search needs
 
--- src/guard.rt:71:25
 enum-known-t-2 : tie.Need-enum-known-t-2
 enum-known-t-2 c = search needs
 
--- src/guard.rt:66:1
 returns : tie.Need-returns
 returns c = rw (c .before .t .given .1)
 
--- src/guard.rt:66:1
 returns-2 : tie.Need-returns-2
 returns-2 c = rw (c .before .t2 .given .1)
 

@@ -4,27 +4,19 @@ use lib.ListN.{length, List·getD-eq-default}
 use borrow.Author.Needs.{needs}
 use Rattle.expr.proofs.guard.time_of.Statement.{statement}
 use Rattle.expr.proofs.guard.time_of.Tie as tie
-use Rattle.expr.proofs.guard.time_of.Reads as reads
-use Rattle.expr.proofs.guard.time_of.Lts as lts
-use Rattle.expr.proofs.guard.wide.Reads as wide-reads
 
--- src/guard.rt:61:21
 mul-wide : tie.Need-mul-wide
 mul-wide c = search needs
 
--- src/guard.rt:61:21
 array-read-wide : tie.Need-array-read-wide
 array-read-wide c = search needs
 
--- src/guard.rt:61:16
 wide-requires : tie.Need-wide-requires
 wide-requires c κs = search needs
 
--- src/guard.rt:56:1
 returns : tie.Need-returns
 returns c = search needs
 
--- src/guard.rt:56:1
 returns-2 : tie.Need-returns-2
 returns-2 c = let l : length (c .before .args .t1) ≡ 8 = search needs in (sym (List·getD-eq-default (c .before .args .t1) 0 {n = c .before .args .clock} (omega arith)), omega arith)
 

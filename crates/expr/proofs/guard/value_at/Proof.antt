@@ -1,4 +1,4 @@
-use mathlib.Core.Path.{_≡_, refl, sym, ap, _∙_}
+use mathlib.Core.Path.{sym, ap, _∙_}
 use native.Mathlib.Omega.{arith}
 use lib.ListN.{length}
 use Rattle.expr.specs.Reading.{mapped}
@@ -10,48 +10,35 @@ use Rattle.expr.proofs.Integers.{read-back}
 use borrow.Author.Needs.{needs}
 use Rattle.expr.proofs.guard.value_at.Statement.{statement}
 use Rattle.expr.proofs.guard.value_at.Tie as tie
-use Rattle.expr.proofs.guard.value_at.Reads as reads
-use Rattle.expr.proofs.guard.value_at.Lts as lts
-use Rattle.expr.proofs.expression.evaluate.Reads as evaluate-reads
 
--- src/guard.rt:41:9
 returns : tie.Need-returns
 returns c = sym (read-empty _ _ _ _ (length-onward _ _ ∙ omega arith))
 
--- src/guard.rt:43:34
 sub-evaluate : tie.Need-sub-evaluate
 sub-evaluate c = search needs
 
--- src/guard.rt:43:34
 part-evaluate-start : tie.Need-part-evaluate-start
 part-evaluate-start c = search needs
 
--- src/guard.rt:43:34
 part-evaluate-end : tie.Need-part-evaluate-end
 part-evaluate-end c = search needs
 
--- src/guard.rt:43:9
 evaluate-requires : tie.Need-evaluate-requires
 evaluate-requires c κs = search needs
 
--- src/guard.rt:44:26
 enum-known-v : tie.Need-enum-known-v
 enum-known-v c = search needs
 
--- src/guard.rt:45:9
 enum-told : tie.Need-enum-told
 enum-told c = search needs
 
--- src/guard.rt:45:9
 returns-2 : tie.Need-returns-2
 returns-2 c = let a = c .before .before .before .before .before .before .args in
     ap (valueOf _) (c .enum-told .given .1) ∙ sym (part-fault (λ b. mapped (value (a .values .now)) (expression (a .variables) 8 b)) (a .s .now) (a .at) (answered (valueOf _) (c .before .before .evaluate .ensures .0) (c .enum-told .given .1)))
 
--- src/guard.rt:47:25
 add-t8 : tie.Need-add-t8
 add-t8 c = let a = c .before .before .before .before .before .before .before in omega (arith, ap valueEnd (c .before .v .given .1), c .before .before .before .evaluate .ensures .1, part-length (a .args .s .now) (a .args .at) (length (a .args .s .now)) (c .before .before .before .before .before .if1 .left) (omega arith))
 
--- src/guard.rt:37:1
 returns-3 : tie.Need-returns-3
 returns-3 c = let a = c .before .before .before .before .before .before .before .args in
     rw (read-back (c .before .v .given .0 .0) (c .known-told .given .0 .1)) (sym (part-got (λ b. mapped (value (a .values .now)) (expression (a .variables) 8 b)) (a .s .now) (a .at) _ (answered (valueOf _) (c .before .before .before .evaluate .ensures .0) (c .before .v .given .1))))

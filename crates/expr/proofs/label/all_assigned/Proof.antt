@@ -1,15 +1,14 @@
 use mathlib.Core.Path.{_≡_, refl, sym, ap, ap₂, _∙_}
-use mathlib.Core.Bool.{true, false}
 use mathlib.Core.List.{List, []}
-use Prim.Native.Nat.{ℕ, _-_, _<_}
+use Prim.Native.Nat.{_-_}
 use native.Mathlib.Omega.{arith}
 use lib.IntN.{ℤ}
 use Rattle.expr.proofs.Integers.{read-back}
 use borrow.Author.Needs.{needs}
 use lib.ListN.{length, set, length-set}
-use Rattle.expr.specs.Reading.{got, fault, many, yield}
+use Rattle.expr.specs.Reading.{got, yield}
 use Rattle.expr.specs.Guard.{Update, limits, update, assign}
-use Rattle.expr.specs.Expression.{Expr, value, expression}
+use Rattle.expr.specs.Expression.{Expr, value}
 use Rattle.expr.specs.Places.{onward, byteOf, valueOf}
 use Rattle.expr.proofs.Places.{answered, bind-got, bind-fault}
 use Rattle.expr.proofs.Reading.{no-answer, got-value, mapped-at, fault-at}
@@ -17,10 +16,6 @@ use Rattle.expr.proofs.Labels.{update-known, assign-more}
 use Rattle.expr.proofs.Many.{Going, going-none, going-more, going-stop, going-all}
 use Rattle.expr.proofs.label.all_assigned.Statement.{statement}
 use Rattle.expr.proofs.label.all_assigned.Tie as tie
-use Rattle.expr.proofs.label.all_assigned.Reads as reads
-use Rattle.expr.proofs.label.all_assigned.Lts as lts
-use Rattle.expr.proofs.field.read_byte_below.Reads as read-byte-below-reads
-use Rattle.expr.proofs.guard.value_at.Reads as value-at-reads
 
 abbrev Inv-loop : tie.InvT-loop
 Inv-loop s at count variables old values₀ place₀ i₀ values place i = (us : List Update) × Going (update (limits 0 variables)) count (onward s at) (onward s place) i us × (values ≡ assign old us values₀) × (length values ≡ 16)
@@ -29,9 +24,9 @@ abbrev μ-loop : tie.MeasureT-loop
 μ-loop s at count variables old values₀ place₀ i₀ values place i = count - i
 
 -- the assignment that was read
-read : (c : tie.After-known-told2 Inv-loop μ-loop) → let a = c .before .before .before .before .before .before .before .before .before .before .before .args in (e : Expr) × (update (limits 0 (a .variables)) (onward (a .s .now) (c .before .before .before .before .before .before .before .before .before .loop .place)) ≡ got (record { target = c .before .before .before .before .before .b .given .0 .0; expr = e }) (onward (a .s .now) (c .before .v .given .0 .1 .0))) × (value (a .old .now) e ≡ c .before .v .given .0 .0)
+read : (c : tie.After-known-told2 Inv-loop μ-loop) → let a = c .before .before .before .before .before .before .before .before .before .before .before .args in (e : Expr) × (update (limits 0 (a .variables)) (onward (a .s .now) (c .before .before .before .before .before .before .before .before .before .loop .place)) ≡ got (record { target = c .before .before .before .before .before .b .given .0 .0; expr = e }) (onward (a .s .now) (c .before .v .given .0 .1 .0))) × (value (a .old) e ≡ c .before .v .given .0 .0)
 unfolding update yield
-read c = let m = mapped-at _ _ (answered (valueOf _) (c .before .before .before .value-at .ensures) (c .before .v .given .1)) in
+read c = let m = mapped-at _ _ (answered (valueOf _) (c .before .before .before .value-from .ensures) (c .before .v .given .1)) in
     (m .0, bind-got _ _ _ (answered (byteOf _) (c .before .before .before .before .before .before .before .read-byte-below .ensures) (c .before .before .before .before .before .b .given .1)) ∙ bind-got _ _ _ (m .1), m .2)
 
 loop-holds : tie.Need-loop-holds Inv-loop μ-loop
@@ -51,8 +46,8 @@ returns : tie.Need-returns Inv-loop μ-loop
 unfolding update
 returns c = λ us t e. no-answer (sym (going-stop _ _ _ (c .before .before .before .before .loop .inv .1) (c .before .before .before .loop-test .taken) (bind-fault _ _ _ (answered (byteOf _) (c .before .before .read-byte-below .ensures) (c .enum-told .given .1)))) ∙ e)
 
-value-at-requires : tie.Need-value-at-requires Inv-loop μ-loop
-value-at-requires c κs = search needs
+value-from-requires : tie.Need-value-from-requires Inv-loop μ-loop
+value-from-requires c κs = search needs
 
 enum-known-v : tie.Need-enum-known-v Inv-loop μ-loop
 enum-known-v c = search needs
@@ -62,7 +57,7 @@ enum-told-2 c = search needs
 
 returns-2 : tie.Need-returns-2 Inv-loop μ-loop
 unfolding update
-returns-2 c = λ us t e. no-answer (sym (going-stop _ _ _ (c .before .before .before .before .before .before .before .before .loop .inv .1) (c .before .before .before .before .before .before .before .loop-test .taken) (bind-got _ _ _ (answered (byteOf _) (c .before .before .before .before .before .before .read-byte-below .ensures) (c .before .before .before .before .b .given .1)) ∙ bind-fault _ _ _ (fault-at _ _ (answered (valueOf _) (c .before .before .value-at .ensures) (c .enum-told2 .given .1))))) ∙ e)
+returns-2 c = λ us t e. no-answer (sym (going-stop _ _ _ (c .before .before .before .before .before .before .before .before .loop .inv .1) (c .before .before .before .before .before .before .before .loop-test .taken) (bind-got _ _ _ (answered (byteOf _) (c .before .before .before .before .before .before .read-byte-below .ensures) (c .before .before .before .before .b .given .1)) ∙ bind-fault _ _ _ (fault-at _ _ (answered (valueOf _) (c .before .before .value-from .ensures) (c .enum-told2 .given .1))))) ∙ e)
 
 cast-j : tie.Need-cast-j Inv-loop μ-loop
 cast-j c = search needs
@@ -85,7 +80,7 @@ loop-again c = let g = c .before .before .before .before .before .before .before
     (_, going-more _ _ _ (g .1) (c .before .before .before .before .before .before .before .before .loop-test .taken) (r .1), ap₂ (λ (vs : List ℤ) (z : ℤ). set vs (c .before .before .before .before .before .b .given .0 .0) z) (g .2) (read-back (c .before .v .given .0 .0) (c .known-told2 .given .0 .1) ∙ sym (r .2)) ∙ sym (assign-more _ (g .0) _ _), simp length-set (g .3))
 
 returns-3 : tie.Need-returns-3 Inv-loop μ-loop
-returns-3 c = λ us t e. let g = c .before .loop .inv in g .2 ∙ ap (λ (us : List Update). assign (c .before .before .before .args .old .now) us (c .before .before .before .args .new)) (sym (got-value (sym e ∙ going-all _ _ _ (g .1) (c .loop-test .left) .0)))
+returns-3 c = λ us t e. let g = c .before .loop .inv in g .2 ∙ ap (λ (us : List Update). assign (c .before .before .before .args .old) us (c .before .before .before .args .new)) (sym (got-value (sym e ∙ going-all _ _ _ (g .1) (c .loop-test .left) .0)))
 
 pub all-assigned-spec : {M : Type 1} → statement M
 all-assigned-spec =
@@ -98,7 +93,7 @@ all-assigned-spec =
     enum-known-b
     enum-told
     returns
-    value-at-requires
+    value-from-requires
     enum-known-v
     enum-told-2
     returns-2

@@ -1,25 +1,19 @@
 use mathlib.Core.Path.{_≡_, refl, sym, ap, _∙_}
-use mathlib.Core.Bool.{true, false}
+use mathlib.Core.Bool.{true}
 use mathlib.Core.List.{List, []}
-use Prim.Native.Nat.{ℕ, _-_, _<_}
-use native.Mathlib.Omega.{arith}
+use Prim.Native.Nat.{_-_}
 use borrow.Author.Needs.{needs}
 use borrow.Author.Tests.{not-true, not-false}
 use Rattle.expr.proofs.Bools.{both}
-use Rattle.expr.specs.Lists.{all, elem}
-use Rattle.expr.specs.Reading.{got, fault, many, mapped, skipped}
-use Rattle.expr.specs.Guard.{Guard, Update, limits, guard, update, holds}
-use Rattle.expr.specs.Label.{targets, distinct}
-use Rattle.expr.specs.Places.{onward, byteOf, testOf, reached, faultOf, byteFault}
+use Rattle.expr.specs.Lists.{all}
+use Rattle.expr.specs.Guard.{Guard, limits, guard, holds}
+use Rattle.expr.specs.Places.{onward, testOf}
 use Rattle.expr.proofs.Places.{answered}
-use Rattle.expr.proofs.Reading.{no-answer, got-value, mapped-got, mapped-fault, mapped-at, fault-at}
+use Rattle.expr.proofs.Reading.{no-answer, got-value, mapped-at, fault-at}
 use Rattle.expr.proofs.Lists.{all-more, not-all}
 use Rattle.expr.proofs.Many.{Going, going-none, going-more, going-stop, going-all, going-has}
 use Rattle.expr.proofs.label.all_hold.Statement.{statement}
 use Rattle.expr.proofs.label.all_hold.Tie as tie
-use Rattle.expr.proofs.label.all_hold.Reads as reads
-use Rattle.expr.proofs.label.all_hold.Lts as lts
-use Rattle.expr.proofs.guard.guard_holds.Reads as guard-holds-reads
 
 abbrev Inv-loop : tie.InvT-loop
 Inv-loop s at count clocks variables values times place₀ i₀ place i = (seen : List Guard) × Going (guard (limits clocks variables)) count (onward s at) (onward s place) i seen × (all (holds values times) seen ≡ true)

@@ -1,27 +1,21 @@
 use mathlib.Core.Path.{_≡_, refl, sym, ap, _∙_}
-use mathlib.Core.Bool.{true, false}
+use mathlib.Core.Bool.{false}
 use mathlib.Core.List.{List, []}
 use Prim.Native.Nat.{ℕ, _-_, _<_}
 use native.Mathlib.Omega.{arith}
 use borrow.Author.Needs.{needs}
-use Rattle.expr.specs.Lists.{all, elem}
-use Rattle.expr.specs.Reading.{got, fault, many, mapped, skipped}
-use Rattle.expr.specs.Guard.{Guard, Update, limits, guard, update, holds}
+use Rattle.expr.specs.Lists.{elem}
+use Rattle.expr.specs.Reading.{got, fault}
+use Rattle.expr.specs.Guard.{Update, limits, update}
 use Rattle.expr.specs.Label.{targets, distinct}
-use Rattle.expr.specs.Places.{onward, byteOf, testOf, reached, faultOf, byteFault}
+use Rattle.expr.specs.Places.{onward, byteOf, faultOf, byteFault}
 use Rattle.expr.proofs.Places.{answered}
-use Rattle.expr.proofs.Reading.{no-answer, got-value, mapped-got, mapped-fault, mapped-at, fault-at}
-use Rattle.expr.proofs.Lists.{all-more, not-all}
-use Rattle.expr.proofs.Many.{Going, going-none, going-more, going-stop, going-all, going-has}
+use Rattle.expr.proofs.Reading.{mapped-got, mapped-fault, mapped-at, fault-at}
+use Rattle.expr.proofs.Many.{Going, going-none, going-more, going-stop, going-all}
 use lib.ListN.{length, getD, length-set, getD-replicate}
 use Rattle.expr.proofs.Labels.{update-known, once-more, assigned-more}
 use Rattle.expr.proofs.label.read_updates.Statement.{statement}
 use Rattle.expr.proofs.label.read_updates.Tie as tie
-use Rattle.expr.proofs.label.read_updates.Reads as reads
-use Rattle.expr.proofs.label.read_updates.Lts as lts
-use Rattle.expr.proofs.field.byte_fault.Reads as byte-fault-reads
-use Rattle.expr.proofs.guard.read_update.Reads as read-update-reads
-use Rattle.expr.proofs.label.still.Reads as still-reads
 
 abbrev Inv-loop : tie.InvT-loop
 Inv-loop s at count variables seen₀ once₀ place₀ i₀ seen once place i = (us : List Update) × Going (update (limits 0 variables)) count (onward s at) (onward s place) i us × (once ≡ distinct (targets us)) × (length seen ≡ 16) × ((v : ℕ) → v < 16 → getD seen v false ≡ elem v (targets us))

@@ -1,0 +1,41 @@
+use borrow.Author.Tests.{eq-eqb, ne-eqb}
+use Rattle.chart.specs.Chart.{parentOf, parallel}
+use Rattle.expr.specs.Lists.{implies}
+use borrow.Author.Needs.{needs}
+use Rattle.chart.proofs.rule.inherits.Statement.{statement}
+use Rattle.chart.proofs.rule.inherits.Tie as tie
+
+returns : tie.Need-returns
+returns c = λ k S. rw (eq-eqb _ 0 (c .if1 .taken))
+
+parent-of-requires : tie.Need-parent-of-requires
+parent-of-requires c κs = search needs
+
+kind-of-requires : tie.Need-kind-of-requires
+kind-of-requires c κs = search needs
+
+returns-2 : tie.Need-returns-2
+unfolding parallel parentOf implies
+returns-2 c = λ k S. rw (ne-eqb _ 0 (c .before .before .before .if1 .left), ← c .before .before .parent-of .ensures k S, ← c .before .kind-of .ensures k S, ne-eqb _ 2 (c .if2 .taken))
+
+entries-of-requires : tie.Need-entries-of-requires
+entries-of-requires c κs = search needs
+
+entries-of-requires-2 : tie.Need-entries-of-requires-2
+entries-of-requires-2 c κs = search needs
+
+returns-3 : tie.Need-returns-3
+unfolding parallel parentOf implies
+returns-3 c = λ k S. rw (ne-eqb _ 0 (c .before .before .before .before .before .if1 .left), ← c .before .before .before .before .parent-of .ensures k S, ← c .before .before .before .kind-of .ensures k S, eq-eqb _ 2 (c .before .before .if2 .left), ← c .before .entries-of .ensures k S, ← c .entries-of2 .ensures k S)
+
+pub inherits-spec : {M : Type 1} → statement M
+inherits-spec =
+    tie.close
+    (tie.spec
+    returns
+    parent-of-requires
+    kind-of-requires
+    returns-2
+    entries-of-requires
+    entries-of-requires-2
+    returns-3)

@@ -1,0 +1,30 @@
+-- Where the records of a checked file stand, in its bytes after version and length.
+use mathlib.Core.Path.{_≡_}
+use mathlib.Core.Bool.{true}
+use mathlib.Core.List.{List}
+use Prim.Native.Nat.{ℕ, _+_, _*_, _<_}
+use lib.ListN.{length}
+use Rattle.expr.specs.Reading.{got, byte, recorded}
+use Rattle.expr.specs.Places.{onward}
+use Rattle.chart.specs.Chart.{Chart, state, stateAt, inRange}
+use Rattle.chart.specs.declared.header.Counts.{Counts}
+
+-- the bytes of a state's record, its length byte included
+abbrev pub stateSize : ℕ → ℕ
+stateSize clocks = 6 + 4 * clocks
+
+-- state records follow the eight bytes of counts
+abbrev pub statePlace : ℕ → ℕ → ℕ
+statePlace clocks s = 8 + s * stateSize clocks
+
+-- the counts and the states of c stand in the bytes
+pub record Stated (rest : List ℕ) (n : Counts) (c : Chart) : Type 0 where
+  pub in-range : inRange n ≡ true
+  pub clocks : c .clocks ≡ n .clocks
+  pub variables : c .variables ≡ n .variables
+  pub rendezvous : c .rendezvous ≡ n .rendezvous
+  pub broadcasts : c .broadcasts ≡ n .broadcasts
+  pub entries : c .entries ≡ n .entries
+  pub exits : c .exits ≡ n .exits
+  pub states : length (c .states) ≡ n .states
+  pub here : (s : ℕ) → s < n .states → recorded byte (state (n .clocks) (n .entries) (n .exits)) (onward rest (statePlace (n .clocks) s)) ≡ got (stateAt c s) (onward rest (statePlace (n .clocks) s + stateSize (n .clocks)))

@@ -1,0 +1,101 @@
+-- Readers that take a fixed number of bytes: what they leave, and where the parts of a record stand.
+use mathlib.Core.Path.{_≡_, sym, ap, _∙_}
+use mathlib.Core.Bool.{Bool, true, false, cond}
+use mathlib.Core.List.{List, [], _∷_, _++_}
+use Prim.Native.Nat.{ℕ, zero, suc, _+_, _*_}
+use native.Mathlib.Omega.{arith}
+use native.Mathlib.Nat.{zero-mul, suc-mul}
+use lib.Dec.{leb}
+use lib.ListN.{length, getD, take, drop, take-append-drop}
+use Rattle.expr.specs.Reading.{Fault, got, fault, Reader, yield, _>>=_, field, byte, byte2, byte4, such, many, end, framed, whole, recorded}
+use Rattle.expr.specs.Clocks.{row, isBound}
+use Rattle.expr.specs.Places.{onward, reached}
+use Rattle.expr.specs.declared.field.Reached.{Reached}
+use Rattle.expr.specs.declared.field.Reached.the-variants as Rd
+use Rattle.expr.proofs.Reading.{no-answer, got-value, next-at, bind-at, yield-rest, such-at}
+use Rattle.expr.proofs.Places.{onward-all, onward-onward, getD-here}
+use Rattle.expr.proofs.InFront.{InFront, field-at, yield-front, bind-front, such-front, many-front, byte4-front}
+use Rattle.expr.proofs.Lengths.{end-at}
+use Rattle.expr.proofs.Rows.{bounds}
+
+-- what follows a value that is read stands so many bytes on
+abbrev pub Takes : {A : Type 0} → Reader A → ℕ → Type 0
+Takes {A} r n = (s : List ℕ) (a : A) (t : List ℕ) → r s ≡ got a t → t ≡ onward s n
+
+pub yield-takes : {A : Type 0} (a : A) → Takes (yield a) 0
+yield-takes a s b t h = sym (yield-rest a s h) ∙ sym (onward-all s)
+
+pub bind-takes : {A B : Type 0} (r : Reader A) (k : A → Reader B) (n m : ℕ) → Takes r n → ((a : A) → Takes (k a) m) → Takes (r >>= k) (n + m)
+bind-takes r k n m f g s b t h =
+    let w = bind-at r k s h in
+    g (w .0) (w .1) b t (w .3) ∙ ap (λ (l : List ℕ). onward l m) (f s (w .0) (w .1) (w .2)) ∙ onward-onward s n m
+
+pub field-takes : (n : ℕ) (value : List ℕ → ℕ) → Takes (field n value) n
+unfolding onward
+field-takes n value s x t h = field-at n value s h .2
+
+pub byte-takes : Takes byte 1
+unfolding byte
+byte-takes = field-takes 1 _
+
+pub byte2-takes : Takes byte2 2
+unfolding byte2
+byte2-takes = field-takes 2 _
+
+pub byte4-takes : Takes byte4 4
+unfolding byte4
+byte4-takes = field-takes 4 _
+
+pub such-takes : (r : Reader ℕ) (p : ℕ → Bool) (n : ℕ) → Takes r n → Takes (such r p) n
+such-takes r p n f s x t h = f s x t (such-at r p s h .1)
+
+pub many-takes : {A : Type 0} (r : Reader A) (k : ℕ) → Takes r k → (n : ℕ) → Takes (many n r) (n * k)
+unfolding many
+many-takes r k f zero s xs t h = yield-takes [] s xs t h ∙ ap (onward s) (sym (zero-mul k))
+many-takes r k f (suc n) s xs t h =
+    bind-takes r _ k (n * k + 0) f (λ x. bind-takes (many n r) _ (n * k) 0 (many-takes r k f n) (λ ys. yield-takes (x ∷ ys))) s xs t h
+    ∙ ap (onward s) (omega (arith, suc-mul n k))
+
+pub row-takes : (n : ℕ) → Takes (row n) (4 * n)
+unfolding row
+row-takes n s r t h = bind-takes (bounds n) _ (n * 4) 0 (many-takes _ 4 (such-takes byte4 isBound 4 byte4-takes) n) (λ bs. yield-takes _) s r t h ∙ ap (onward s) (let z : n * 4 + 0 ≡ 4 * n = omega arith in z)
+
+-- what is read at a place, and the place after it
+pub onto : (s : List ℕ) (at n : ℕ) {A : Type 0} (r : Reader A) (k : ℕ) {a : A} {u t : List ℕ} → u ≡ onward s at → Takes r n → at + n ≡ k → r u ≡ got a t → (r (onward s at) ≡ got a (onward s k)) × (t ≡ onward s k)
+onto s at n r k {a} {u} {t} e f g h =
+    let z : t ≡ onward s k = f u a t h ∙ ap (λ (l : List ℕ). onward l n) e ∙ onward-onward s at n ∙ ap (onward s) g in
+    (ap r (sym e) ∙ h ∙ ap (got a) z, z)
+
+-- the byte that is read at a place
+pub byte-value : (s : List ℕ) (at : ℕ) {x : ℕ} {t : List ℕ} → byte (onward s at) ≡ got x t → getD s at 0 ≡ x
+unfolding byte
+byte-value s at h = sym (field-at 1 _ (onward s at) h .1 ∙ getD-here s at)
+
+-- the value that is read
+pub reached-value : {A : Type 0} (s : List ℕ) (a : A) (q : Reached) {b : A} {t : List ℕ} → reached s a q ≡ got b t → a ≡ b
+reached-value s a (Rd.At n) h = got-value h
+reached-value s a (Rd.Fault f) h = no-answer h
+
+pub row-front : (n : ℕ) → InFront (row n)
+unfolding row
+row-front n = bind-front (bounds n) _ (many-front n _ (such-front byte4 isBound byte4-front)) (λ bs. yield-front _)
+
+-- a record's content, where it stands in the file: it is read after the length
+pub recorded-inside : {A : Type 0} (size : Reader ℕ) (r : Reader A) → InFront r → (s : List ℕ) {a : A} {t : List ℕ} → recorded size r s ≡ got a t → (n : ℕ) × (u : List ℕ) × (size s ≡ got n u) × (r u ≡ got a t)
+unfolding recorded framed whole
+recorded-inside {A} size r f s {a} {t} h =
+    let w = bind-at (framed size) _ s h in
+    let z = bind-at size _ s (w .2) in
+    let x = next-at (r (w .0)) _ (w .3) in
+    let e = next-at (end (x .1)) _ (x .3) in
+    let p = part (z .0) (z .1) (leb (z .0) (length (z .1))) (z .3) in
+    (z .0, z .1, z .2, joined (z .0) (z .1) (w .0) (w .1) (x .0) (x .1) (p .0) (p .1) (x .2) (end-at (x .1) (e .2)) (e .3))
+  where
+    part : {p v : List ℕ} (n : ℕ) (u : List ℕ) (b : Bool) → cond b (got (take n u) (drop n u)) (fault Fault.length-fault) ≡ got p v → (p ≡ take n u) × (v ≡ drop n u)
+    part n u true k = (cc, cc)
+    part n u false k = no-answer k
+
+    joined : (n : ℕ) (u p v : List ℕ) (b : A) (q : List ℕ) → p ≡ take n u → v ≡ drop n u → r p ≡ got b q → q ≡ [] → got b v ≡ got a t → r u ≡ got a t
+    joined n u p v b q e g k o l =
+        ap r (sym (take-append-drop n u)) ∙ ap (λ (m : List ℕ). r (m ++ drop n u)) (sym e) ∙ f .alike p (drop n u) k
+        ∙ ap (λ (m : List ℕ). got b (m ++ drop n u)) o ∙ ap (got b) (sym g) ∙ l

@@ -1,0 +1,28 @@
+-- Where the records of a checked file stand, in its bytes after version and length.
+use mathlib.Core.Path.{_≡_}
+use mathlib.Core.Bool.{true}
+use mathlib.Core.List.{List}
+use Prim.Native.Nat.{ℕ, _+_, _*_, _<_}
+use lib.ListN.{length}
+use Rattle.expr.specs.Reading.{got, byte, recorded}
+use Rattle.expr.specs.Places.{onward}
+use Rattle.network.specs.Network.{Network, location, locationAt, inRange}
+use Rattle.network.specs.declared.header.Counts.{Counts}
+
+-- the bytes of a location's record, its length byte included
+abbrev pub locationSize : ℕ → ℕ
+locationSize clocks = 4 + 4 * clocks
+
+-- location records follow the eight bytes of counts
+abbrev pub locationPlace : ℕ → ℕ → ℕ
+locationPlace clocks i = 8 + i * locationSize clocks
+
+-- the counts and the locations of n stand in the bytes
+pub record Located (rest : List ℕ) (k : Counts) (n : Network) : Type 0 where
+  pub in-range : inRange k ≡ true
+  pub automata : n .automata ≡ k .automata
+  pub clocks : n .clocks ≡ k .clocks
+  pub variables : n .variables ≡ k .variables
+  pub rendezvous : n .rendezvous ≡ k .rendezvous
+  pub locations : length (n .locations) ≡ k .locations
+  pub here : (i : ℕ) → i < k .locations → recorded byte (location (k .automata) (k .clocks)) (onward rest (locationPlace (k .clocks) i)) ≡ got (locationAt n i) (onward rest (locationPlace (k .clocks) i + locationSize (k .clocks)))
