@@ -2,35 +2,19 @@
 use mathlib.Core.Path.{_≡_, sym, ap, _∙_, subst}
 use mathlib.Core.Bool.{true, false}
 use mathlib.Core.List.{List, map, List·Memᴰ as Mem}
-use Prim.Native.Nat.{ℕ, _≤_, _<_}
-use borrow.Author.Tests.{ltb-true, lt-ltb, le-leb, not-true}
-use lib.Dec.{ltb}
+use Prim.Native.Nat.{ℕ}
+use borrow.Author.Tests.{not-true}
 use lib.ListN.{length}
-use Rattle.expr.specs.Lists.{any, ascending}
+use Rattle.expr.specs.Lists.{any}
 use Rattle.expr.specs.Answer.{done}
-use Rattle.expr.specs.Moves.{known}
-use Rattle.expr.proofs.Bools.{parts, both, implies-at, implies-by}
+use Rattle.expr.proofs.Bools.{implies-at, implies-by}
 use Rattle.expr.proofs.Lists.{all-at, all-by, any-at, any-by, map-at, map-by}
+use Rattle.expr.proofs.Moves.{Known, known-at, known-by}
 use Rattle.expr.proofs.Answer.{unless-at, unless-by}
 use Rattle.network.specs.Network.{Edge, Network, ownerOf}
 use Rattle.network.specs.Machine.{edgeAt, isConfiguration, boundsKept, activeEdge, urgentAt, urgent, after, tested, step, wait}
 use Rattle.agreement.specs.Agreement.{NetworkConfiguration, Accepts, isUrgent}
 use Rattle.expr.proofs.Sets.{AllowedSet, allowed-set-at, allowed-set-by}
-
--- the numbers of a set: one to sixteen, ascending
-pub record Known (count : ℕ) (ms : List ℕ) : Type 0 where
-  pub some : 1 ≤ length ms
-  pub few : length ms ≤ 16
-  pub ascends : ascending ms ≡ true
-  pub each : (m : ℕ) → Mem m ms → m < count
-
-pub known-at : (count : ℕ) (ms : List ℕ) → known count ms ≡ true → (m : ℕ) → Mem m ms → m < count
-unfolding known
-known-at count ms h m k = ltb-true m count (all-at (λ m. ltb m count) ms (search parts) k)
-
-pub known-by : (count : ℕ) (ms : List ℕ) → Known count ms → known count ms ≡ true
-unfolding known
-known-by count ms h = both (le-leb 1 (length ms) (h .some)) (both (le-leb (length ms) 16 (h .few)) (both (h .ascends) (all-by (λ m. ltb m count) ms (λ m k. lt-ltb m count (h .each m k)))))
 
 abbrev pub Move : Network → NetworkConfiguration → List ℕ → Type 0
 Move n ν ms = AllowedSet (λ m. edgeAt n m .label) (λ m. ownerOf n (edgeAt n m)) (λ m. activeEdge n ν (edgeAt n m)) (length (n .edges)) (n .rendezvous) ms
@@ -38,7 +22,7 @@ Move n ν ms = AllowedSet (λ m. edgeAt n m .label) (λ m. ownerOf n (edgeAt n m
 -- a step that the network accepts
 pub record Accepted (n : Network) (ν : NetworkConfiguration) (ms : List ℕ) (μ : NetworkConfiguration) : Type 0 where
   pub given : isConfiguration n ν ≡ true
-  pub are-known : known (length (n .edges)) ms ≡ true
+  pub are-known : Known (length (n .edges)) ms
   pub each-active : (m : ℕ) → Mem m ms → activeEdge n ν (edgeAt n m) ≡ true
   pub urgent-first : urgent n ν ≡ true → isUrgent n ms ≡ true
   pub is-allowed : Move n ν ms
@@ -84,7 +68,7 @@ module _ (n : Network) where
       let t = tested-at n _ (g .1) in
       record {
         given = a .0;
-        are-known = b .0;
+        are-known = known-at _ ms (b .0);
         each-active = λ m k. all-at (activeEdge n ν) _ (d .0) (map-by (edgeAt n) k);
         urgent-first = λ u. urgent-edges ms (implies-at (urgent n ν) _ (e .0) u);
         is-allowed = allowed-set-at _ _ _ _ _ ms (g .0);
@@ -96,7 +80,7 @@ module _ (n : Network) where
   unfolding step tested
   accepted-by ν ms {μ} h =
       unless-by 26 _ (h .given)
-      ∙ (unless-by 18 _ (h .are-known)
+      ∙ (unless-by 18 _ (known-by _ ms (h .are-known))
       ∙ (unless-by 19 _ (all-by (activeEdge n ν) _ (λ x k. let r = map-at (edgeAt n) ms k in ap (activeEdge n ν) (r .2) ∙ h .each-active (r .0) (r .1)))
       ∙ (unless-by 27 _ (implies-by (urgent n ν) _ (λ u. edges-urgent ms (h .urgent-first u)))
       ∙ (unless-by 20 _ (allowed-set-by _ _ _ _ _ ms (h .is-allowed))

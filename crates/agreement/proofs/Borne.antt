@@ -19,11 +19,11 @@ use Rattle.flattener.specs.Flatten.{Place, idle, child, pre, post, automaton, p
 use Rattle.flattener.specs.Picture.{pictured, picture}
 use Rattle.flattener.proofs.Numbers.{IsPlace, urgent-of-place}
 use Rattle.flattener.proofs.Edges.{Leaves, edges-at, source-of, owner-of, edge-at-mem}
+use Rattle.flattener.proofs.Pictured.{pictured-fits, pictured-not-urgent}
 use Rattle.agreement.specs.Agreement.{NetworkConfiguration, isUrgent, Accepts}
 use Rattle.agreement.proofs.Claims.{BearsOnce, NoUrgentMove}
-use Rattle.agreement.proofs.Standing.{active-leaves}
-use Rattle.agreement.proofs.Bearing.{picture-stands, pictured-fits, pictured-not-urgent}
-use Rattle.agreement.proofs.Accepted.{Accepted, accepted-at, known-at}
+use Rattle.agreement.proofs.Standing.{picture-stands, active-leaves}
+use Rattle.agreement.proofs.Accepted.{Accepted, accepted-at}
 
 -- an edge that bears a transition is of its home's automaton
 bearer : (c : Chart) {e : Edge} → Mem e (flatten c .edges) → e .transition ≢ 255 → ownerOf (flatten c) e ≡ automaton c (home c (e .transition))
@@ -53,7 +53,7 @@ bears-once c passed ranges ν ms k =
     bears m = not (eqb (borne-by m) 255)
 
     owner : {μ : NetworkConfiguration} → Accepted (flatten c) ν ms μ → (m : ℕ) → Mem m ms × (bears m ≡ true) → ownerOf (flatten c) (edgeAt (flatten c) m) ≡ automaton c (home c (borne-by m))
-    owner s m i = bearer c (edge-at-mem (flatten c) m (known-at _ ms (s .are-known) m (i .0))) (eqb-false _ 255 (not-true _ (i .1)))
+    owner s m i = bearer c (edge-at-mem (flatten c) m (s .are-known .each m (i .0))) (eqb-false _ 255 (not-true _ (i .1)))
 
     same : {μ : NetworkConfiguration} → Accepted (flatten c) ν ms μ → (a b : ℕ) → Mem a ms × (bears a ≡ true) → Mem b ms × (bears b ≡ true) → borne-by a ≡ borne-by b → a ≡ b
     same s a b i j e = s .is-allowed .owners a b (i .0) (j .0) (owner s a i ∙ ap (λ (t : ℕ). automaton c (home c t)) e ∙ sym (owner s b j))
@@ -64,6 +64,6 @@ unfolding isUrgent urgentAt Accepts
 no-urgent-move c passed ranges σ h ms k = none-any _ ms (λ m i.
     let s = accepted-at (flatten c) (picture c σ) ms (k .1) in
     let fits = pictured-fits c σ (configuration-tree c σ h) in
-    let l = active-leaves c passed (pictured c σ) (σ .variables) (σ .clocks) fits (edge-at-mem (flatten c) m (known-at _ ms (s .are-known) m i))
+    let l = active-leaves c passed (pictured c σ) (σ .variables) (σ .clocks) fits (edge-at-mem (flatten c) m (s .are-known .each m i))
     (ap (λ (ν : NetworkConfiguration). activeEdge (flatten c) ν (edgeAt (flatten c) m)) (sym (picture-stands c σ)) ∙ s .each-active m i) in
     ap (λ (x : ℕ). eqb x 1) (ap (λ (x : ℕ). locationAt (flatten c) x .urgent) (source-of c (pictured c σ (l .0)) _ (l .2)) ∙ urgent-of-place c (fits (l .0) (l .1) .is-place) ∙ pictured-not-urgent c σ (l .0)))

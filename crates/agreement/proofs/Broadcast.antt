@@ -33,7 +33,7 @@ use Rattle.agreement.specs.Agreement.{NetworkConfiguration, isUrgent, ca
 use Rattle.agreement.proofs.Relation.{standing}
 use Rattle.expr.proofs.Sets.{passing-at, passing-by, passing-ascending, values-length, AllowedSet, Joint, Full}
 use Rattle.agreement.proofs.Standing.{Fits, Takes, takes-by, Signals, signals-variables, signals-clocks, active-own, active-leaves, after-standing}
-use Rattle.agreement.proofs.Accepted.{Accepted, accepted-by, known-at, known-by, urgent-by}
+use Rattle.agreement.proofs.Accepted.{Accepted, accepted-by, urgent-by}
 
 -- the automaton of `home` sends, and takes itself from where f has it to where g has it; so do all that hear it
 pub record Broadcast (c : Chart) (f g : ℕ → Place) (home channel : ℕ) : Type 0 where
@@ -173,7 +173,7 @@ module _ (c : Chart) (passed : Passed c) (ranges : Ranges c) (f g : ℕ → Plac
     member-of : (m : ℕ) → Mem m ms → Member m
     member-of m k = ⊎-elim
         (λ e. subst Member (first-sends ∙ sym e) (home, b .region, from-home, inl (refl, b .sent-at _ from-home)))
-        (λ r. let j = receiver-at m (known-at count ms (accepted .are-known) m k) (accepted .each-active m k) (r .0, r .1 ∙ on-channel) in (j .0, j .1, j .2, inr (j .3)))
+        (λ r. let j = receiver-at m (accepted .are-known .each m k) (accepted .each-active m k) (r .0, r .1 ∙ on-channel) in (j .0, j .1, j .2, inr (j .3)))
         (joint .signalled .others m k)
 
     all-heard : (q : ℕ) → Region c q → (g q ≡ f q) ⊎ ((m : ℕ) × Mem m ms × (ownerOf net (edgeAt net m) ≡ automaton c q))
@@ -277,7 +277,7 @@ module _ (c : Chart) (passed : Passed c) (ranges : Ranges c) (f g : ℕ → Plac
       everyone,
       accepted-by net now everyone (record {
         given = given;
-        are-known = known-by count everyone (record { some = mem-some sender-in; few = everyone-few; ascends = everyone-ascends; each = λ m k. everyone-at m k .0 });
+        are-known = record { some = mem-some sender-in; few = everyone-few; ascends = everyone-ascends; each = λ m k. everyone-at m k .0 };
         each-active = λ m k. let x = member m k in ⊎-elim (λ e. own-active (x .0) (x .1) _ 1 (e .1)) (λ e. own-active (x .0) (x .1) _ 2 e) (x .3);
         urgent-first = λ u. urgent-by net everyone sender-in (urgent-home _ sender-leaves);
         is-allowed = everyone-allowed;

@@ -2,30 +2,29 @@
 -- network is made of such edges (`move-carries`): the edges of a move and the transitions that it carries correspond
 -- (`carried-matches`). So the one is allowed as the other is (`carried-allowed`), and a list of active transitions is carried
 -- by one list of edges (`carriers`).
-use mathlib.Core.Path.{_≡_, refl, sym, ap, _∙_, subst}
-use mathlib.Core.Bool.{Bool, true, false, cond, not, _&&_}
+use mathlib.Core.Path.{_≡_, sym, ap, _∙_, subst}
+use mathlib.Core.Bool.{true, _&&_}
 use mathlib.Core.Logic.{_⊎_, inl, inr, ⊎-elim, _≢_}
-use mathlib.Core.List.{List, map, List·Memᴰ as Mem, Memᴰ·cast as cast}
+use mathlib.Core.List.{List, List·Memᴰ as Mem, Memᴰ·cast as cast}
 use Prim.Native.Nat.{ℕ, _+_, _≤_, _<_}
 use native.Mathlib.Omega.{arith}
-use borrow.Author.Tests.{eqb-true, eqb-false, eq-eqb, ne-eqb, ltb-true, not-true}
-use lib.Dec.{eqb, ltb}
+use borrow.Author.Tests.{ne-eqb}
 use lib.ListN.{length}
 use Rattle.expr.specs.Lists.{keep, below, elem, ascending}
-use Rattle.expr.specs.Label.{Label, channelFits}
+use Rattle.expr.specs.Label.{Label}
 use Rattle.expr.specs.Moves.{allowed}
-use Rattle.expr.proofs.Bools.{clash, and-l, and-r, both, cond-no, not-yes}
-use Rattle.expr.proofs.Lists.{Once, keep-at, keep-by, map-at, map-by, elem-at, elem-by, ascending-once}
-use Rattle.expr.proofs.Moves.{Sends, Receives}
-use Rattle.expr.proofs.Sets.{ascending-same, passing-at, passing-by, passing-ascending, Matched, matched-by, Corresponds, Heard, allowed-alike, AllowedSet}
+use Rattle.expr.proofs.Bools.{and-l, and-r, both, not-yes}
+use Rattle.expr.proofs.Lists.{keep-at, keep-by, map-at, map-by, elem-at, elem-by, ascending-once}
+use Rattle.expr.proofs.Moves.{Sends}
+use Rattle.expr.proofs.Sets.{ascending-same, passing-at, passing-by, passing-ascending, Matched, matched-by, Corresponds, allowed-alike}
 use Rattle.chart.specs.Chart.{Chart, transitionAt, home}
 use Rattle.chart.specs.Machine.{isTree, activeTransition}
 use Rattle.chart.proofs.Rules.{Passed}
 use Rattle.chart.proofs.Ranges.{Ranges}
-use Rattle.chart.proofs.Step.{transition-mem}
+use Rattle.chart.proofs.Step.{channel-lt}
 use Rattle.network.specs.Network.{Edge, ownerOf}
 use Rattle.network.specs.Machine.{edgeAt, activeEdge}
-use Rattle.flattener.specs.Flatten.{child, edge, automaton, placeHome, flatten, sorted}
+use Rattle.flattener.specs.Flatten.{child, edge, automaton, placeHome, flatten}
 use Rattle.flattener.specs.Picture.{picture}
 use Rattle.flattener.proofs.Automata.{automaton-injective}
 use Rattle.flattener.proofs.Sums.{sorted-at, sorted-by, sorted-ascending}
@@ -66,11 +65,6 @@ unfolding carried
 carried-ascends c ms = sorted-ascending _
 
 module _ (c : Chart) (passed : Passed c) (ranges : Ranges c) where
-  -- a transition that signals does so on a channel of the chart
-  pub channel-lt : (t : ℕ) → t < length (c .transitions) → transitionAt c t .label .signal ≢ 0 → transitionAt c t .label .channel < c .rendezvous + c .broadcasts
-  unfolding channelFits
-  channel-lt t h d = ltb-true _ _ (sym (cond-no _ _ (ne-eqb (transitionAt c t .label .signal) 0 d)) ∙ ranges .of-transition (transitionAt c t) (transition-mem c t h) .label-known .channel-known)
-
   module _ (σ : ChartConfiguration) (tree : isTree c σ ≡ true) where
     -- its owner is the automaton of t's home
     pub carries-owner : (m t : ℕ) → Carries c σ m t → ownerOf (flatten c) (edgeAt (flatten c) m) ≡ automaton c (home c t)
@@ -100,7 +94,7 @@ module _ (c : Chart) (passed : Passed c) (ranges : Ranges c) where
     sender-channel : (m ch : ℕ) → m < length (flatten c .edges) → activeEdge (flatten c) (picture c σ) (edgeAt (flatten c) m) ≡ true → Sends (edgeAt (flatten c) m .label) ch → ch < c .rendezvous + c .broadcasts
     sender-channel m ch h a s = ⊎-elim
         (λ k. let e = carries-label c σ m (k .0) (k .1) in
-        omega (arith, s .1, ap (λ (l : Label). l .channel) e, channel-lt (k .0) (k .1 .known) (λ z. omega (arith, s .0, ap (λ (l : Label). l .signal) e))))
+        omega (arith, s .1, ap (λ (l : Label). l .channel) e, channel-lt c ranges (k .0) (k .1 .known) (λ z. omega (arith, s .0, ap (λ (l : Label). l .signal) e))))
         (λ k. absurd (omega (arith, s .0, k .1)))
         (active-carries m h a)
 

@@ -1,48 +1,44 @@
 -- After a move of the picture: the home of each transition of the step is where the transition departs to, all else is where
 -- it was (`departed`). So the network is related to the chart after the step, and what the step names is owed (`departed-placed`).
 use mathlib.Core.Path.{_≡_, refl, sym, ap, _∙_, subst}
-use mathlib.Core.Bool.{Bool, true, false, cond, not, _&&_, _||_}
-use mathlib.Core.Logic.{_⊎_, inl, inr, ⊎-elim, _≢_}
-use mathlib.Core.List.{List, [], _∷_, map, List·Memᴰ as Mem, List·Memᴰ·head as here, List·Memᴰ·tail as there, List·Memᴰ·not-nil as not-nil, List·Memᴰ·cases-cons as cases-cons, Memᴰ·cast as cast}
+use mathlib.Core.Bool.{Bool, true, false, cond, _||_}
+use mathlib.Core.Logic.{_⊎_, inl, inr, ⊎-elim}
+use mathlib.Core.List.{List, [], _∷_, map, List·Memᴰ as Mem, List·Memᴰ·head as here, List·Memᴰ·tail as there, List·Memᴰ·cases-cons as cases-cons}
 use Prim.Native.Nat.{ℕ, _+_, _<_}
 use native.Mathlib.Omega.{arith}
 use native.Mathlib.Decide.{ℕ-discrete}
-use borrow.Author.Tests.{eqb-true, eqb-false, eq-eqb, ne-eqb, not-true, not-false}
+use borrow.Author.Tests.{eqb-true, eqb-false, eq-eqb, ne-eqb}
 use lib.Dec.{eqb}
 use lib.ListN.{length}
 use Rattle.expr.specs.Lists.{has, any, keep}
-use Rattle.expr.proofs.Bools.{clash, decided, fails, both, or-l, or-r, or-else, same, cond-yes, cond-no}
-use Rattle.expr.proofs.Lists.{Once, once-keep, all-at, any-by, any-at, any-none, keep-at, keep-by, map-at, map-by}
+use Rattle.expr.proofs.Bools.{clash, decided, fails, both, or-l, or-r, or-else, cond-yes, cond-no}
+use Rattle.expr.proofs.Lists.{Once, once-keep, any-by, any-at, any-none, keep-at, keep-by, map-at, map-by}
 use Rattle.expr.proofs.Pairwise.{map-once}
-use Rattle.chart.specs.Chart.{Chart, Transition, stateAt, transitionAt, states, parentOf, basic, sequential, home}
-use Rattle.chart.specs.Tree.{under, entered}
-use Rattle.chart.specs.Rules.{entries}
+use Rattle.chart.specs.Chart.{Chart, transitionAt, parentOf, basic, sequential, home}
+use Rattle.chart.specs.Tree.{under}
 use Rattle.chart.specs.Machine.{isActive, isTree, activeTransition, after}
 use Rattle.chart.proofs.Tree.{size, states-by, Child, known-below, under-refl, under-down, under-transitive, child-under, sequential-not-basic}
 use Rattle.chart.proofs.Entered.{entered-top, entered-under}
-use Rattle.chart.proofs.Active.{IsTree, tree-at, completed-at, active-above, active-basic, active-known}
+use Rattle.chart.proofs.Active.{tree-at, completed-at, active-above, active-basic}
 use Rattle.chart.proofs.Rules.{Passed, kinds-left}
 use Rattle.chart.proofs.Ranges.{Ranges, kinds-of}
-use Rattle.chart.proofs.Step.{Together, together-fires, together-tree, transition-mem}
+use Rattle.chart.proofs.Step.{Together, together-fires, together-tree}
 use Rattle.chart.proofs.Moved.{source-not-above, destination-not-above, destination-was-source, stays-active, next-cases, next-below, next-home, next-entered}
 use Rattle.flattener.specs.Flatten.{Place, idle, child, pre, post, hasExit, hasEntry, arrival, departure, marksBelow}
 use Rattle.flattener.specs.Picture.{pictured}
 use Rattle.flattener.proofs.Automata.{Region}
 use Rattle.flattener.proofs.Alternatives.{basic-under}
 use Rattle.flattener.proofs.Numbers.{PlaceOf}
-use Rattle.flattener.proofs.Arrivals.{ends, departure-place}
+use Rattle.flattener.proofs.Arrivals.{ends, source-basic, destination-basic, departure-place}
+use Rattle.flattener.proofs.Pictured.{pictured-idle, pictured-child, pictured-cases, pictured-fits}
 use Rattle.agreement.specs.Agreement.{ChartConfiguration, named}
 use Rattle.agreement.proofs.Relation.{Pending, entryPair, owes, owesAll, Concerns, Hearing, IsPending, Placed}
 use Rattle.agreement.proofs.Standing.{Fits}
-use Rattle.agreement.proofs.Bearing.{pictured-idle, pictured-child, pictured-cases, pictured-fits, source-composite, source-basic, exit-completed}
+use Rattle.agreement.proofs.Bearing.{exit-completed}
 
-neither-l : (a b : Bool) → (a || b) ≡ false → a ≡ false
-neither-l true b k = clash refl k
-neither-l false b k = refl
-
-neither-r : (a b : Bool) → (a || b) ≡ false → b ≡ false
-neither-r true b k = clash refl k
-neither-r false b k = k
+-- the chart after a step
+abbrev pub afterStep : Chart → ChartConfiguration → List ℕ → ChartConfiguration
+afterStep c σ ts = after c (map (transitionAt c) ts) σ
 
 -- where the automata are after the transitions have departed
 unfoldable pub departed : Chart → ChartConfiguration → List ℕ → ℕ → Place
@@ -92,24 +88,11 @@ home-cases c ts q = ⊎-elim
     (decided (any (λ t. eqb (home c t) q) ts))
 
 module _ (c : Chart) (passed : Passed c) (ranges : Ranges c) where
-  -- 12: a transition without entry has a basic destination
-  pub destination-basic : (t : ℕ) → t < length (c .transitions) → hasEntry c t ≡ false → basic c (transitionAt c t .destination) ≡ true
-  unfolding hasEntry entries
-  destination-basic t h e = go (basic c (transitionAt c t .destination)) (eqb (transitionAt c t .entry) 255) (all-at _ _ (passed .enter) (transition-mem c t h)) e
-    where
-      go : (b x : Bool) → cond b x (not x && has (stateAt c (transitionAt c t .destination) .entries) (transitionAt c t .entry)) ≡ true → not x ≡ false → b ≡ true
-      go true x k l = refl
-      go false true k l = clash k refl
-      go false false k l = clash refl l
-
   -- no sequential state is at or below a basic one
   pub none-below-basic : (b q : ℕ) → Region c q → basic c b ≡ true → under c b q ≡ true → ⊥
   none-below-basic b q g z u = clash (ap (basic c) (basic-under c (passed .tree) (kinds-left c (kinds-of ranges)) b q (g .known) z u) ∙ z) (sequential-not-basic c q (g .is-sequential))
 
   module _ (σ : ChartConfiguration) (tree : isTree c σ ≡ true) (ts : List ℕ) (together : Together c σ ts) where
-    abbrev next : ChartConfiguration
-    next = after c (map (transitionAt c) ts) σ
-
     one-home : (t u : ℕ) → Mem t ts → Mem u ts → home c u ≡ home c t → u ≡ t
     one-home t u m n e = together .homes u t n m (ap (λ (x : ℕ). under c x (home c t)) e ∙ under-refl c (home c t))
 
@@ -159,7 +142,7 @@ module _ (c : Chart) (passed : Passed c) (ranges : Ranges c) where
           (decided (isActive σ r))
 
       -- so a transition that departed is pending, if it names an exit or an entry
-      pub departing-pending : (t : ℕ) → Mem t ts → (hasExit c t || hasEntry c t) ≡ true → IsPending c next (departed c σ ts) (pendingOf c t)
+      pub departing-pending : (t : ℕ) → Mem t ts → (hasExit c t || hasEntry c t) ≡ true → IsPending c (afterStep c σ ts) (departed c σ ts) (pendingOf c t)
       unfolding departure arrival
       departing-pending t m k = record {
         known = h;
@@ -182,6 +165,12 @@ module _ (c : Chart) (passed : Passed c) (ranges : Ranges c) where
           from-source : (r : ℕ) → Region c r → under c (transitionAt c t .source) r ≡ true → (departed c σ ts r ≡ idle r) ⊎ Hearing c (departed c σ ts) (pendingOf c t) r
           from-source r g u = ⊎-elim (λ x. below-source t r m x g u) (λ x. absurd (none-below-basic _ r g (source-basic c passed ranges t h x) u)) (decided (hasExit c t))
 
+      no-exit : (t : ℕ) → (hasExit c t || hasEntry c t) ≡ false → hasExit c t ≡ false
+      no-exit t k = fails (hasExit c t) (λ e. clash (or-l _ e) k)
+
+      no-entry : (t : ℕ) → (hasExit c t || hasEntry c t) ≡ false → hasEntry c t ≡ false
+      no-entry t k = fails (hasEntry c t) (λ e. clash (or-r (hasExit c t) e) k)
+
       departing-by : {t : ℕ} → Mem t ts → (hasExit c t || hasEntry c t) ≡ true → Mem (pendingOf c t) (departing c ts)
       unfolding departing
       departing-by m k = map-by (pendingOf c) (keep-by (λ t. hasExit c t || hasEntry c t) ts m k)
@@ -195,39 +184,39 @@ module _ (c : Chart) (passed : Passed c) (ranges : Ranges c) where
         not-below-source : (t : ℕ) → Mem t ts → under c (transitionAt c t .source) q ≡ true → ⊥
         not-below-source t m u = ⊎-elim
             (λ k. clear (pendingOf c t) (departing-by m k) .1 (inl u))
-            (λ k. none-below-basic _ q g (source-basic c passed ranges t (together .each-known t m) (neither-l (hasExit c t) (hasEntry c t) k)) u)
+            (λ k. none-below-basic _ q g (source-basic c passed ranges t (together .each-known t m) (no-exit t k)) u)
             (decided (hasExit c t || hasEntry c t))
 
         not-below-destination : (t : ℕ) → Mem t ts → under c (transitionAt c t .destination) q ≡ true → ⊥
         not-below-destination t m u = ⊎-elim
             (λ k. clear (pendingOf c t) (departing-by m k) .1 (inr u))
-            (λ k. none-below-basic _ q g (destination-basic t (together .each-known t m) (neither-r (hasExit c t) (hasEntry c t) k)) u)
+            (λ k. none-below-basic _ q g (destination-basic c passed ranges t (together .each-known t m) (no-entry t k)) u)
             (decided (hasExit c t || hasEntry c t))
 
-        next-tree : isTree c next ≡ true
+        next-tree : isTree c (afterStep c σ ts) ≡ true
         next-tree = together-tree c passed ranges σ ts tree together
 
         -- the home of a transition without exit and entry is at its destination
-        at-destination : (t : ℕ) → Mem t ts → home c t ≡ q → departed c σ ts q ≡ pictured c next q
+        at-destination : (t : ℕ) → Mem t ts → home c t ≡ q → departed c σ ts q ≡ pictured c (afterStep c σ ts) q
         unfolding departure arrival
         at-destination t m e = ⊎-elim
             (λ k. absurd (clear (pendingOf c t) (departing-by m k) .0 (sym e)))
             (λ k. let f = together-fires c passed ranges σ ts together t m in
             ap (departed c σ ts) (sym e) ∙ departed-at t m
-            ∙ cond-no _ _ (neither-l (hasExit c t) (hasEntry c t) k) ∙ cond-no _ _ (neither-r (hasExit c t) (hasEntry c t) k)
-            ∙ sym (pictured-child c next next-tree g (subst (λ (x : ℕ). Child c x (transitionAt c t .destination)) e (ends c passed ranges t (together .each-known t m) .to))
+            ∙ cond-no _ _ (no-exit t k) ∙ cond-no _ _ (no-entry t k)
+            ∙ sym (pictured-child c (afterStep c σ ts) next-tree g (subst (λ (x : ℕ). Child c x (transitionAt c t .destination)) e (ends c passed ranges t (together .each-known t m) .to))
             (next-entered c passed ranges σ tree ts together t m _ (f .to .known) (entered-top c (passed .tree) (passed .entry-marks) _ (f .to .known) (f .entry-is)))))
             (decided (hasExit c t || hasEntry c t))
 
         -- any other is where it was
-        stays-pictured : ((u : ℕ) → Mem u ts → home c u ≡ q → ⊥) → pictured c σ q ≡ pictured c next q
+        stays-pictured : ((u : ℕ) → Mem u ts → home c u ≡ q → ⊥) → pictured c σ q ≡ pictured c (afterStep c σ ts) q
         unfolding home
         stays-pictured w = ⊎-elim
-            (λ k. k .1 ∙ sym (pictured-idle c next q (fails (isActive next q) (λ a. ⊎-elim
+            (λ k. k .1 ∙ sym (pictured-idle c (afterStep c σ ts) q (fails (isActive (afterStep c σ ts) q) (λ a. ⊎-elim
             (λ l. clash (l .0) (k .0))
             (λ l. let f = together-fires c passed ranges σ ts together (l .0) (l .1) in not-below-destination (l .0) (l .1) (entered-under c (passed .tree) (passed .entry-marks) _ (f .to .known) q (f .entry-is) (l .2)))
             (next-cases c passed ranges σ tree ts together q a)))))
-            (λ k. k .3 ∙ sym (pictured-child c next next-tree g (k .1) (stays-active c passed ranges σ tree ts together (k .0) (k .1 .known) (k .2) (clear-child (k .0) (k .1)))))
+            (λ k. k .3 ∙ sym (pictured-child c (afterStep c σ ts) next-tree g (k .1) (stays-active c passed ranges σ tree ts together (k .0) (k .1 .known) (k .2) (clear-child (k .0) (k .1)))))
             (pictured-cases c σ tree g)
           where
             clear-child : (s : ℕ) → Child c q s → (t : ℕ) → Mem t ts → under c (transitionAt c t .source) s ≡ true → ⊥
@@ -236,14 +225,14 @@ module _ (c : Chart) (passed : Passed c) (ranges : Ranges c) where
               | no d ↦ not-below-source t m (ap (under c (transitionAt c t .source)) (sym (k .parent-is)) ∙ under-down c (passed .tree) _ s (k .known) d u .1)
             ]
 
-        other-is : departed c σ ts q ≡ pictured c next q
+        other-is : departed c σ ts q ≡ pictured c (afterStep c σ ts) q
         other-is = ⊎-elim (λ k. at-destination (k .0) (k .1) (k .2)) (λ w. departed-other c σ ts q w ∙ stays-pictured w) (home-cases c ts q)
 
       -- the places after the transitions have departed, and what is pending then
-      pub departed-placed : Once ts → Placed c next (departed c σ ts) (departing c ts)
+      pub departed-placed : Once ts → Placed c (afterStep c σ ts) (departed c σ ts) (departing c ts)
       unfolding departing
       departed-placed o = record {
-        each = λ p m. let k = departing-at p m in subst (IsPending c next (departed c σ ts)) (sym (k .3)) (departing-pending (k .0) (k .1) (k .2));
+        each = λ p m. let k = departing-at p m in subst (IsPending c (afterStep c σ ts) (departed c σ ts)) (sym (k .3)) (departing-pending (k .0) (k .1) (k .2));
         apart = λ p r m n u.
             let k = departing-at p m in
             let l = departing-at r n in

@@ -28,7 +28,7 @@ use Rattle.agreement.specs.Agreement.{ChartConfiguration, NetworkConfigu
 use Rattle.agreement.proofs.Relation.{standing, Pending, owesAll, Related}
 use Rattle.agreement.proofs.Claims.{NoWaitOwed, MovePays, SomeMove}
 use Rattle.agreement.proofs.Standing.{Fits, urgent-standing, bounds-standing, configuration-standing, active-leaves}
-use Rattle.agreement.proofs.Accepted.{Accepted, accepted-at, known-at, urgent-at, wait-not-urgent}
+use Rattle.agreement.proofs.Accepted.{Accepted, accepted-at, urgent-at, wait-not-urgent}
 use Rattle.agreement.proofs.Broadcast.{broadcast-leads, broadcast-accepted}
 use Rattle.agreement.proofs.Pending.{placed-fits, home-urgent, urgent-home}
 use Rattle.agreement.proofs.Paying.{Payment}
@@ -122,7 +122,7 @@ module _ (c : Chart) (passed : Passed c) (ranges : Ranges c) (σ : ChartConfigur
     sender-of : (m : ℕ) × Mem m ms × ((p : Pending) × Mem p (r .pending) × Leaves c (f (home c (p .transition))) (edgeAt (flatten c) m))
     sender-of =
         let u = urgent-at (flatten c) ms (a .urgent-first (urgent-now some)) in
-        let l = active-leaves c passed f (σ .variables) (σ .clocks) fits (edge-at-mem (flatten c) (u .0) (known-at _ ms (a .are-known) (u .0) (u .1))) (a .each-active (u .0) (u .1)) in
+        let l = active-leaves c passed f (σ .variables) (σ .clocks) fits (edge-at-mem (flatten c) (u .0) (a .are-known .each (u .0) (u .1))) (a .each-active (u .0) (u .1)) in
         (u .0, u .1, sender-from (u .0) (u .1) (u .2) (l .0) (l .1) (l .2))
 
   -- the claims

@@ -29,7 +29,7 @@ use Rattle.flattener.proofs.Arrivals.{has-entry-at, no-entry-at, Ends, ends, po
 use Rattle.agreement.specs.Agreement.{ChartConfiguration}
 use Rattle.agreement.proofs.Relation.{Pending, entryPair, Concerns, IsPending, Placed}
 use Rattle.agreement.proofs.Standing.{Fits}
-use Rattle.agreement.proofs.Bearing.{pictured-idle, pictured-child, pictured-fits, pictured-not-urgent}
+use Rattle.flattener.proofs.Pictured.{pictured-idle, pictured-child, pictured-fits, pictured-not-urgent}
 
 -- one pending transition, and the chart where it leads
 module _ (c : Chart) (passed : Passed c) (ranges : Ranges c) (σ : ChartConfiguration) (tree : isTree c σ ≡ true) (f : ℕ → Place) (p : Pending) (k : IsPending c σ f p) where

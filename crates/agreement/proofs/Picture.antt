@@ -34,11 +34,11 @@ use Rattle.flattener.specs.Picture.{pictured, picture}
 use Rattle.flattener.proofs.Automata.{Region, regionAt, region-at, marked-child}
 use Rattle.flattener.proofs.Sound.{initials-at, initials-by}
 use Rattle.flattener.proofs.Bounds.{bounds-pictured}
+use Rattle.flattener.proofs.Pictured.{pictured-idle, pictured-child, pictured-fits, pictured-not-urgent}
 use Rattle.agreement.specs.Agreement.{ChartConfiguration, Alike}
 use Rattle.agreement.proofs.Relation.{standing, Pending, owes, owesAll}
 use Rattle.agreement.proofs.Claims.{SettledIsPicture, PictureIsSettled, StartIsPicture, StartIsConfiguration, WaitsAlike, WaitIsPicture}
-use Rattle.agreement.proofs.Standing.{bounds-standing, urgent-standing, configuration-standing}
-use Rattle.agreement.proofs.Bearing.{picture-stands, pictured-idle, pictured-child, pictured-fits, pictured-not-urgent}
+use Rattle.agreement.proofs.Standing.{picture-stands, bounds-standing, urgent-standing, configuration-standing}
 
 -- what stands for each automaton, and nothing past them
 automata-same : (c : Chart) {A : Type 0} (f g : ℕ → A) (z : A) → ((a : ℕ) → a < length (sequentials c) → f a ≡ g a)

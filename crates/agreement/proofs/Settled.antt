@@ -1,23 +1,20 @@
 -- Step 7 with nothing owed: a move of the network carries a step that the chart accepts (`move-is-step`), a step of the chart is
 -- carried by a move (`step-is-move`), and by one only (`one-move`).
 use mathlib.Core.Path.{_≡_, refl, sym, ap, ap₂, _∙_, subst}
-use mathlib.Core.Bool.{Bool, true, false, _&&_, _||_, not}
-use mathlib.Core.Logic.{_⊎_, inl, inr, ⊎-elim, _≢_}
-use mathlib.Core.List.{List, [], _∷_, map, map-map, List·Memᴰ as Mem, List·Memᴰ·not-nil as not-nil, Memᴰ·cast as cast}
-use Prim.Native.Nat.{ℕ, _≤_, _<_}
+use mathlib.Core.Bool.{true}
+use mathlib.Core.Logic.{⊎-elim, _≢_}
+use mathlib.Core.List.{List, [], map, map-map, List·Memᴰ as Mem, Memᴰ·cast as cast}
+use Prim.Native.Nat.{ℕ, _<_}
 use native.Mathlib.Omega.{arith}
-use borrow.Author.Tests.{eqb-true, eq-eqb, leb-true}
-use lib.Dec.{eqb, leb}
-use lib.IntN.{ℤ}
 use lib.ListN.{length}
-use Rattle.expr.specs.Lists.{all, any, ascending}
+use Rattle.expr.specs.Lists.{all, ascending}
 use Rattle.expr.specs.Answer.{done}
-use Rattle.expr.specs.Guard.{Update}
-use Rattle.expr.specs.Label.{Label, assignsOnce}
+use Rattle.expr.specs.Label.{Label}
 use Rattle.expr.specs.Clocks.{keeps}
 use Rattle.expr.specs.Moves.{known, allowed, variablesAfter, clocksAfter}
-use Rattle.expr.proofs.Bools.{parts, clash, both, same, or-else, not-no}
-use Rattle.expr.proofs.Lists.{Once, all-at, all-by, map-at, map-by, some-mem, ascending-once}
+use Rattle.expr.proofs.Bools.{clash, same}
+use Rattle.expr.proofs.Lists.{all-at, all-by, map-at, map-by, ascending-once}
+use Rattle.expr.proofs.Labels.{receiver-assigns-nothing}
 use Rattle.expr.proofs.Rows.{keeps-clocks-after}
 use Rattle.expr.proofs.Sets.{ascending-same, Matched, matched-length, allowed-set-at, allowed-set-by, OneAssigns, one-assigns, variables-alike, clocks-alike}
 use Rattle.chart.specs.Chart.{Chart, Transition, transitionAt, home}
@@ -26,38 +23,26 @@ use Rattle.chart.specs.Machine as chart
 use Rattle.chart.proofs.Rules.{Passed}
 use Rattle.chart.proofs.Ranges.{Ranges}
 use Rattle.chart.proofs.After.{after-clocks}
-use Rattle.chart.proofs.Step.{Together, Stepped, step-at, step-by, transition-mem, active-source, allowed-apart, configuration-tree, configuration-clocks, configuration-bounds}
+use Rattle.chart.proofs.Step.{Together, Stepped, stepped-together, step-at, step-by, transition-mem, active-source, allowed-apart, configuration-tree, configuration-clocks, configuration-bounds}
 use Rattle.chart.proofs.Moved.{next-configured}
 use Rattle.network.specs.Network.{Edge, ownerOf}
 use Rattle.network.specs.Machine as network
-use Rattle.network.specs.Machine.{edgeAt, activeEdge}
-use Rattle.flattener.specs.Flatten.{Place, child, edge, number, automaton, placeHome, departure, boundsOf, flatten}
+use Rattle.network.specs.Machine.{edgeAt}
+use Rattle.flattener.specs.Flatten.{Place, edge, automaton, departure, boundsOf, flatten}
 use Rattle.flattener.specs.Picture.{pictured, picture}
-use Rattle.flattener.proofs.Automata.{Region, sequentials-at, sequentials-by}
+use Rattle.flattener.proofs.Automata.{Region, sequentials-by}
 use Rattle.flattener.proofs.Arrivals.{ends}
 use Rattle.flattener.proofs.Bounds.{bounds-pictured, bounds-after}
+use Rattle.flattener.proofs.Pictured.{pictured-child, pictured-fits}
 use Rattle.agreement.specs.Agreement.{ChartConfiguration, NetworkConfiguration, Accepts, carried, named}
 use Rattle.agreement.proofs.Relation.{standing, Related}
 use Rattle.agreement.proofs.Claims.{MoveIsStep, StepIsMove, OneMove}
-use Rattle.agreement.proofs.Standing.{Fits, bounds-standing, Takes, takes-by, after-standing}
-use Rattle.agreement.proofs.Accepted.{Known, known-at, known-by, Move, Accepted, accepted-at, accepted-by}
-use Rattle.agreement.proofs.Bearing.{testedBy, carrier, picture-stands, pictured-child, pictured-fits}
+use Rattle.agreement.proofs.Standing.{picture-stands, bounds-standing, Takes, takes-by, after-standing}
+use Rattle.agreement.proofs.Accepted.{Move, Accepted, accepted-at, accepted-by}
+use Rattle.agreement.proofs.Bearing.{testedBy, carrier}
 use Rattle.agreement.proofs.Picture.{picture-configuration, picture-not-urgent}
 use Rattle.agreement.proofs.Carrying.{Carries, carries-label, carries-owner, carries-active, carries-one, move-carries, carried-ascends, carried-matches, carried-allowed, carriers, carriers-ascend, carried-carriers, carriers-match}
-use Rattle.agreement.proofs.Departing.{departed, departing, departing-owes, departed-at, departed-other, departed-fits, departed-placed, home-cases}
-
-known-parts : (count : ℕ) (ms : List ℕ) → known count ms ≡ true → (1 ≤ length ms) × (length ms ≤ 16) × (ascending ms ≡ true)
-unfolding known
-known-parts count ms h = (leb-true 1 (length ms) (search parts), leb-true (length ms) 16 (search parts), search parts)
-
--- 13: a receiver assigns nothing
-receiver-assigns-nothing : (l : Label) → assignsOnce l ≡ true → l .signal ≡ 2 → l .body .updates ≡ []
-unfolding assignsOnce
-receiver-assigns-nothing l h e = none (l .body .updates) (eqb-true (length (l .body .updates)) 0 (or-else (not (eqb (l .signal) 2)) _ (search parts) (not-no (eq-eqb (l .signal) 2 e))))
-  where
-    none : (us : List Update) → length us ≡ 0 → us ≡ []
-    none [] z = refl
-    none (u ∷ us) z = absurd (omega arith)
+use Rattle.agreement.proofs.Departing.{afterStep, departed, departing, departing-owes, departed-at, departed-other, departed-fits, departed-placed, home-cases}
 
 module _ (c : Chart) (passed : Passed c) (ranges : Ranges c) (σ : ChartConfiguration) (given : chart.isConfiguration c σ ≡ true) where
   tree : chart.isTree c σ ≡ true
@@ -65,9 +50,6 @@ module _ (c : Chart) (passed : Passed c) (ranges : Ranges c) (σ : ChartConfigur
 
   -- edges ms that carry the transitions ts, which can be taken together
   module _ (ms ts : List ℕ) (matched : Matched (Carries c σ) ms ts) (together : Together c σ ts) where
-    abbrev next : ChartConfiguration
-    next = chart.after c (map (transitionAt c) ts) σ
-
     edges-take : (e : Edge) → Mem e (map (edgeAt (flatten c)) ms) → Takes c (pictured c σ) (departed c σ ts) e
     unfolding carrier
     edges-take e m =
@@ -85,7 +67,7 @@ module _ (c : Chart) (passed : Passed c) (ranges : Ranges c) (σ : ChartConfigur
     others-stay q g f = departed-other c σ ts q (λ t n e. let w = matched .left t n in f _ (map-by (edgeAt (flatten c)) (w .1)) (carries-owner c passed ranges σ tree (w .0) t (w .2) ∙ ap (automaton c) e))
 
     -- the move leads where the transitions have departed
-    moved-standing : OneAssigns (λ m. edgeAt (flatten c) m .label) ms → network.after (flatten c) (map (edgeAt (flatten c)) ms) (picture c σ) ≡ standing c (departed c σ ts) (next .variables) (next .clocks)
+    moved-standing : OneAssigns (λ m. edgeAt (flatten c) m .label) ms → network.after (flatten c) (map (edgeAt (flatten c)) ms) (picture c σ) ≡ standing c (departed c σ ts) (afterStep c σ ts .variables) (afterStep c σ ts .clocks)
     moved-standing a =
         ap (network.after (flatten c) (map (edgeAt (flatten c)) ms)) (picture-stands c σ)
         ∙ after-standing c passed (pictured c σ) (departed c σ ts) (departed-fits c passed ranges σ tree ts together) (map (edgeAt (flatten c)) ms) edges-take others-stay (σ .variables) (σ .clocks)
@@ -97,29 +79,29 @@ module _ (c : Chart) (passed : Passed c) (ranges : Ranges c) (σ : ChartConfigur
         labels : map (λ (t : Transition). t .label) (map (transitionAt c) ts) ≡ map (λ t. transitionAt c t .label) ts
         labels = map-map (λ (t : Transition). t .label) (transitionAt c) ts
 
-        variables : variablesAfter (map (λ (e : Edge). e .label) (map (edgeAt (flatten c)) ms)) (σ .variables) ≡ next .variables
+        variables : variablesAfter (map (λ (e : Edge). e .label) (map (edgeAt (flatten c)) ms)) (σ .variables) ≡ afterStep c σ ts .variables
         variables = unfold chart.after in
             ap (λ (ls : List Label). variablesAfter ls (σ .variables)) edge-labels
             ∙ variables-alike (Carries c σ) _ _ (carries-label c σ) ms ts matched (σ .variables) a
             ∙ ap (λ (ls : List Label). variablesAfter ls (σ .variables)) (sym labels)
 
-        clocks : clocksAfter (map (λ (e : Edge). e .label) (map (edgeAt (flatten c)) ms)) (σ .clocks) ≡ next .clocks
+        clocks : clocksAfter (map (λ (e : Edge). e .label) (map (edgeAt (flatten c)) ms)) (σ .clocks) ≡ afterStep c σ ts .clocks
         clocks = ap (λ (ls : List Label). clocksAfter ls (σ .clocks)) edge-labels ∙ clocks-alike (Carries c σ) _ _ (carries-label c σ) ms ts matched (σ .clocks) ∙ sym (after-clocks c σ ts)
 
     -- and keeps the bounds, just if the chart does
-    bounds-alike : network.boundsKept (flatten c) (standing c (departed c σ ts) (next .variables) (next .clocks)) ≡ chart.boundsKept c next
+    bounds-alike : network.boundsKept (flatten c) (standing c (departed c σ ts) (afterStep c σ ts .variables) (afterStep c σ ts .clocks)) ≡ chart.boundsKept c (afterStep c σ ts)
     bounds-alike =
-        bounds-standing c passed (departed c σ ts) (next .variables) (next .clocks) (departed-fits c passed ranges σ tree ts together)
+        bounds-standing c passed (departed c σ ts) (afterStep c σ ts .variables) (afterStep c σ ts .clocks) (departed-fits c passed ranges σ tree ts together)
         ∙ same _ _ (λ h. all-by _ ts (λ t m.
-        ap (λ (p : Place). keeps (boundsOf c p) (next .clocks)) (sym (departed-at c passed ranges σ tree ts together t m)) ∙ all-at _ (sequentials c) h (sequentials-by c (ends c passed ranges t (together .each-known t m) .region))))
+        ap (λ (p : Place). keeps (boundsOf c p) (afterStep c σ ts .clocks)) (sym (departed-at c passed ranges σ tree ts together t m)) ∙ all-at _ (sequentials c) h (sequentials-by c (ends c passed ranges t (together .each-known t m) .region))))
         (λ h. all-by _ (sequentials c) (λ q m. ⊎-elim
-        (λ k. ap (λ (x : ℕ). keeps (boundsOf c (departed c σ ts x)) (next .clocks)) (sym (k .2)) ∙ ap (λ (p : Place). keeps (boundsOf c p) (next .clocks)) (departed-at c passed ranges σ tree ts together (k .0) (k .1)) ∙ all-at _ ts h (k .1))
-        (λ f. ap (λ (p : Place). keeps (boundsOf c p) (next .clocks)) (departed-other c σ ts q f) ∙ still q m)
+        (λ k. ap (λ (x : ℕ). keeps (boundsOf c (departed c σ ts x)) (afterStep c σ ts .clocks)) (sym (k .2)) ∙ ap (λ (p : Place). keeps (boundsOf c p) (afterStep c σ ts .clocks)) (departed-at c passed ranges σ tree ts together (k .0) (k .1)) ∙ all-at _ ts h (k .1))
+        (λ f. ap (λ (p : Place). keeps (boundsOf c p) (afterStep c σ ts .clocks)) (departed-other c σ ts q f) ∙ still q m)
         (home-cases c ts q)))
         ∙ ap (λ (cs : List ℕ). all (λ t. keeps (boundsOf c (departure c t)) cs) ts) (after-clocks c σ ts)
         ∙ sym (bounds-after c passed ranges σ ts tree (configuration-clocks c σ given) together (configuration-bounds c σ given))
       where
-        still : (q : ℕ) → Mem q (sequentials c) → keeps (boundsOf c (pictured c σ q)) (next .clocks) ≡ true
+        still : (q : ℕ) → Mem q (sequentials c) → keeps (boundsOf c (pictured c σ q)) (afterStep c σ ts .clocks) ≡ true
         still q m =
             ap (keeps (boundsOf c (pictured c σ q))) (after-clocks c σ ts)
             ∙ keeps-clocks-after _ (boundsOf c (pictured c σ q)) (σ .clocks) (all-at _ (sequentials c) (sym (bounds-pictured c passed ranges σ tree (configuration-clocks c σ given)) ∙ configuration-bounds c σ given) m)
@@ -136,14 +118,11 @@ module _ (c : Chart) (passed : Passed c) (ranges : Ranges c) (σ : ChartConfigur
     abbrev steps : List ℕ
     steps = carried (flatten c) ms
 
-    numbers : (1 ≤ length ms) × (length ms ≤ 16) × (ascending ms ≡ true)
-    numbers = known-parts _ ms (move .are-known)
-
     each-carries : (m : ℕ) → Mem m ms → (t : ℕ) × Carries c σ m t
-    each-carries = move-carries c passed ranges σ tree ms (known-at _ ms (move .are-known)) (move .each-active) (move .is-allowed)
+    each-carries = move-carries c passed ranges σ tree ms (move .are-known .each) (move .each-active) (move .is-allowed)
 
     move-matches : Matched (Carries c σ) ms steps
-    move-matches = carried-matches c passed ranges σ tree ms (numbers .2) each-carries
+    move-matches = carried-matches c passed ranges σ tree ms (move .are-known .ascends) each-carries
 
     steps-known : (t : ℕ) → Mem t steps → t < length (c .transitions)
     steps-known t n = move-matches .left t n .2 .known
@@ -157,17 +136,16 @@ module _ (c : Chart) (passed : Passed c) (ranges : Ranges c) (σ : ChartConfigur
     steps-together : Together c σ steps
     steps-together = record { each-known = steps-known; each-from = λ t n. active-source c σ _ (steps-active t n); homes = allowed-apart c passed ranges _ steps steps-known steps-allowed }
 
-    move-leads : ν ≡ standing c (departed c σ steps) (next ms steps move-matches steps-together .variables) (next ms steps move-matches steps-together .clocks)
+    move-leads : ν ≡ standing c (departed c σ steps) (afterStep c σ steps .variables) (afterStep c σ steps .clocks)
     move-leads = sym (move .result) ∙ moved-standing ms steps move-matches steps-together (one-assigns (move .is-allowed) (carriers-silent ms each-carries))
 
-    steps-bounds : chart.boundsKept c (next ms steps move-matches steps-together) ≡ true
+    steps-bounds : chart.boundsKept c (afterStep c σ steps) ≡ true
     steps-bounds = sym (bounds-alike ms steps move-matches steps-together) ∙ ap (network.boundsKept (flatten c)) (sym move-leads) ∙ move .bounds-kept
 
-    steps-accepted : chart.step c σ steps ≡ done (next ms steps move-matches steps-together)
+    steps-accepted : chart.step c σ steps ≡ done (afterStep c σ steps)
     steps-accepted = step-by c σ steps (record {
       given = given;
-      are-known = known-by _ steps (record { some = omega (arith, numbers .0, same-length); few = omega (arith, numbers .1, same-length); ascends = carried-ascends c ms; each = steps-known });
-      each-known = steps-known;
+      are-known = record { some = omega (arith, move .are-known .some, same-length); few = omega (arith, move .are-known .few, same-length); ascends = carried-ascends c ms; each = steps-known };
       each-active = steps-active;
       is-allowed = steps-allowed;
       bounds-kept = steps-bounds;
@@ -178,9 +156,9 @@ module _ (c : Chart) (passed : Passed c) (ranges : Ranges c) (σ : ChartConfigur
         same-length = matched-length (Carries c σ) ms steps move-matches
 
     steps-some : steps ≡ [] → ⊥
-    steps-some e = omega (arith, numbers .0, matched-length (Carries c σ) ms steps move-matches, ap (λ (l : List ℕ). length l) e)
+    steps-some e = omega (arith, move .are-known .some, matched-length (Carries c σ) ms steps move-matches, ap (λ (l : List ℕ). length l) e)
 
-    steps-related : Related c (next ms steps move-matches steps-together) ν (named c steps)
+    steps-related : Related c (afterStep c σ steps) ν (named c steps)
     steps-related = record {
       configured = next-configured c passed ranges σ tree steps steps-together given steps-bounds;
       places = departed c σ steps;
@@ -196,28 +174,25 @@ module _ (c : Chart) (passed : Passed c) (ranges : Ranges c) (σ : ChartConfigur
     moves : List ℕ
     moves = carriers c passed ranges σ tree ts
 
-    ascends : ascending ts ≡ true
-    ascends = known-parts _ ts (step .are-known) .2
-
     step-matches : Matched (Carries c σ) moves ts
     unfolding moves
-    step-matches = carriers-match c passed ranges σ tree ts ascends (step .each-known) (step .each-active)
+    step-matches = carriers-match c passed ranges σ tree ts (step .are-known .ascends) (step .are-known .each) (step .each-active)
 
     moves-carry : carried (flatten c) moves ≡ ts
     unfolding moves
-    moves-carry = carried-carriers c passed ranges σ tree ts ascends (step .each-known) (step .each-active)
+    moves-carry = carried-carriers c passed ranges σ tree ts (step .are-known .ascends) (step .are-known .each) (step .each-active)
 
     moves-ascend : ascending moves ≡ true
     unfolding moves
-    moves-ascend = carriers-ascend c passed ranges σ tree ts ascends (step .each-known) (step .each-active)
+    moves-ascend = carriers-ascend c passed ranges σ tree ts (step .are-known .ascends) (step .are-known .each) (step .each-active)
 
     step-together : Together c σ ts
-    step-together = record { each-known = step .each-known; each-from = λ t n. active-source c σ _ (step .each-active t n); homes = allowed-apart c passed ranges _ ts (step .each-known) (step .is-allowed) }
+    step-together = stepped-together c passed ranges σ ts step
 
-    moves-accepted : network.step (flatten c) (picture c σ) moves ≡ done (standing c (departed c σ ts) (next moves ts step-matches step-together .variables) (next moves ts step-matches step-together .clocks))
+    moves-accepted : network.step (flatten c) (picture c σ) moves ≡ done (standing c (departed c σ ts) (afterStep c σ ts .variables) (afterStep c σ ts .clocks))
     moves-accepted = accepted-by (flatten c) (picture c σ) moves (record {
       given = picture-configuration c passed ranges σ given;
-      are-known = known-by _ moves (record { some = omega (arith, numbers-of .0, same-length); few = omega (arith, numbers-of .1, same-length); ascends = moves-ascend; each = λ m k. step-matches .right m k .2 .edge-known });
+      are-known = record { some = omega (arith, step .are-known .some, same-length); few = omega (arith, step .are-known .few, same-length); ascends = moves-ascend; each = λ m k. step-matches .right m k .2 .edge-known };
       each-active = λ m k. let r = step-matches .right m k in carries-active c passed ranges σ tree m (r .0) (r .2);
       urgent-first = λ u. clash u (picture-not-urgent c passed ranges σ tree);
       is-allowed = is-allowed;
@@ -225,9 +200,6 @@ module _ (c : Chart) (passed : Passed c) (ranges : Ranges c) (σ : ChartConfigur
       result = moved-standing moves ts step-matches step-together (one-assigns is-allowed (carriers-silent moves (λ m k. let r = step-matches .right m k in (r .0, r .2))));
     })
       where
-        numbers-of : (1 ≤ length ts) × (length ts ≤ 16) × (ascending ts ≡ true)
-        numbers-of = known-parts _ ts (step .are-known)
-
         same-length : length moves ≡ length ts
         same-length = matched-length (Carries c σ) moves ts step-matches
 
@@ -244,7 +216,7 @@ module _ (c : Chart) (passed : Passed c) (ranges : Ranges c) (σ : ChartConfigur
 pub move-is-step : MoveIsStep
 move-is-step c passed ranges σ given ms ν h =
     let move = accepted-at (flatten c) (picture c σ) ms h in
-    (chart.after c (map (transitionAt c) (carried (flatten c) ms)) σ, steps-accepted c passed ranges σ given ms ν move, steps-some c passed ranges σ given ms ν move, steps-related c passed ranges σ given ms ν move)
+    (afterStep c σ (carried (flatten c) ms), steps-accepted c passed ranges σ given ms ν move, steps-some c passed ranges σ given ms ν move, steps-related c passed ranges σ given ms ν move)
 
 pub step-is-move : StepIsMove
 unfolding Accepts
@@ -257,4 +229,4 @@ unfolding Accepts
 one-move c passed ranges σ given ms ns (μ, h) (ν, k) e =
     let a = accepted-at (flatten c) (picture c σ) ms h in
     let b = accepted-at (flatten c) (picture c σ) ns k in
-    ascending-same ms ns (known-parts _ ms (a .are-known) .2) (known-parts _ ns (b .are-known) .2) (edges-within c passed ranges σ given ms ns μ ν a b e) (edges-within c passed ranges σ given ns ms ν μ b a (sym e))
+    ascending-same ms ns (a .are-known .ascends) (b .are-known .ascends) (edges-within c passed ranges σ given ms ns μ ν a b e) (edges-within c passed ranges σ given ns ms ν μ b a (sym e))

@@ -1,7 +1,7 @@
 -- The network configuration in which the automaton of each sequential state q is at the place f q, flags true: its places and
 -- flags, which edges are active there, whether it is a configuration and keeps the bounds, whether an urgent place is occupied,
 -- and that edges that take automata from where f has them to where g has them lead to the one for g.
-use mathlib.Core.Path.{_≡_, sym, ap, ap₂, _∙_, subst}
+use mathlib.Core.Path.{_≡_, refl, sym, ap, ap₂, _∙_, subst}
 use mathlib.Core.Bool.{Bool, true, cond, _&&_, and-true}
 use mathlib.Core.Logic.{_⊎_, inl, inr, ⊎-elim, _≢_}
 use mathlib.Core.List.{List, map, List·Memᴰ as Mem}
@@ -27,6 +27,7 @@ use Rattle.chart.proofs.Rules.{Passed}
 use Rattle.network.specs.Network.{Edge, locationAt, ownerOf}
 use Rattle.network.specs.Machine.{place, boundsKept, isConfiguration, flagsAgree, activeEdge, urgentAt, urgent, overwrite, move, write, after}
 use Rattle.flattener.specs.Flatten.{Place, samePlace, number, automaton, placeHome, boundsOf, flagAt, writtenBy, valuesBy, signalling, edge, ownEdge, urgentPlace, flatten}
+use Rattle.flattener.specs.Picture.{pictured, picture}
 use Rattle.network.proofs.Moving.{move-length, move-other, move-to, write-length, write-other, write-to}
 use Rattle.flattener.proofs.Flags.{write-flags, write-again}
 use Rattle.flattener.proofs.Automata.{all-automata, any-automata, Region, regionAt, region-at, automaton-lt, region-of-automaton, automaton-of-region, automaton-injective}
@@ -34,6 +35,11 @@ use Rattle.flattener.proofs.Numbers.{IsPlace, PlaceOf, same-place-at, same-plac
 use Rattle.flattener.proofs.Edges.{Leaves, source-of, edges-at, owner-of}
 use Rattle.agreement.specs.Agreement.{ChartConfiguration}
 use Rattle.agreement.proofs.Relation.{standing}
+
+-- the picture is a standing configuration
+pub picture-stands : (c : Chart) (σ : ChartConfiguration) → picture c σ ≡ standing c (pictured c σ) (σ .variables) (σ .clocks)
+unfolding picture standing
+picture-stands c σ = refl
 
 -- f has each automaton at one of its places
 abbrev pub Fits : Chart → (ℕ → Place) → Type 0

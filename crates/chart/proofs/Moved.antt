@@ -1,14 +1,13 @@
 -- What is active after transitions that are taken together: what was active and lies below no source, and what is entered.
 -- No source and no destination lies above a home; below a destination just what is entered is active.
-use mathlib.Core.Path.{_≡_, refl, sym, ap, _∙_, subst}
-use mathlib.Core.Bool.{Bool, true, false, not, _&&_}
+use mathlib.Core.Path.{_≡_, sym, ap, _∙_, subst}
+use mathlib.Core.Bool.{true, not, _&&_}
 use mathlib.Core.Logic.{_⊎_, inl, inr, ⊎-elim}
 use mathlib.Core.List.{List, map, List·Memᴰ as Mem}
 use Prim.Native.Nat.{ℕ, _+_, _<_}
 use borrow.Author.Tests.{lt-ltb, not-true}
 use lib.Dec.{ltb}
-use lib.ListN.{length}
-use Rattle.expr.specs.Lists.{all, any}
+use Rattle.expr.specs.Lists.{all}
 use Rattle.expr.specs.Guard.{Update, limits}
 use Rattle.expr.specs.Label.{Label}
 use Rattle.expr.specs.Clocks.{inLimit, zeroPast}
@@ -23,7 +22,7 @@ use Rattle.chart.specs.Machine.{isActive, isTree, isConfiguration, bound
 use Rattle.chart.specs.declared.configuration.Configuration.{Configuration}
 use Rattle.chart.proofs.Tree.{size}
 use Rattle.chart.proofs.Entered.{entered-under}
-use Rattle.chart.proofs.Active.{IsTree, tree-at, active-known}
+use Rattle.chart.proofs.Active.{tree-at, active-known}
 use Rattle.chart.proofs.Rules.{Passed}
 use Rattle.chart.proofs.Ranges.{Ranges}
 use Rattle.chart.proofs.After.{Fires, after-active, after-entered, free-of-source, free-of-destination, destination-active, destinations-same, stays-clear, home-stays}

@@ -7,7 +7,7 @@ use Prim.Native.Nat.{ℕ, _+_, _<_}
 use native.Mathlib.Omega.{arith}
 use native.Mathlib.Decide.{ℕ-discrete}
 use borrow.Author.Tests.{eqb-true, eqb-false, eq-eqb, ne-eqb, ltb-true, not-true}
-use lib.Dec.{ltb, eqb}
+use lib.Dec.{eqb}
 use lib.ListN.{length}
 use Rattle.expr.specs.Lists.{has, all}
 use Rattle.expr.specs.Answer.{done}
@@ -16,6 +16,7 @@ use Rattle.expr.specs.Moves.{known, allowed}
 use Rattle.expr.proofs.Bools.{parts, clash, decided, and-l, both, cond-yes, cond-no, not-yes}
 use Rattle.expr.proofs.Lists.{all-at, all-by, all-below, map-at, map-by, getD-mem}
 use Rattle.expr.proofs.Answer.{unless-at, unless-by, done-injective}
+use Rattle.expr.proofs.Moves.{Known, known-at, known-by}
 use Rattle.expr.proofs.Sets.{allowed-set-at, allowed-channels}
 use Rattle.expr.proofs.Rows.{ClockValues, values-in-limit, values-zeros, keeps-zeros, in-limit-zeros, zero-past-zeros, zeros-past-zeros}
 use Rattle.chart.specs.Chart.{Chart, Transition, stateAt, transitionAt, parentOf, basic, sequential, home}
@@ -58,8 +59,7 @@ entry-at c t range h = ⊎-elim
 -- what a step that is not refused says
 pub record Stepped (c : Chart) (σ : Configuration) (ms : List ℕ) (τ : Configuration) : Type 0 where
   pub given : isConfiguration c σ ≡ true
-  pub are-known : known (length (c .transitions)) ms ≡ true
-  pub each-known : (m : ℕ) → Mem m ms → m < length (c .transitions)
+  pub are-known : Known (length (c .transitions)) ms
   pub each-active : (m : ℕ) → Mem m ms → activeTransition c σ (transitionAt c m) ≡ true
   pub is-allowed : allowed (λ m. transitionAt c m .label) (home c) (λ m. activeTransition c σ (transitionAt c m)) (length (c .transitions)) (c .rendezvous) ms ≡ true
   pub bounds-kept : boundsKept c τ ≡ true
@@ -69,10 +69,6 @@ tested-at : (c : Chart) (σ : Configuration) {τ : Configuration} → tested c �
 unfolding tested
 tested-at c σ h = let u = unless-at 21 _ _ h in let e = done-injective (u .1) in (subst (λ (x : Configuration). boundsKept c x ≡ true) e (u .0), e)
 
-known-at : (n : ℕ) (ms : List ℕ) → known n ms ≡ true → (m : ℕ) → Mem m ms → m < n
-unfolding known
-known-at n ms h m k = ltb-true m n (all-at (λ m. ltb m n) ms (search parts) k)
-
 pub step-at : (c : Chart) (σ : Configuration) (ms : List ℕ) {τ : Configuration} → step c σ ms ≡ done τ → Stepped c σ ms τ
 unfolding step
 step-at c σ ms h =
@@ -81,13 +77,13 @@ step-at c σ ms h =
     let d = unless-at 19 _ _ (b .1) in
     let e = unless-at 20 _ _ (d .1) in
     let f = tested-at c _ (e .1) in
-    record { given = a .0; are-known = b .0; each-known = known-at _ ms (b .0); each-active = λ m k. all-at _ _ (d .0) (map-by (transitionAt c) k); is-allowed = e .0; bounds-kept = f .0; result = f .1 }
+    record { given = a .0; are-known = known-at _ ms (b .0); each-active = λ m k. all-at _ _ (d .0) (map-by (transitionAt c) k); is-allowed = e .0; bounds-kept = f .0; result = f .1 }
 
 pub step-by : (c : Chart) (σ : Configuration) (ms : List ℕ) {τ : Configuration} → Stepped c σ ms τ → step c σ ms ≡ done τ
 unfolding step tested
 step-by c σ ms h =
     unless-by 17 _ (h .given)
-    ∙ (unless-by 18 _ (h .are-known)
+    ∙ (unless-by 18 _ (known-by _ ms (h .are-known))
     ∙ (unless-by 19 _ (all-by (activeTransition c σ) _ (λ t k. let r = map-at (transitionAt c) ms k in ap (activeTransition c σ) (r .2) ∙ h .each-active (r .0) (r .1)))
     ∙ (unless-by 20 _ (h .is-allowed)
     ∙ (unless-by 21 _ (ap (boundsKept c) (h .result) ∙ h .bounds-kept) ∙ ap done (h .result)))))
@@ -188,19 +184,19 @@ module _ (c : Chart) (passed : Passed c) (ranges : Ranges c) where
       ⊎-elim (λ e. e) (λ e. w .owners a b m n (apart-at c (passed .not-nested) a b (k a m) (k b n) (e .0) (e .1) (e .2) u)) (allowed-channels w a b m n)
 
   pub homes-apart : (σ : Configuration) (ms : List ℕ) {τ : Configuration} → Stepped c σ ms τ → (a b : ℕ) → Mem a ms → Mem b ms → under c (home c a) (home c b) ≡ true → a ≡ b
-  homes-apart σ ms s = allowed-apart _ ms (s .each-known) (s .is-allowed)
+  homes-apart σ ms s = allowed-apart _ ms (s .are-known .each) (s .is-allowed)
 
   -- transitions that are not refused by 18, 19 and 20
   pub together-by : (σ : Configuration) (ms : List ℕ) → known (length (c .transitions)) ms ≡ true → all (activeTransition c σ) (map (transitionAt c) ms) ≡ true
       → allowed (λ m. transitionAt c m .label) (home c) (λ m. activeTransition c σ (transitionAt c m)) (length (c .transitions)) (c .rendezvous) ms ≡ true → Together c σ ms
   together-by σ ms k a w = record {
-    each-known = known-at _ ms k;
+    each-known = known-at _ ms k .each;
     each-from = λ m n. active-source c σ _ (all-at _ _ a (map-by (transitionAt c) n));
-    homes = allowed-apart _ ms (known-at _ ms k) w;
+    homes = allowed-apart _ ms (known-at _ ms k .each) w;
   }
 
   pub stepped-together : (σ : Configuration) (ms : List ℕ) {τ : Configuration} → Stepped c σ ms τ → Together c σ ms
-  stepped-together σ ms s = record { each-known = s .each-known; each-from = λ m n. active-source c σ _ (s .each-active m n); homes = homes-apart σ ms s }
+  stepped-together σ ms s = record { each-known = s .are-known .each; each-from = λ m n. active-source c σ _ (s .each-active m n); homes = homes-apart σ ms s }
 
   pub together-fires : (σ : Configuration) (ms : List ℕ) → Together c σ ms → (m : ℕ) → Mem m ms → Fires c (isActive σ) (transitionAt c m)
   together-fires σ ms h m n = fires-at σ (transitionAt c m) (transition-mem c m (h .each-known m n)) (h .each-from m n)

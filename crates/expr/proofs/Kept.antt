@@ -10,7 +10,7 @@ use lib.IntN.{ℤ}
 use lib.ListN.{length, getD, drop, length-drop}
 use lib.Seq.{getD-drop, drop-set-lt}
 use Rattle.expr.specs.Lists.{has, all}
-use Rattle.expr.specs.Reading.{got, byte, many}
+use Rattle.expr.specs.Reading.{byte, many}
 use Rattle.expr.specs.Guard.{Update, Limits, guard, update, assign}
 use Rattle.expr.specs.Label.{Label, Body, body}
 use Rattle.expr.specs.Clocks.{clock-limit, reset, inLimit, zeroPast}

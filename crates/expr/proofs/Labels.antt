@@ -10,12 +10,12 @@ use lib.Dec.{eqb}
 use lib.ListN.{length, getD, set}
 use lib.Seq.{getD-set-same, getD-set-other}
 use borrow.Author.Tests.{eqb-true, eq-eqb, ne-eqb, ltb-true}
-use Rattle.expr.specs.Lists.{all, any, elem, concat}
+use Rattle.expr.specs.Lists.{any, elem, concat}
 use Rattle.expr.specs.Reading.{got, byte, many}
 use Rattle.expr.specs.Expression.{value}
 use Rattle.expr.specs.Guard.{Update, Limits, guard, update, assign}
-use Rattle.expr.specs.Label.{Label, Body, body, label, targets, distinct, bodyOnce}
-use Rattle.expr.proofs.Bools.{same, cond-no}
+use Rattle.expr.specs.Label.{Label, Body, body, label, targets, distinct, bodyOnce, assignsOnce}
+use Rattle.expr.proofs.Bools.{parts, same, cond-no, or-else, not-no}
 use Rattle.expr.proofs.Lists.{any-more}
 use Rattle.expr.proofs.Places.{bind-got}
 use Rattle.expr.specs.Clocks.{reset, resetFrom}
@@ -107,6 +107,15 @@ label-body l channels s {b} {t} h =
     let w = next-at (body l (z .1)) _ (z .3) in
     let e = yield-at (w .1) (w .3) in
     sym (ap (λ (k : Label). body l (k .bytes)) e) ∙ w .2 ∙ ap₂ got (ap (λ (k : Label). k .body) e) (yield-rest _ (w .1) (w .3))
+
+-- 13: a receiver assigns nothing
+pub receiver-assigns-nothing : (l : Label) → assignsOnce l ≡ true → l .signal ≡ 2 → l .body .updates ≡ []
+unfolding assignsOnce
+receiver-assigns-nothing l h e = none (l .body .updates) (eqb-true (length (l .body .updates)) 0 (or-else (not (eqb (l .signal) 2)) _ (search parts) (not-no (eq-eqb (l .signal) 2 e))))
+  where
+    none : (us : List Update) → length us ≡ 0 → us ≡ []
+    none [] z = refl
+    none (u ∷ us) z = absurd (omega arith)
 
 -- labels without assignments leave the variables as they are, and labels without resets the clocks
 pub variables-stay : (ls : List Label) (vs : List ℤ) → ((l : Label) → Mem l ls → l .body .updates ≡ []) → variablesAfter ls vs ≡ vs

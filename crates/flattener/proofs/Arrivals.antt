@@ -1,7 +1,7 @@
 -- The places that a transition goes through, and those where automata start. Each is of the transition's home, or of the
 -- automaton that starts: `source-place`, `post-place`, `pre-place`, `arrival-place`, `departure-place`, `initial-place`.
 use mathlib.Core.Path.{_≡_, refl, sym, subst}
-use mathlib.Core.Bool.{Bool, true, false, cond, not}
+use mathlib.Core.Bool.{Bool, true, false, cond, not, Bool·beq}
 use mathlib.Core.Logic.{⊎-elim, _≢_}
 use mathlib.Core.List.{List·Memᴰ as Mem}
 use Prim.Native.Nat.{ℕ, _<_}
@@ -11,13 +11,14 @@ use lib.Dec.{eqb}
 use lib.ListN.{length}
 use Rattle.expr.proofs.Bools.{clash}
 use Rattle.expr.proofs.Lists.{all-at}
-use Rattle.chart.specs.Chart.{Chart, transitionAt, home}
+use Rattle.chart.specs.Chart.{Chart, transitionAt, basic, home}
 use Rattle.chart.specs.Tree.{entered}
+use Rattle.chart.specs.Rules.{exits}
 use Rattle.chart.proofs.Tree.{Child, own-child}
 use Rattle.chart.proofs.Entered.{entered-marked}
 use Rattle.chart.proofs.Rules.{Passed}
 use Rattle.chart.proofs.Ranges.{Ranges}
-use Rattle.chart.proofs.Step.{siblings-at, transition-mem}
+use Rattle.chart.proofs.Step.{siblings-at, transition-mem, entry-of}
 use Rattle.flattener.specs.Flatten.{idle, child, pre, post, hasExit, hasEntry, exitPairs, enterPairs, arrival, departure, placeHome, markedChild, initialPlace}
 use Rattle.flattener.proofs.Automata.{Region, marked-child}
 use Rattle.flattener.proofs.Numbers.{PlaceOf, idle-place, child-place}
@@ -54,6 +55,28 @@ module _ (c : Chart) (passed : Passed c) (ranges : Ranges c) where
         from = record { known = r .source-known; below-root = s .source-below; parent-is = refl };
         to = record { known = r .destination-known; below-root = s .destination-below; parent-is = sym (s .same-parent) };
       }
+
+  -- 11: an exit just where the source is composite; 12: an entry just where the destination is
+  pub source-composite : (t : ℕ) → t < length (c .transitions) → hasExit c t ≡ true → basic c (transitionAt c t .source) ≡ false
+  unfolding hasExit exits
+  source-composite t h e = go (basic c (transitionAt c t .source)) (eqb (transitionAt c t .exit) 255) (all-at (exits c) _ (passed .leave) (transition-mem c t h)) e
+    where
+      go : (b x : Bool) → Bool·beq b x ≡ true → not x ≡ true → b ≡ false
+      go true true k l = clash l refl
+      go true false k l = clash k refl
+      go false x k l = refl
+
+  pub source-basic : (t : ℕ) → t < length (c .transitions) → hasExit c t ≡ false → basic c (transitionAt c t .source) ≡ true
+  unfolding hasExit exits
+  source-basic t h e = go (basic c (transitionAt c t .source)) (eqb (transitionAt c t .exit) 255) (all-at (exits c) _ (passed .leave) (transition-mem c t h)) e
+    where
+      go : (b x : Bool) → Bool·beq b x ≡ true → not x ≡ false → b ≡ true
+      go true x k l = refl
+      go false true k l = clash k refl
+      go false false k l = clash refl l
+
+  pub destination-basic : (t : ℕ) → t < length (c .transitions) → hasEntry c t ≡ false → basic c (transitionAt c t .destination) ≡ true
+  destination-basic t h e = ⊎-elim (λ k. k .0) (λ k. absurd (k .0 (no-entry-at c t e))) (entry-of c passed ranges t h)
 
   -- its exit and its entry, if it has one
   pub exit-lt : (t : ℕ) → t < length (c .transitions) → hasExit c t ≡ true → transitionAt c t .exit < c .exits

@@ -1,11 +1,11 @@
 -- The network of a chart that is not refused is printable: so reading its file gives it back.
 use mathlib.Core.Path.{_≡_, refl, sym, ap, _∙_, subst}
-use mathlib.Core.Bool.{Bool, true, false, cond, _&&_, xor, Bool·beq}
+use mathlib.Core.Bool.{Bool, true, false, cond, _&&_, xor}
 use mathlib.Core.Logic.{_⊎_, inl, inr, ⊎-elim}
 use mathlib.Core.List.{List, [], List·Memᴰ as Mem}
 use Prim.Native.Nat.{ℕ, _+_, _^_, _≤_, _<_}
 use native.Mathlib.Omega.{arith}
-use borrow.Author.Tests.{lt-ltb, leb-true, ne-eqb, not-true}
+use borrow.Author.Tests.{lt-ltb, leb-true, ne-eqb}
 use lib.Dec.{ltb, eqb}
 use lib.ListN.{length}
 use lib.Pow.{pow-pos}
@@ -15,17 +15,17 @@ use Rattle.expr.specs.Answer as answer
 use Rattle.expr.specs.Reading.{yield, many}
 use Rattle.expr.specs.Guard.{Limits, limits}
 use Rattle.expr.specs.Label.{Label, body, channelFits}
-use Rattle.expr.proofs.Bools.{clash, fails, and-l, and-r}
-use Rattle.expr.proofs.Lists.{all-at, map-at}
+use Rattle.expr.proofs.Bools.{clash, and-l, and-r}
+use Rattle.expr.proofs.Lists.{map-at}
 use Rattle.expr.proofs.Bits.{has-bits, has-zero, bits-lt, has-low-lt, subset-by}
 use Rattle.expr.proofs.Answer.{unless-at, unless-by, then-at, done-injective}
 use Rattle.expr.proofs.Places.{bind-got}
 use Rattle.expr.proofs.Printed.{byte-front}
 use Rattle.expr.proofs.Ranges.{Row, row-free, row-join, LabelRange, label-range-more}
 use Rattle.network.specs.Network.{Edge, readNetwork, networkOf}
-use Rattle.chart.specs.Chart.{Chart, transitionAt, basic}
+use Rattle.chart.specs.Chart.{Chart, transitionAt}
 use Rattle.chart.specs.Tree.{sequentials}
-use Rattle.chart.specs.Rules.{exits, chartOf}
+use Rattle.chart.specs.Rules.{chartOf}
 use Rattle.chart.proofs.Tree.{size}
 use Rattle.chart.proofs.Rules.{Passed, kinds-left}
 use Rattle.chart.proofs.Ranges.{Ranges, kinds-of, chart-at}
@@ -37,7 +37,7 @@ use Rattle.flattener.proofs.Sums.{sorted-at}
 use Rattle.flattener.proofs.Alternatives.{drawn}
 use Rattle.flattener.proofs.Numbers.{IsPlace, idle-place, child-place, all-places-at, number-lt, locations-length}
 use Rattle.flattener.proofs.Channels.{enter-channel-known, exit-channel-known, heard-entries-at, heard-exits-at, pre-enters}
-use Rattle.flattener.proofs.Arrivals.{ends, exit-lt, exit-pair, arrival-place, departure-place, source-place}
+use Rattle.flattener.proofs.Arrivals.{ends, source-composite, exit-lt, exit-pair, arrival-place, departure-place, source-place}
 use Rattle.flattener.proofs.Edges.{Tests, Leaves, edges-at}
 use Rattle.flattener.proofs.Sound.{sound-flatten}
 use Rattle.flattener.proofs.Files.{PrintableLocation, PrintableEdge, Printable, read-printed}
@@ -136,16 +136,11 @@ module _ (c : Chart) (passed : Passed c) (ranges : Ranges c) where
   unfolding flatten
   label-fits t h = label-range-more _ (c .rendezvous + c .broadcasts) _ _ (omega arith) (ranges .of-transition _ (transition-mem c t h) .label-known)
 
-  -- rule 11: an exit has a composite source
-  pub exit-composite : (t : ℕ) → t < length (c .transitions) → hasExit c t ≡ true → basic c (transitionAt c t .source) ≡ false
-  unfolding hasExit exits
-  exit-composite t h e = fails _ (λ b. clash (ap (λ (x : Bool). Bool·beq x (eqb (transitionAt c t .exit) 255)) (sym b) ∙ all-at (exits c) _ (passed .leave) (transition-mem c t h)) (ap (Bool·beq true) (not-true (eqb (transitionAt c t .exit) 255) e)))
-
   -- an alternative is a set of automata
   pub alternative-lt : (t : ℕ) → t < length (c .transitions) → hasExit c t ≡ true → {x : ℕ} → Mem x (alternatives c (transitionAt c t .source) (transitionAt c t .exit)) → x < 2 ^ length (sequentials c)
   unfolding alternatives
   alternative-lt t h e {x} m =
-      let d = drawn c (passed .tree) (kinds-left c (kinds-of ranges)) (transitionAt c t .exit) (passed .no-basic) (size c) (transitionAt c t .source) x (ends c passed ranges t h .from .known) (exit-composite t h e) (sorted-at _ m) in
+      let d = drawn c (passed .tree) (kinds-left c (kinds-of ranges)) (transitionAt c t .exit) (passed .no-basic) (size c) (transitionAt c t .source) x (ends c passed ranges t h .from .known) (source-composite c passed ranges t h e) (sorted-at _ m) in
       has-low-lt (length (sequentials c)) x (λ a k. let w = d .within a k in subst (λ (i : ℕ). i < length (sequentials c)) (w .2) (automaton-lt c (w .1)))
 
   -- the edges that bear a transition
