@@ -117,11 +117,11 @@ fn all_assigned(
     while i < count {
         let b = field::read_byte_below(s, place, variables);
         let ByteRead::Value(target, from) = b else {
-            return values;
+            return old;
         };
         let v = value_from(s, from, variables, old);
         let ValueRead::Value(z, next) = v else {
-            return values;
+            return old;
         };
         let j = target as usize;
         values[j] = z;
