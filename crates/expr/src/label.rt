@@ -1,6 +1,6 @@
 // The label of a transition or an edge: what stands from the signal on.
 ghost use mathlib.Core.Path.{_≡_};
-ghost use Prim.Native.Nat.{_≤_};
+ghost use lib.ListN.{set};
 ghost use mathlib.Core.Bool.{_&&_, _||_, not};
 ghost use lib.Dec.{eqb};
 ghost use Rattle.expr.specs.Lists.{all};
@@ -43,10 +43,9 @@ fn still(once: bool, again: bool) -> bool
 
 // So many assignments from a place on, as a file is checked: whether no variable is assigned twice.
 fn read_updates(s: &[u8], at: usize, count: u8, variables: u8) -> TestRead
-    requires { ⌜ variables ≤ 16 ⌝ }
     ensures { λ r. ⌜ testOf (now (s .entry)) r ≡ mapped (λ us. distinct (targets us)) (many count (update (limits 0 variables)) (onward (now (s .entry)) at)) ⌝ }
 {
-    let mut seen = [false; 16];
+    let mut seen = [false; 256];
     let mut once = true;
     let mut place = at;
     let mut i = 0;
@@ -99,6 +98,18 @@ fn value_from(s: &[u8], at: usize, variables: u8, values: [i32; 16]) -> ValueRea
     guard::value_at(s, at, variables, &values)
 }
 
+// The variables with one of them at a value. There are sixteen; one that is not there changes none.
+fn stored(values: [i32; 16], variable: u8, z: i32) -> [i32; 16]
+    ensures { λ r. ⌜ r ≡ set values variable z ⌝ }
+{
+    let mut next = values;
+    let i = variable as usize;
+    if i < 16 {
+        next[i] = z;
+    }
+    next
+}
+
 // The variables after so many assignments from a place on, which are known to be there. All of them read `old`.
 fn all_assigned(
     s: &[u8],
@@ -108,7 +119,6 @@ fn all_assigned(
     old: [i32; 16],
     new: [i32; 16],
 ) -> [i32; 16]
-    requires { ⌜ variables ≤ 16 ⌝ }
     ensures { λ r. ⌜ ((us : _) (t : _) → many count (update (limits 0 variables)) (onward (now (s .entry)) at) ≡ got us t → r ≡ assign old us new) ⌝ }
 {
     let mut values = new;
@@ -123,8 +133,8 @@ fn all_assigned(
         let ValueRead::Value(z, next) = v else {
             return old;
         };
-        let j = target as usize;
-        values[j] = z;
+        let after = stored(values, target, z);
+        values = after;
         place = next;
         i += 1;
     }
@@ -144,7 +154,6 @@ fn keeps_rule(signal: u8, updates: u8, once: bool) -> bool
 
 // The body of a label, as a file is checked: whether it keeps rule 13.
 fn read_body(s: &[u8], at: usize, clocks: u8, variables: u8, signal: u8) -> TestRead
-    requires { ⌜ variables ≤ 16 ⌝ }
     ensures { λ r. ⌜ testOf (now (s .entry)) r ≡ mapped (bodyOnce signal) (body (limits clocks variables) (onward (now (s .entry)) at)) ⌝ }
 {
     let g = field::read_byte(s, at);
@@ -216,7 +225,6 @@ pub fn label_fault(l: LabelRead) -> Fault
 
 // A label, as a file is checked.
 pub fn read_label(s: &[u8], at: usize, clocks: u8, variables: u8, channels: u8) -> LabelRead
-    requires { ⌜ variables ≤ 16 ⌝ }
     ensures { λ r. ⌜ labelOf (now (s .entry)) r ≡ mapped heading (label (limits clocks variables) channels (onward (now (s .entry)) at)) ⌝ }
 {
     let a = field::read_byte_below(s, at, 3);
@@ -278,7 +286,6 @@ pub fn assigned(
     old: [i32; 16],
     new: [i32; 16],
 ) -> [i32; 16]
-    requires { ⌜ variables ≤ 16 ⌝ }
     ensures { λ r. ⌜ ((b : _) (t : _) → body (limits clocks variables) (onward (now (s .entry)) at) ≡ got b t → r ≡ assign old (b .updates) new) ⌝ }
 {
     let g = field::read_byte(s, at);

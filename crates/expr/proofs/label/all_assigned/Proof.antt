@@ -1,24 +1,23 @@
 use mathlib.Core.Path.{_≡_, refl, sym, ap, ap₂, _∙_}
 use mathlib.Core.List.{List, []}
 use Prim.Native.Nat.{_-_}
-use native.Mathlib.Omega.{arith}
 use lib.IntN.{ℤ}
 use Rattle.expr.proofs.Integers.{read-back}
 use borrow.Author.Needs.{needs}
-use lib.ListN.{length, set, length-set}
+use lib.ListN.{set}
 use Rattle.expr.specs.Reading.{got, yield}
 use Rattle.expr.specs.Guard.{Update, limits, update, assign}
 use Rattle.expr.specs.Expression.{Expr, value}
 use Rattle.expr.specs.Places.{onward, byteOf, valueOf}
 use Rattle.expr.proofs.Places.{answered, bind-got, bind-fault}
 use Rattle.expr.proofs.Reading.{no-answer, got-value, mapped-at, fault-at}
-use Rattle.expr.proofs.Labels.{update-known, assign-more}
+use Rattle.expr.proofs.Labels.{assign-more}
 use Rattle.expr.proofs.Many.{Going, going-none, going-more, going-stop, going-all}
 use Rattle.expr.proofs.label.all_assigned.Statement.{statement}
 use Rattle.expr.proofs.label.all_assigned.Tie as tie
 
 abbrev Inv-loop : tie.InvT-loop
-Inv-loop s at count variables old values₀ place₀ i₀ values place i = (us : List Update) × Going (update (limits 0 variables)) count (onward s at) (onward s place) i us × (values ≡ assign old us values₀) × (length values ≡ 16)
+Inv-loop s at count variables old values₀ place₀ i₀ values place i = (us : List Update) × Going (update (limits 0 variables)) count (onward s at) (onward s place) i us × (values ≡ assign old us values₀)
 
 abbrev μ-loop : tie.MeasureT-loop
 μ-loop s at count variables old values₀ place₀ i₀ values place i = count - i
@@ -31,7 +30,7 @@ read c = let m = mapped-at _ _ (answered (valueOf _) (c .before .before .before 
 
 loop-holds : tie.Need-loop-holds Inv-loop μ-loop
 unfolding assign
-loop-holds c = ([], going-none _ _ _, refl, search needs)
+loop-holds c = ([], going-none _ _ _, refl)
 
 read-byte-below-requires : tie.Need-read-byte-below-requires Inv-loop μ-loop
 read-byte-below-requires c κs = search needs
@@ -59,14 +58,8 @@ returns-2 : tie.Need-returns-2 Inv-loop μ-loop
 unfolding update
 returns-2 c = λ us t e. no-answer (sym (going-stop _ _ _ (c .before .before .before .before .before .before .before .before .loop .inv .1) (c .before .before .before .before .before .before .before .loop-test .taken) (bind-got _ _ _ (answered (byteOf _) (c .before .before .before .before .before .before .read-byte-below .ensures) (c .before .before .before .before .b .given .1)) ∙ bind-fault _ _ _ (fault-at _ _ (answered (valueOf _) (c .before .before .value-from .ensures) (c .enum-told2 .given .1))))) ∙ e)
 
-cast-j : tie.Need-cast-j Inv-loop μ-loop
-cast-j c = search needs
-
-mul-values : tie.Need-mul-values Inv-loop μ-loop
-mul-values c = search needs
-
-array-set-from-values : tie.Need-array-set-from-values Inv-loop μ-loop
-array-set-from-values c = omega (arith, update-known (limits 0 (c .before .before .before .before .before .before .before .before .before .before .before .args .variables)) _ (read c .1), c .before .before .before .before .before .before .before .before .before .before .before .pre)
+stored-requires : tie.Need-stored-requires Inv-loop μ-loop
+stored-requires c κs = search needs
 
 add-i : tie.Need-add-i Inv-loop μ-loop
 add-i c = search needs
@@ -75,9 +68,9 @@ loop-less : tie.Need-loop-less Inv-loop μ-loop
 loop-less c = search needs
 
 loop-again : tie.Need-loop-again Inv-loop μ-loop
-loop-again c = let g = c .before .before .before .before .before .before .before .before .before .loop .inv in
-    let r = read c in
-    (_, going-more _ _ _ (g .1) (c .before .before .before .before .before .before .before .before .loop-test .taken) (r .1), ap₂ (λ (vs : List ℤ) (z : ℤ). set vs (c .before .before .before .before .before .b .given .0 .0) z) (g .2) (read-back (c .before .v .given .0 .0) (c .known-told2 .given .0 .1) ∙ sym (r .2)) ∙ sym (assign-more _ (g .0) _ _), simp length-set (g .3))
+loop-again c = let g = c .before .before .before .before .before .before .before .before .before .before .loop .inv in
+    let r = read (c .before) in
+    (_, going-more _ _ _ (g .1) (c .before .before .before .before .before .before .before .before .before .loop-test .taken) (r .1), c .stored .ensures ∙ ap₂ (λ (vs : List ℤ) (z : ℤ). set vs (c .before .before .before .before .before .before .b .given .0 .0) z) (g .2) (read-back (c .before .before .v .given .0 .0) (c .before .known-told2 .given .0 .1) ∙ sym (r .2)) ∙ sym (assign-more _ (g .0) _ _))
 
 returns-3 : tie.Need-returns-3 Inv-loop μ-loop
 returns-3 c = λ us t e. let g = c .before .loop .inv in g .2 ∙ ap (λ (us : List Update). assign (c .before .before .before .args .old) us (c .before .before .before .args .new)) (sym (got-value (sym e ∙ going-all _ _ _ (g .1) (c .loop-test .left) .0)))
@@ -97,9 +90,7 @@ all-assigned-spec =
     enum-known-v
     enum-told-2
     returns-2
-    cast-j
-    mul-values
-    array-set-from-values
+    stored-requires
     add-i
     loop-less
     loop-again

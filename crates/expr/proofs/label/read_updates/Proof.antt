@@ -13,12 +13,12 @@ use Rattle.expr.proofs.Places.{answered}
 use Rattle.expr.proofs.Reading.{mapped-got, mapped-fault, mapped-at, fault-at}
 use Rattle.expr.proofs.Many.{Going, going-none, going-more, going-stop, going-all}
 use lib.ListN.{length, getD, length-set, getD-replicate}
-use Rattle.expr.proofs.Labels.{update-known, once-more, assigned-more}
+use Rattle.expr.proofs.Labels.{once-more, assigned-more}
 use Rattle.expr.proofs.label.read_updates.Statement.{statement}
 use Rattle.expr.proofs.label.read_updates.Tie as tie
 
 abbrev Inv-loop : tie.InvT-loop
-Inv-loop s at count variables seen₀ once₀ place₀ i₀ seen once place i = (us : List Update) × Going (update (limits 0 variables)) count (onward s at) (onward s place) i us × (once ≡ distinct (targets us)) × (length seen ≡ 16) × ((v : ℕ) → v < 16 → getD seen v false ≡ elem v (targets us))
+Inv-loop s at count variables seen₀ once₀ place₀ i₀ seen once place i = (us : List Update) × Going (update (limits 0 variables)) count (onward s at) (onward s place) i us × (once ≡ distinct (targets us)) × (length seen ≡ 256) × ((v : ℕ) → v < 256 → getD seen v false ≡ elem v (targets us))
 
 abbrev μ-loop : tie.MeasureT-loop
 μ-loop s at count variables seen₀ once₀ place₀ i₀ seen once place i = count - i
@@ -27,12 +27,12 @@ abbrev μ-loop : tie.MeasureT-loop
 read : (c : tie.After-known-told Inv-loop μ-loop) → let a = c .before .before .before .before .before .before .before .args in (u : Update) × (update (limits 0 (a .variables)) (onward (a .s .now) (c .before .before .before .before .before .loop .place)) ≡ got u (onward (a .s .now) (c .before .b .given .0 .1 .0))) × (u .target ≡ c .before .b .given .0 .0)
 read c = mapped-at _ _ (answered (byteOf _) (c .before .before .before .read-update .ensures 0) (c .before .b .given .1))
 
-known : (c : tie.After-known-told Inv-loop μ-loop) → c .before .b .given .0 .0 < 16
-known c = omega (arith, update-known (limits 0 (c .before .before .before .before .before .before .before .args .variables)) _ (read c .1), read c .2, c .before .before .before .before .before .before .before .pre)
+known : (c : tie.After-known-told Inv-loop μ-loop) → c .before .b .given .0 .0 < 256
+known c = omega (arith, c .known-told .given .0 .1)
 
 loop-holds : tie.Need-loop-holds Inv-loop μ-loop
 unfolding distinct elem
-loop-holds c = ([], going-none _ _ _, refl, refl, λ v l. getD-replicate 16 v false false l)
+loop-holds c = ([], going-none _ _ _, refl, refl, λ v l. getD-replicate 256 v false false l)
 
 read-update-requires : tie.Need-read-update-requires Inv-loop μ-loop
 read-update-requires c κs = search needs
