@@ -6,3 +6,4 @@ pub mod rule;
 pub mod state;
 pub mod entry;
 pub mod table;
+pub mod transition;
