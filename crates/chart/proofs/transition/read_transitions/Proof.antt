@@ -1,72 +1,73 @@
+use mathlib.Core.Path.{refl, sym, _∙_}
+use native.Mathlib.Omega.{arith}
+use borrow.Author.Needs.{needs}
+use Prim.Native.Nat.{_-_}
+use lib.ListN.{length}
+use Rattle.expr.specs.Lists.{all}
+use Rattle.expr.specs.Reading.{byte2, recorded}
+use Rattle.expr.specs.Places.{onward, reached}
+use Rattle.expr.proofs.Places.{answered}
+use Rattle.expr.proofs.Reading.{no-answer, mapped-fault, mapped-at}
+use Rattle.chart.specs.Layout.{transitionBy, once}
+use Rattle.chart.specs.Laid.{noTransition}
+use Rattle.chart.proofs.Ranges.{counts-range}
+use Rattle.chart.proofs.Transitions.{recorded-before, Kept, kept-none, kept-more, kept-stop, kept-all, kept-placed}
 use Rattle.chart.proofs.transition.read_transitions.Statement.{statement}
 use Rattle.chart.proofs.transition.read_transitions.Tie as tie
-use Rattle.chart.proofs.transition.read_transitions.Reads as reads
-use Rattle.chart.proofs.transition.read_transitions.Lts as lts
-use Rattle.chart.proofs.transition.both.Reads as both-reads
-use Rattle.chart.proofs.transition.offset_of.Reads as offset-of-reads
-use Rattle.chart.proofs.transition.transition_at.Reads as transition-at-reads
 
 abbrev Inv-loop : tie.InvT-loop
-Inv-loop rest at counts offsets₀ once₀ place₀ i₀ offsets once place i = ?
+Inv-loop rest at counts offsets₀ once₀ place₀ i₀ offsets passed place i = Kept (recorded byte2 (transitionBy counts)) noTransition once (counts .transitions) rest (onward rest at) (onward rest place) i passed offsets
 
 abbrev μ-loop : tie.MeasureT-loop
-μ-loop rest at counts offsets₀ once₀ place₀ i₀ offsets once place i = ?
+μ-loop rest at counts offsets₀ once₀ place₀ i₀ offsets passed place i = counts .transitions - i
 
--- src/transition.rt:115:5
 loop-holds : tie.Need-loop-holds Inv-loop μ-loop
-loop-holds c = ?
+loop-holds c = kept-none _ _ _ _ _ _ refl
 
--- src/transition.rt:116:13
 transition-at-requires : tie.Need-transition-at-requires Inv-loop μ-loop
-transition-at-requires c κs = ?
+transition-at-requires c κs = search needs
 
--- src/transition.rt:118:25
 enum-known-q : tie.Need-enum-known-q Inv-loop μ-loop
-enum-known-q c = ?
+enum-known-q c = search needs
 
--- src/transition.rt:122:17
 enum-told : tie.Need-enum-told Inv-loop μ-loop
-enum-told c = ?
+enum-told c = search needs
 
--- src/transition.rt:119:13
 returns : tie.Need-returns Inv-loop μ-loop
-returns c = ?
+returns c = let l = c .before .before in
+    let z = kept-stop _ _ _ _ _ _ (l .before .before .before .loop .inv) (l .before .if1 .taken) (answered (reached _ (l .transition-at .result .once)) (l .transition-at .ensures) (c .enum-told .given .1)) in
+    (rw (c .enum-told .given .1) (sym (mapped-fault _ z)), λ ts t h k. no-answer (sym z ∙ k))
 
--- src/transition.rt:125:17
 cast-j : tie.Need-cast-j Inv-loop μ-loop
-cast-j c = ?
+cast-j c = search needs
 
--- src/transition.rt:126:22
 offset-of-requires : tie.Need-offset-of-requires Inv-loop μ-loop
-offset-of-requires c κs = ?
+offset-of-requires c κs = search needs
 
--- src/transition.rt:126:9
 mul-offsets : tie.Need-mul-offsets Inv-loop μ-loop
-mul-offsets c = ?
+mul-offsets c = search needs
 
--- src/transition.rt:126:9
 array-write-offsets : tie.Need-array-write-offsets Inv-loop μ-loop
-array-write-offsets c = ?
+array-write-offsets c = omega (arith, counts-range _ (c .before .before .before .before .before .before .before .before .before .pre))
 
--- src/transition.rt:127:9
 both-requires : tie.Need-both-requires Inv-loop μ-loop
-both-requires c κs = ?
+both-requires c κs = search needs
 
--- src/transition.rt:129:9
 add-i : tie.Need-add-i Inv-loop μ-loop
-add-i c = ?
+add-i c = omega arith
 
--- src/transition.rt:115:5
 loop-less : tie.Need-loop-less Inv-loop μ-loop
-loop-less c = ?
+loop-less c = omega arith
 
--- src/transition.rt:115:5
 loop-again : tie.Need-loop-again Inv-loop μ-loop
-loop-again c = ?
+loop-again c = let l = c .before .before .before .before .before in
+    let d = answered (reached _ (l .transition-at .result .once)) (l .transition-at .ensures) (c .before .before .before .q .given .1) in
+    kept-more _ _ _ _ _ _ (l .before .before .before .loop .inv) _ refl (l .before .if1 .taken) (omega (arith, counts-range _ (l .before .before .before .before .before .pre)))
+    (λ h. c .before .offset-of .ensures (omega (arith, recorded-before _ _ _ (mapped-at _ _ d .1)))) d (c .both .ensures)
 
--- src/transition.rt:106:1
 returns-2 : tie.Need-returns-2 Inv-loop μ-loop
-returns-2 c = ?
+returns-2 c = let K = c .before .before .loop .inv in
+    (sym (kept-all _ _ _ _ _ _ K (c .if1 .left)), λ ts t h k. kept-placed _ _ _ _ _ _ K (c .if1 .left) h k)
 
 pub read-transitions-spec : {M : Type 1} → statement M
 read-transitions-spec =
