@@ -7,3 +7,5 @@ pub mod state;
 pub mod entry;
 pub mod table;
 pub mod transition;
+pub mod transition_rule;
+pub mod check;
