@@ -7,8 +7,8 @@ use Rattle.expr.specs.Lists.{all}
 use Rattle.expr.specs.Answer.{Answer, done, refused, _>>=_}
 use Rattle.expr.specs.declared.field.Fault.{Fault}
 use Rattle.expr.specs.declared.field.Fault.the-variants as Fl
-use Rattle.chart.specs.Chart.{Chart}
-use Rattle.chart.specs.Rules.{parents, entryMarks, siblings, chartOf}
+use Rattle.chart.specs.Chart.{Chart, records, numbered}
+use Rattle.chart.specs.Rules.{parents, entryMarks, siblings, keepsRules}
 use Rattle.chart.specs.Laid.{Laid}
 use Rattle.chart.specs.Table.{Tabled}
 use Rattle.chart.specs.declared.header.Counts.{Counts}
@@ -22,6 +22,10 @@ use Rattle.chart.specs.declared.table.Tree.{Tree}
 unfoldable pub verdict : {A : Type 0} → Answer A → Answer (Unit {0})
 verdict (done a) = done tt
 verdict (refused n) = refused n
+
+-- the chart of the bytes after the header
+unfoldable pub chartFrom : Counts → List ℕ → Answer Chart
+chartFrom n s = numbered (records n s) >>= keepsRules
 
 -- 3 for a length, 4 for a field
 abbrev pub faultNumber : Fault → ℕ

@@ -5,16 +5,16 @@ ghost use mathlib.Core.List.{List};
 ghost use Prim.Native.Nat.{ℕ, _≤_};
 ghost use lib.ListN.{length};
 ghost use Rattle.expr.specs.Lists.{all};
-ghost use Rattle.expr.specs.Answer.{done, _>>=_};
+ghost use Rattle.expr.specs.Answer.{done};
 ghost use Rattle.expr.specs.Reading.{got, mapped};
 ghost use Rattle.expr.specs.Places.{onward, reached};
-ghost use Rattle.chart.specs.Chart.{Chart, records, inRange, numbered};
+ghost use Rattle.chart.specs.Chart.{Chart, records, inRange};
 ghost use Rattle.chart.specs.Rules.{keepsRules, chartOf};
 ghost use Rattle.chart.specs.Answers.{checkedOf};
 ghost use Rattle.chart.specs.Layout.{once, stopped};
 ghost use Rattle.chart.specs.Laid.{Laid};
 ghost use Rattle.chart.specs.Table.{Tabled};
-ghost use Rattle.chart.specs.Ready.{verdict, faultNumber, headerRefusal, refusedBy, Ready};
+ghost use Rattle.chart.specs.Ready.{verdict, chartFrom, faultNumber, headerRefusal, refusedBy, Ready};
 use crate::header::Counts;
 use crate::header::HeaderRead;
 use crate::header::read_header;
@@ -121,8 +121,8 @@ fn header_refusal(h: HeaderRead) -> u8
 // What follows version and length.
 fn checked_records(rest: &[u8], counts: Counts) -> CheckedFile
     requires { ⌜ (inRange counts ≡ true) × (length (now rest) ≤ 65536) ⌝ }
-    ensures means { λ r. ⌜ checkedOf (r .verdict) ≡ verdict (numbered (records counts (onward (now (rest .entry)) 8)) >>= keepsRules) ⌝ }
-    ensures ready { λ r. ⌜ ((c : Chart) → (numbered (records counts (onward (now (rest .entry)) 8)) >>= keepsRules) ≡ done c → Ready (now (rest .entry)) (r .counts) (r .offsets) (r .tree) c) ⌝ }
+    ensures means { λ r. ⌜ checkedOf (r .verdict) ≡ verdict (chartFrom counts (onward (now (rest .entry)) 8)) ⌝ }
+    ensures ready { λ r. ⌜ ((c : Chart) → chartFrom counts (onward (now (rest .entry)) 8) ≡ done c → Ready (now (rest .entry)) (r .counts) (r .offsets) (r .tree) c) ⌝ }
 {
     let t = read_records(rest, counts);
     let q = t.reached;

@@ -1,56 +1,74 @@
+use mathlib.Core.Path.{sym, _∙_}
+use borrow.Author.Tests.{not-true, not-false}
+use Rattle.expr.specs.Answer.{unless}
+use Rattle.chart.specs.Rules.{transitionRules}
+use Rattle.chart.proofs.Tables.{rooted-of}
 use borrow.Author.Needs.{needs}
 use Rattle.chart.proofs.transition_rule.transitions_checked.Statement.{statement}
 use Rattle.chart.proofs.transition_rule.transitions_checked.Tie as tie
-use Rattle.chart.proofs.transition_rule.transitions_checked.Reads as reads
-use Rattle.chart.proofs.transition_rule.transitions_checked.Lts as lts
-use Rattle.chart.proofs.transition_rule.all_apart.Reads as all-apart-reads
-use Rattle.chart.proofs.transition_rule.all_siblings.Reads as all-siblings-reads
-use Rattle.chart.proofs.transition_rule.entries_fit.Reads as entries-fit-reads
-use Rattle.chart.proofs.transition_rule.exits_fit.Reads as exits-fit-reads
 
--- src/transition_rule.rt:201:9
 all-siblings-requires : tie.Need-all-siblings-requires
 all-siblings-requires c κs = search needs
 
--- src/transition_rule.rt:202:9
 returns : tie.Need-returns
-returns c = ?
+unfolding transitionRules unless
+returns c = λ k L T P e. rw (sym (c .before .all-siblings .ensures k L) ∙ not-true _ (c .if1 .taken))
 
--- src/transition_rule.rt:204:9
 exits-fit-requires : tie.Need-exits-fit-requires
 exits-fit-requires c κs = search needs
 
--- src/transition_rule.rt:205:9
 returns-2 : tie.Need-returns-2
-returns-2 c = ?
+unfolding transitionRules unless
+returns-2 c = λ k L T P e. rw (
+  sym (c .before .before .before .all-siblings .ensures k L) ∙ not-false _ (c .before .before .if1 .left),
+  sym (c .before .exits-fit .ensures k L) ∙ not-true _ (c .if2 .taken),
+)
 
--- src/transition_rule.rt:207:9
 entries-fit-requires : tie.Need-entries-fit-requires
 entries-fit-requires c κs = search needs
 
--- src/transition_rule.rt:208:9
 returns-3 : tie.Need-returns-3
-returns-3 c = ?
+unfolding transitionRules unless
+returns-3 c = λ k L T P e. rw (
+  sym (c .before .before .before .before .before .all-siblings .ensures k L) ∙ not-false _ (c .before .before .before .before .if1 .left),
+  sym (c .before .before .before .exits-fit .ensures k L) ∙ not-false _ (c .before .before .if2 .left),
+  sym (c .before .entries-fit .ensures k L) ∙ not-true _ (c .if3 .taken),
+)
 
--- src/transition_rule.rt:211:9
 returns-4 : tie.Need-returns-4
-returns-4 c = ?
+unfolding transitionRules unless
+returns-4 c = λ k L T P e. rw (
+  sym (c .before .before .before .before .before .before .all-siblings .ensures k L) ∙ not-false _ (c .before .before .before .before .before .if1 .left),
+  sym (c .before .before .before .before .exits-fit .ensures k L) ∙ not-false _ (c .before .before .before .if2 .left),
+  sym (c .before .before .entries-fit .ensures k L) ∙ not-false _ (c .before .if3 .left),
+  sym e ∙ not-true _ (c .if4 .taken),
+)
 
--- src/transition_rule.rt:213:42
 slice-aggregate-all-apart : tie.Need-slice-aggregate-all-apart
 slice-aggregate-all-apart c = search needs
 
--- src/transition_rule.rt:213:9
 all-apart-requires : tie.Need-all-apart-requires
 all-apart-requires c κs = search needs
 
--- src/transition_rule.rt:214:9
 returns-5 : tie.Need-returns-5
-returns-5 c = ?
+unfolding transitionRules unless
+returns-5 c = λ k L T P e. rw (
+  sym (c .before .before .before .before .before .before .before .before .before .all-siblings .ensures k L) ∙ not-false _ (c .before .before .before .before .before .before .before .before .if1 .left),
+  sym (c .before .before .before .before .before .before .before .exits-fit .ensures k L) ∙ not-false _ (c .before .before .before .before .before .before .if2 .left),
+  sym (c .before .before .before .before .before .entries-fit .ensures k L) ∙ not-false _ (c .before .before .before .before .if3 .left),
+  sym e ∙ not-false _ (c .before .before .before .if4 .left),
+  sym (c .before .all-apart .ensures k L (rooted-of k _ T P) (sym (c .before .before .before .before .before .before .before .before .before .all-siblings .ensures k L) ∙ not-false _ (c .before .before .before .before .before .before .before .before .if1 .left))) ∙ not-true _ (c .if5 .taken),
+)
 
--- src/transition_rule.rt:191:1
 returns-6 : tie.Need-returns-6
-returns-6 c = ?
+unfolding transitionRules unless
+returns-6 c = λ k L T P e. rw (
+  sym (c .before .before .before .before .before .before .before .before .before .all-siblings .ensures k L) ∙ not-false _ (c .before .before .before .before .before .before .before .before .if1 .left),
+  sym (c .before .before .before .before .before .before .before .exits-fit .ensures k L) ∙ not-false _ (c .before .before .before .before .before .before .if2 .left),
+  sym (c .before .before .before .before .before .entries-fit .ensures k L) ∙ not-false _ (c .before .before .before .before .if3 .left),
+  sym e ∙ not-false _ (c .before .before .before .if4 .left),
+  sym (c .before .all-apart .ensures k L (rooted-of k _ T P) (sym (c .before .before .before .before .before .before .before .before .before .all-siblings .ensures k L) ∙ not-false _ (c .before .before .before .before .before .before .before .before .if1 .left))) ∙ not-false _ (c .if5 .left),
+)
 
 pub transitions-checked-spec : {M : Type 1} → statement M
 transitions-checked-spec =
