@@ -1,12 +1,17 @@
 -- Where the records of a checked file stand, in its bytes after version and length.
 use mathlib.Core.Path.{_≡_}
-use mathlib.Core.Bool.{true}
+use mathlib.Core.Bool.{Bool, true}
 use mathlib.Core.List.{List}
 use Prim.Native.Nat.{ℕ, _+_, _*_, _<_}
 use lib.ListN.{length}
-use Rattle.expr.specs.Reading.{got, byte, recorded}
+use Rattle.expr.specs.Reading.{Reader, got, byte, byte2, recorded}
+use Rattle.expr.specs.Guard.{limits}
+use Rattle.expr.specs.Label.{assignsOnce}
+use Rattle.expr.specs.declared.field.Fault.{Fault}
+use Rattle.expr.specs.declared.field.Reached.{Reached}
+use Rattle.expr.specs.declared.field.Reached.the-variants as Rd
 use Rattle.expr.specs.Places.{onward}
-use Rattle.chart.specs.Chart.{Chart, state, stateAt, inRange}
+use Rattle.chart.specs.Chart.{Chart, Transition, state, stateAt, transition, transitionAt, inRange}
 use Rattle.chart.specs.declared.header.Counts.{Counts}
 
 -- the bytes of a state's record, its length byte included
@@ -28,3 +33,15 @@ pub record Stated (rest : List ℕ) (n : Counts) (c : Chart) : Type 0 where
   pub exits : c .exits ≡ n .exits
   pub states : length (c .states) ≡ n .states
   pub here : (s : ℕ) → s < n .states → recorded byte (state (n .clocks) (n .entries) (n .exits)) (onward rest (statePlace (n .clocks) s)) ≡ got (stateAt c s) (onward rest (statePlace (n .clocks) s + stateSize (n .clocks)))
+
+-- a place that is not reached
+abbrev pub stopped : Fault → Reached
+stopped f = Rd.Fault f
+
+-- the content of a transition's record, in a file with such counts
+abbrev pub transitionBy : Counts → Reader Transition
+transitionBy n = transition (n .states) (n .entries) (n .exits) (limits (n .clocks) (n .variables)) (n .rendezvous + n .broadcasts)
+
+-- rule 13
+abbrev pub once : Transition → Bool
+once t = assignsOnce (t .label)

@@ -6,3 +6,6 @@ pub mod header;
 pub mod rule;
 pub mod state;
 pub mod table;
+pub mod transition;
+pub mod transition_rule;
+pub mod check;

@@ -1,0 +1,215 @@
+-- Transition records in a checked file: where each stands, and where its fields do.
+use mathlib.Core.Path.{_≡_, refl, sym, ap, ap₂, _∙_, subst}
+use mathlib.Core.Bool.{Bool, true, false, cond, _&&_}
+use mathlib.Core.List.{List, [], _∷_, _++_}
+use Prim.Native.Nat.{ℕ, zero, suc, _+_, _≤_, _<_}
+use native.Mathlib.Omega.{arith}
+use native.Mathlib.Decide.{ℕ-discrete}
+use lib.Dec.{leb}
+use lib.ListN.{length, getD, set, take, drop, take-append-drop, List·getD-append, length-set}
+use lib.Seq.{getD-set-same, getD-set-other, getD-append-seam}
+use Rattle.expr.specs.Lists.{all}
+use Rattle.expr.specs.Reading.{Fault, Read, got, fault, Reader, yield, next, _>>=_, byte, byte2, such, many, end, framed, whole, recorded, mapped}
+use Rattle.expr.specs.Guard.{Limits, Guard, limits, relation, clock, ticks, dataGuard, clockGuard, differenceGuard, guard, update}
+use Rattle.expr.specs.Label.{Label, body, label}
+use Rattle.expr.specs.Places.{onward}
+use Rattle.expr.proofs.Reading.{no-answer, got-value, next-at, bind-at, such-at, yield-at, mapped-got, mapped-fault, mapped-at, fault-at, mapped-bind}
+use Rattle.expr.proofs.Places.{length-onward, onward-onward}
+use Rattle.expr.proofs.InFront.{InFront, field-at, yield-front, bind-front, such-front, many-front, byte-front, byte4-front}
+use Rattle.expr.proofs.Sizes.{byte-takes, byte2-takes, onto, byte-value}
+use Rattle.expr.proofs.Expressions.{expression-front}
+use Rattle.expr.proofs.Lists.{all-more}
+use Rattle.expr.proofs.Many.{Going, going-none, going-more, going-stop, going-all}
+use Rattle.chart.specs.Chart.{Chart, Transition, transition, transitionAt}
+use Rattle.chart.specs.Layout.{transitionBy}
+use Rattle.chart.specs.Laid.{noTransition, Placed, Laid}
+use Rattle.chart.specs.declared.header.Counts.{Counts}
+
+-- a record whose content is looked at as f has it
+pub mapped-recorded : {A B : Type 0} (f : A → B) (size : Reader ℕ) (r : Reader A) (s : List ℕ) → mapped f (recorded size r s) ≡ recorded size (λ p. mapped f (r p)) s
+unfolding recorded mapped next whole _>>=_
+mapped-recorded {A} {B} f size r s = mapped-bind f (framed size) (whole r) s ∙ go (framed size s)
+  where
+    closed : (t : List ℕ) (a : A) (e : Read (Unit {0})) → mapped f (next e (λ x y. got a t)) ≡ next e (λ x y. got (f a) t)
+    closed t a (got x y) = refl
+    closed t a (fault g) = refl
+
+    used : (t : List ℕ) (q : Read A) → mapped f (next q (λ a u. next (end u) (λ x y. got a t))) ≡ next (mapped f q) (λ b u. next (end u) (λ x y. got b t))
+    used t (got a u) = closed t a (end u)
+    used t (fault g) = refl
+
+    go : (q : Read (List ℕ)) → next q (λ p t. mapped f (whole r p t)) ≡ next q (whole (λ p. mapped f (r p)))
+    go (got p t) = used t (r p)
+    go (fault g) = refl
+
+-- a body is read in front, whatever follows it
+relation-front : InFront relation
+unfolding relation
+relation-front = bind-front _ _ (such-front _ _ byte-front) λ n. yield-front _
+
+ticks-front : InFront ticks
+unfolding ticks
+ticks-front = such-front _ _ byte4-front
+
+module _ (l : Limits) where
+  clock-front : InFront (clock l)
+  unfolding clock
+  clock-front = such-front _ _ byte-front
+
+  data-front : InFront (dataGuard l)
+  unfolding dataGuard
+  data-front = bind-front _ _ relation-front λ r. bind-front _ _ (expression-front _ _) λ a. bind-front _ _ (expression-front _ _) λ b. yield-front _
+
+  guards-front : (k : ℕ) → InFront (getD (dataGuard l ∷ clockGuard l ∷ differenceGuard l ∷ []) k (dataGuard l))
+  unfolding clockGuard differenceGuard
+  guards-front zero = data-front
+  guards-front (suc zero) = bind-front _ _ clock-front λ c. bind-front _ _ relation-front λ r. bind-front _ _ ticks-front λ n. yield-front _
+  guards-front (suc (suc zero)) = bind-front _ _ clock-front λ c. bind-front _ _ clock-front λ d. bind-front _ _ relation-front λ r. bind-front _ _ ticks-front λ n. yield-front _
+  guards-front (suc (suc (suc k))) = data-front
+
+  guard-front : InFront (guard l)
+  unfolding guard
+  guard-front = bind-front _ _ (such-front _ _ byte-front) λ k. guards-front k
+
+  update-front : InFront (update l)
+  unfolding update
+  update-front = bind-front _ _ (such-front _ _ byte-front) λ v. bind-front _ _ (expression-front _ _) λ e. yield-front _
+
+  pub body-front : InFront (body l)
+  unfolding body
+  body-front = bind-front _ _ byte-front λ g. bind-front _ _ byte-front λ a. bind-front _ _ (many-front g _ guard-front) λ gs. bind-front _ _ (many-front a _ update-front) λ us. yield-front _
+
+-- a record's content is a part of the bytes after its length
+pub recorded-part : {A : Type 0} (size : Reader ℕ) (r : Reader A) (s : List ℕ) {a : A} {t : List ℕ} → recorded size r s ≡ got a t
+    → (n : ℕ) × (u : List ℕ) × (p : List ℕ) × (v : List ℕ) × (w : List ℕ) × (size s ≡ got n u) × (p ++ v ≡ u) × (r p ≡ got a w)
+unfolding recorded framed whole
+recorded-part {A} size r s {a} {t} h =
+    let w = bind-at (framed size) _ s h in
+    let z = bind-at size _ s (w .2) in
+    let x = next-at (r (w .0)) _ (w .3) in
+    let e = next-at (end (x .1)) _ (x .3) in
+    let p = part (z .0) (z .1) (leb (z .0) (length (z .1))) (z .3) in
+    (z .0, z .1, w .0, drop (z .0) (z .1), x .1, z .2, ap (λ (l : List ℕ). l ++ drop (z .0) (z .1)) p ∙ take-append-drop (z .0) (z .1), x .2 ∙ ap (λ (y : A). got y (x .1)) (got-value (e .3)))
+  where
+    part : {p v : List ℕ} (n : ℕ) (u : List ℕ) (b : Bool) → cond b (got (take n u) (drop n u)) (fault Fault.length-fault) ≡ got p v → p ≡ take n u
+    part n u true k = cc
+    part n u false k = no-answer k
+
+-- a record that is read stands before the end
+pub recorded-before : {A : Type 0} (r : Reader A) (s : List ℕ) (at : ℕ) {a : A} {t : List ℕ} → recorded byte2 r (onward s at) ≡ got a t → at < length s
+unfolding byte2
+recorded-before r s at h = let w = recorded-part byte2 r (onward s at) h in omega (arith, field-at 2 _ (onward s at) (w .5) .0, length-onward s at)
+
+-- the fields of a transition whose record stands at a place
+pub record Parts (l : Limits) (s : List ℕ) (at : ℕ) (x : Transition) : Type 0 where
+  pub source : getD s (at + 2) 0 ≡ x .source
+  pub destination : getD s (at + 3) 0 ≡ x .destination
+  pub exit : getD s (at + 4) 0 ≡ x .exit
+  pub entry : getD s (at + 5) 0 ≡ x .entry
+  pub signal : getD s (at + 6) 0 ≡ x .label .signal
+  pub channel : getD s (at + 7) 0 ≡ x .label .channel
+  pub resets : getD s (at + 8) 0 ≡ x .label .resets
+  pub content : (t : List ℕ) × (body l (onward s (at + 9)) ≡ got (x .label .body) t)
+
+plus-one : (at k : ℕ) → at + k + 1 ≡ at + (k + 1)
+plus-one at k = omega arith
+
+-- a byte that is read in front of what follows, and where it stands
+byte-here : {B : Type 0} (s v : List ℕ) (at m : ℕ) (test : ℕ → Bool) (k : ℕ → Reader B) (q : List ℕ) {b : B} {w : List ℕ} → q ++ v ≡ onward s (at + m) → (such byte test >>= k) q ≡ got b w
+    → (z : ℕ) × (u : List ℕ) × (getD s (at + m) 0 ≡ z) × (u ++ v ≡ onward s (at + (m + 1))) × (k z u ≡ got b w)
+byte-here s v at m test k q e h =
+    let a = bind-at (such byte test) k q h in
+    let f = onto s (at + m) 1 byte (at + (m + 1)) e byte-takes (plus-one at m) (byte-front .alike q v (such-at byte test q (a .2) .1)) in
+    (a .0, a .1, byte-value s (at + m) (f .0), f .1, a .3)
+
+-- the fields of a label
+record LabelParts (l : Limits) (s : List ℕ) (at : ℕ) (x : Label) : Type 0 where
+  pub signal : getD s (at + 6) 0 ≡ x .signal
+  pub channel : getD s (at + 7) 0 ≡ x .channel
+  pub resets : getD s (at + 8) 0 ≡ x .resets
+  pub content : (t : List ℕ) × (body l (onward s (at + 9)) ≡ got (x .body) t)
+
+label-parts : (l : Limits) (channels : ℕ) (s p v : List ℕ) (at : ℕ) {x : Label} {w : List ℕ} → p ++ v ≡ onward s (at + 6) → label l channels p ≡ got x w → LabelParts l s at x
+unfolding label
+label-parts l channels s p v at {x} {w} e h =
+    let g = byte-here s v at 6 _ _ p e h in
+    let k = byte-here s v at 7 _ _ (g .1) (g .3) (g .4) in
+    let r = byte-here s v at 8 _ _ (k .1) (k .3) (k .4) in
+    let y = next-at (body l (r .1)) _ (r .4) in
+    subst (LabelParts l s at) (yield-at (y .1) (y .3)) (record {
+      signal = g .2;
+      channel = k .2;
+      resets = r .2;
+      content = (y .1 ++ v, ap (body l) (sym (r .3)) ∙ body-front l .alike (r .1) v (y .2));
+    })
+
+parts-of : (states entries exits : ℕ) (l : Limits) (channels : ℕ) (s p v : List ℕ) (at : ℕ) {x : Transition} {w : List ℕ} → p ++ v ≡ onward s (at + 2) → transition states entries exits l channels p ≡ got x w → Parts l s at x
+unfolding transition
+parts-of states entries exits l channels s p v at {x} {w} e h =
+    let a = byte-here s v at 2 _ _ p e h in
+    let d = byte-here s v at 3 _ _ (a .1) (a .3) (a .4) in
+    let o = byte-here s v at 4 _ _ (d .1) (d .3) (d .4) in
+    let i = byte-here s v at 5 _ _ (o .1) (o .3) (o .4) in
+    let b = bind-at (label l channels) _ (i .1) (i .4) in
+    let f = label-parts l channels s (i .1) v at (i .3) (b .2) in
+    subst (Parts l s at) (yield-at (b .1) (b .3)) (record {
+      source = a .2;
+      destination = d .2;
+      exit = o .2;
+      entry = i .2;
+      signal = f .signal;
+      channel = f .channel;
+      resets = f .resets;
+      content = f .content;
+    })
+
+pub parts : (n : Counts) (s : List ℕ) (at : ℕ) {x : Transition} {t : List ℕ} → recorded byte2 (transitionBy n) (onward s at) ≡ got x t → Parts (limits (n .clocks) (n .variables)) s at x
+parts n s at h =
+    let w = recorded-part byte2 (transitionBy n) (onward s at) h in
+    parts-of (n .states) (n .entries) (n .exits) _ _ s (w .2) (w .3) at (w .6 ∙ byte2-takes _ _ _ (w .5) ∙ onward-onward s at 2) (w .7)
+
+-- the fields of a chart's transition, where its offset says
+pub laid-parts : {rest : List ℕ} {n : Counts} {offsets : List ℕ} {c : Chart} → Laid rest n offsets c → (t : ℕ) → t < n .transitions → Parts (limits (n .clocks) (n .variables)) rest (getD offsets t 0) (transitionAt c t)
+unfolding transitionAt
+laid-parts {rest} {n} {offsets} L t h = parts n rest (getD offsets t 0) (L .placed t h .1)
+
+-- a loop that reads so many elements, tests each, and keeps where each stands
+pub record Kept {A : Type 0} (r : Reader A) (d : A) (p : A → Bool) (n : ℕ) (rest b left : List ℕ) (i : ℕ) (passed : Bool) (offsets : List ℕ) : Type 0 where
+  pub seen : List A
+  pub going : Going r n b left i seen
+  pub tested : passed ≡ all p seen
+  pub long : length offsets ≡ 64
+  pub placed : length rest ≤ 65536 → (j : ℕ) → j < i → (t : List ℕ) × (r (onward rest (getD offsets j 0)) ≡ got (getD seen j d) t)
+
+module _ {A : Type 0} (r : Reader A) (d : A) (p : A → Bool) (n : ℕ) (rest b : List ℕ) where
+  pub kept-none : {offsets : List ℕ} → length offsets ≡ 64 → Kept r d p n rest b b 0 true offsets
+  unfolding all
+  kept-none e = record { seen = []; going = going-none r n b; tested = refl; long = e; placed = λ l j h. absurd (omega arith) }
+
+  module _ {left : List ℕ} {i : ℕ} {passed : Bool} {offsets : List ℕ} (K : Kept r d p n rest b left i passed offsets) where
+    pub kept-more : (place : ℕ) {o : ℕ} {x y : Bool} {t : List ℕ} → left ≡ onward rest place → i < n → i < 64 → (length rest ≤ 65536 → o ≡ place) → mapped p (r left) ≡ got x t → y ≡ (passed && x) → Kept r d p n rest b t (i + 1) y (set offsets i o)
+    kept-more place {o} {x} {y} {t} e h k g q f =
+        let w = mapped-at p (r left) q in
+        let c = K .going .count in
+        record {
+          seen = K .seen ++ (w .0 ∷ []);
+          going = going-more r n b (K .going) h (w .1);
+          tested = f ∙ ap₂ _&&_ (K .tested) (sym (w .2)) ∙ sym (all-more p (K .seen) (w .0));
+          long = length-set offsets i o ∙ K .long;
+          placed = λ l j m. elim (ℕ-discrete i j) [
+            | yes z ↦ subst (λ (j : ℕ). (t : List ℕ) × (r (onward rest (getD (set offsets i o) j 0)) ≡ got (getD (K .seen ++ (w .0 ∷ [])) j d) t)) z
+                (t, ap (λ (q : ℕ). r (onward rest q)) (getD-set-same offsets i o 0 (omega (arith, K .long)) ∙ g l) ∙ ap r (sym e) ∙ w .1 ∙ ap (λ (a : A). got a t) (sym (ap (λ (q : ℕ). getD (K .seen ++ (w .0 ∷ [])) q d) (sym c) ∙ getD-append-seam (K .seen) (w .0) [] d)))
+            | no z ↦ let u = K .placed l j (omega arith) in
+                (u .0, ap (λ (q : ℕ). r (onward rest q)) (getD-set-other offsets i j o 0 (λ (q : j ≡ i). z (sym q))) ∙ u .1 ∙ ap (λ (a : A). got a (u .0)) (sym (List·getD-append (K .seen) (w .0 ∷ []) d j (omega (arith, c)))))
+          ];
+        }
+
+    pub kept-stop : {f : Fault} → i < n → mapped p (r left) ≡ fault f → many n r b ≡ fault f
+    kept-stop h q = going-stop r n b (K .going) h (fault-at p (r left) q)
+
+    pub kept-all : n ≤ i → mapped (all p) (many n r b) ≡ got passed left
+    kept-all h = mapped-got (all p) (going-all r n b (K .going) h .0) ∙ ap (λ (x : Bool). got x left) (sym (K .tested))
+
+    pub kept-placed : n ≤ i → {xs : List A} {t : List ℕ} → length rest ≤ 65536 → many n r b ≡ got xs t → (j : ℕ) → j < n → (t : List ℕ) × (r (onward rest (getD offsets j 0)) ≡ got (getD xs j d) t)
+    kept-placed h {xs} l q j m =
+        subst (λ (ys : List A). (t : List ℕ) × (r (onward rest (getD offsets j 0)) ≡ got (getD ys j d) t)) (got-value (sym (going-all r n b (K .going) h .0) ∙ q)) (K .placed l j (omega arith))

@@ -1,0 +1,67 @@
+use mathlib.Core.Path.{sym, ap, _∙_}
+use borrow.Author.Needs.{needs}
+use Rattle.expr.specs.Places.{reached, reachedFault}
+use Rattle.expr.proofs.Places.{answered}
+use Rattle.expr.proofs.Reading.{mapped-at, fault-at}
+use Rattle.expr.proofs.Answer.{refused-not}
+use Rattle.chart.specs.Answers.{checkedOf}
+use Rattle.chart.specs.Ready.{verdict, faultNumber, refusedBy}
+use Rattle.chart.proofs.Files.{from-fault, from-got, verdict-refused, ready-of}
+use Rattle.chart.proofs.check.checked_records.Statement.{statement}
+use Rattle.chart.proofs.check.checked_records.Tie as tie
+
+read-records-requires : tie.Need-read-records-requires
+read-records-requires c κs = search needs
+
+enum-told : tie.Need-enum-told
+enum-told c = search needs
+
+enum-told-2 : tie.Need-enum-told-2
+enum-told-2 c = search needs
+
+reached-fault-requires : tie.Need-reached-fault-requires
+reached-fault-requires c κs = search needs
+
+fault-number-requires : tie.Need-fault-number-requires
+fault-number-requires c κs = search needs
+
+refused-file-requires : tie.Need-refused-file-requires
+refused-file-requires c κs = search needs
+
+returns : tie.Need-returns
+returns c = let e = c .before .before .before .enum-told2 .given .1 in
+    let r = c .before .before .before .before .before .read-records in
+    let z = from-fault _ _ (c .before .before .before .enum-told2 .given .0 .0) (fault-at _ _ (answered (reached _ (r .result .once)) (r .ensures .0) e)) in
+    (ap checkedOf (c .refused-file .ensures ∙ ap refusedBy (c .before .fault-number .ensures ∙ ap faultNumber (c .before .before .reached-fault .ensures ∙ ap reachedFault e))) ∙ sym (verdict-refused z), λ d h. refused-not (sym z ∙ h))
+
+tree-of-requires : tie.Need-tree-of-requires
+tree-of-requires c κs = search needs
+
+slice-aggregate-rules-checked : tie.Need-slice-aggregate-rules-checked
+slice-aggregate-rules-checked c = search needs
+
+rules-checked-requires : tie.Need-rules-checked-requires
+rules-checked-requires c κs = search needs
+
+returns-2 : tie.Need-returns-2
+returns-2 c = let r = c .before .before .before .before .before .before .read-records in
+    let m = mapped-at _ _ (answered (reached _ (r .result .once)) (r .ensures .0) (c .before .before .before .before .enum-told .given .1)) in
+    let L = r .ensures .1 (m .0) _ (c .before .before .before .before .before .before .before .before .pre .1) (m .1) in
+    let T = c .before .before .before .tree-of .ensures (m .0) (L .stated) in
+    (c .rules-checked .ensures (m .0) L T (sym (m .2)) ∙ ap verdict (sym (from-got _ _ (m .1))), λ d h. ready-of L T (sym (from-got _ _ (m .1)) ∙ h))
+
+pub checked-records-spec : {M : Type 1} → statement M
+checked-records-spec =
+    tie.close
+    (tie.spec
+    read-records-requires
+    enum-told
+    enum-told-2
+    reached-fault-requires
+    fault-number-requires
+    refused-file-requires
+    returns
+    tree-of-requires
+    slice-aggregate-rules-checked
+    rules-checked-requires
+    returns-2)

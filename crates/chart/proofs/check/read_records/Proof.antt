@@ -1,0 +1,73 @@
+use mathlib.Core.Path.{refl, sym, ap, _∙_}
+use Rattle.expr.specs.Places.{reached, reachedFault}
+use Rattle.expr.proofs.Places.{answered}
+use Rattle.expr.proofs.Reading.{no-answer, mapped-fault}
+use Rattle.chart.proofs.Files.{records-unstated, records-unread, records-longer, records-whole, records-laid}
+use borrow.Author.Needs.{needs}
+use Rattle.chart.proofs.check.read_records.Statement.{statement}
+use Rattle.chart.proofs.check.read_records.Tie as tie
+
+read-states-requires : tie.Need-read-states-requires
+read-states-requires c κs = search needs
+
+enum-known-s : tie.Need-enum-known-s
+enum-known-s c = search needs
+
+enum-told : tie.Need-enum-told
+enum-told c = search needs
+
+reached-fault-requires : tie.Need-reached-fault-requires
+reached-fault-requires c κs = search needs
+
+no-transitions-requires : tie.Need-no-transitions-requires
+no-transitions-requires c κs = search needs
+
+returns : tie.Need-returns
+returns c = let z = records-unstated _ _ (answered (reached _ tt) (c .before .before .before .before .read-states .ensures) (c .before .before .enum-told .given .1)) in
+    (rw (c .no-transitions .ensures, c .before .reached-fault .ensures ∙ ap reachedFault (c .before .before .enum-told .given .1)) (sym (mapped-fault _ z)), λ k t l r. no-answer (sym z ∙ r))
+
+read-transitions-requires : tie.Need-read-transitions-requires
+read-transitions-requires c κs = search needs
+
+enum-known-q : tie.Need-enum-known-q
+enum-known-q c = search needs
+
+enum-told-2 : tie.Need-enum-told-2
+enum-told-2 c = search needs
+
+returns-2 : tie.Need-returns-2
+returns-2 c = let t = c .before .before .read-transitions in
+    let z = records-unread _ _ _ (answered (reached _ tt) (c .before .before .before .before .before .before .read-states .ensures) (c .before .before .before .before .s .given .1)) (answered (reached _ (t .result .once)) (t .ensures .0) (c .enum-told2 .given .1)) in
+    (rw (c .enum-told2 .given .1) (sym (mapped-fault _ z)), λ k t l r. no-answer (sym z ∙ r))
+
+no-transitions-requires-2 : tie.Need-no-transitions-requires-2
+no-transitions-requires-2 c κs = search needs
+
+returns-3 : tie.Need-returns-3
+returns-3 c = let t = c .before .before .before .before .before .read-transitions in
+    let z = records-longer _ _ _ (answered (reached _ tt) (c .before .before .before .before .before .before .before .before .before .read-states .ensures) (c .before .before .before .before .before .before .before .s .given .1)) _ (answered (reached _ (t .result .once)) (t .ensures .0) (c .before .before .before .q .given .1)) (c .before .if1 .taken) in
+    (rw (c .no-transitions2 .ensures) (sym (mapped-fault _ z)), λ k t l r. no-answer (sym z ∙ r))
+
+returns-4 : tie.Need-returns-4
+returns-4 c = let t = c .before .before .before .before .read-transitions in
+    let h = answered (reached _ tt) (c .before .before .before .before .before .before .before .before .read-states .ensures) (c .before .before .before .before .before .before .s .given .1) in
+    (ap (reached _ (t .result .once)) (c .before .before .q .given .1) ∙ sym (records-whole _ _ _ h _ (answered (reached _ (t .result .once)) (t .ensures .0) (c .before .before .q .given .1)) (c .if1 .left)),
+    λ k u l r. records-laid _ _ _ h (c .before .before .before .before .before .before .before .before .before .before .pre) _ (λ ts v e. t .ensures .1 ts v l e) r)
+
+pub read-records-spec : {M : Type 1} → statement M
+read-records-spec =
+    tie.close
+    (tie.spec
+    read-states-requires
+    enum-known-s
+    enum-told
+    reached-fault-requires
+    no-transitions-requires
+    returns
+    read-transitions-requires
+    enum-known-q
+    enum-told-2
+    returns-2
+    no-transitions-requires-2
+    returns-3
+    returns-4)
