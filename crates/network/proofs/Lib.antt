@@ -3,3 +3,4 @@ pub mod Headers
 pub mod Records
 pub mod Waits
 pub mod Moving
+pub mod Edges

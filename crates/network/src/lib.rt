@@ -1,5 +1,6 @@
 // The network machine.
 pub mod configuration;
+pub mod edge;
 pub mod header;
 pub mod initial;
 pub mod location;
