@@ -1,19 +1,22 @@
 // The edge records of a network file. They vary in size, so a check of the file keeps each one's offset.
 ghost use mathlib.Core.Path.{_≡_};
 ghost use mathlib.Core.Bool.{true, _&&_};
-ghost use Prim.Native.Nat.{_+_, _≤_, _^_};
+ghost use Prim.Native.Nat.{_+_, _-_, _≤_, _<_, _^_};
 ghost use lib.Dec.{ltb, eqb};
-ghost use Rattle.expr.specs.Lists.{implies, subset};
-ghost use Rattle.expr.specs.Reading.{byte, byte2, such, mapped};
+ghost use lib.ListN.{length};
+ghost use Rattle.expr.specs.Lists.{all, implies, subset};
+ghost use Rattle.expr.specs.Reading.{got, byte, byte2, such, many, recorded, mapped};
 ghost use Rattle.expr.specs.Guard.{limits};
-ghost use Rattle.expr.specs.Label.{label, heading};
+ghost use Rattle.expr.specs.Label.{label, heading, assignsOnce};
 ghost use Rattle.expr.specs.Headings.{labelOf};
-ghost use Rattle.expr.specs.Places.{onward, byteOf, shortOf};
+ghost use Rattle.expr.specs.Places.{onward, reached, byteOf, shortOf};
 ghost use Rattle.network.specs.Network.{inRange, edge};
-ghost use Rattle.network.specs.Edges.{edgeIn, edgeHeading, edgeOf, edgeFault};
+ghost use Rattle.network.specs.Edges.{edgeIn, edgeHeading, edgeOf, edgeFault, withBody, EdgeHere, EdgesAt};
 use crate::header::Counts;
 use expr::field::ByteRead;
 use expr::field::Fault;
+use expr::field::Frame;
+use expr::field::Reached;
 use expr::field::ShortRead;
 use expr::label::Label;
 use expr::label::LabelRead;
@@ -166,4 +169,90 @@ fn read_edge(s: &[u8], at: usize, counts: Counts) -> EdgeRead
         },
         at9,
     )
+}
+
+// Where a record's bytes from one place to another have the byte that is `body` in them.
+fn body_place(from: usize, to: usize, body: usize) -> usize
+    requires { ⌜ from ≤ to ⌝ }
+    ensures { λ r. ⌜ (body ≤ to - from → r ≡ from + body) ⌝ }
+{
+    if body <= to - from { from + body } else { to }
+}
+
+// The edge with its body at another place.
+fn with_body(e: Edge, body: usize) -> Edge
+    ensures { λ r. ⌜ r ≡ withBody e body ⌝ }
+{
+    let l = e.label;
+    let label = Label {
+        signal: l.signal,
+        channel: l.channel,
+        resets: l.resets,
+        body,
+        once: l.once,
+    };
+    let mut next = e;
+    next.label = label;
+    next
+}
+
+// The edge's record at a place. The place of its body is one of the same bytes.
+pub fn edge_at(rest: &[u8], at: usize, counts: Counts) -> EdgeRead
+    requires { ⌜ inRange counts ≡ true ⌝ }
+    ensures { λ r. ⌜ EdgeHere counts (now (rest .entry)) r (recorded byte2 (edgeIn counts) (onward (now (rest .entry)) at)) ⌝ }
+{
+    let p = expr::field::read_long_frame(rest, at);
+    let Frame::Part(from, to) = p else {
+        return EdgeRead::Fault(expr::field::frame_fault(p));
+    };
+    let q = read_edge(&rest[from..to], 0, counts);
+    let EdgeRead::Edge(e, used) = q else {
+        return q;
+    };
+    if used < to - from {
+        return EdgeRead::Fault(Fault::Length);
+    }
+    let label = e.label;
+    let body = body_place(from, to, label.body);
+    EdgeRead::Edge(with_body(e, body), to)
+}
+
+// What a pass over all edges finds: where it ends, whether all keep rule 13, and the offset of each.
+pub struct EdgesRead {
+    pub reached: Reached,
+    pub once: bool,
+    pub offsets: [u32; 1024],
+}
+
+// All edge records, from a place on.
+pub fn read_edges(rest: &[u8], at: usize, counts: Counts) -> EdgesRead
+    requires { ⌜ (inRange counts ≡ true) × (length (now rest) < 2 ^ 32) ⌝ }
+    ensures means { λ r. ⌜ reached (now (rest .entry)) (r .once) (r .reached) ≡ mapped (all (λ e. assignsOnce (e .label))) (many (counts .edges) (recorded byte2 (edgeIn counts)) (onward (now (rest .entry)) at)) ⌝ }
+    ensures placed { λ r. ⌜ ((es : _) (t : _) → many (counts .edges) (recorded byte2 (edgeIn counts)) (onward (now (rest .entry)) at) ≡ got es t → EdgesAt counts (now (rest .entry)) (r .offsets) es) ⌝ }
+{
+    let mut offsets = [0; 1024];
+    let mut once = true;
+    let mut place = at;
+    let count = counts.edges as usize;
+    let mut i = 0;
+    while i < count {
+        let e = edge_at(rest, place, counts);
+        let EdgeRead::Edge(edge, next) = e else {
+            return EdgesRead {
+                reached: Reached::Fault(edge_fault(e)),
+                once,
+                offsets,
+            };
+        };
+        let label = edge.label;
+        once &= label.once;
+        offsets[i] = place as u32;
+        place = next;
+        i += 1;
+    }
+    EdgesRead {
+        reached: Reached::At(place),
+        once,
+        offsets,
+    }
 }
