@@ -9,6 +9,7 @@ use borrow.Author.Tests.{leb-true, lt-ltb, le-ltb}
 use lib.Dec.{leb}
 use lib.ListN.{length, getD, take, drop, set, take-append-drop, length-append, length-set, List·getD-append}
 use lib.Seq.{drop-drop, getD-at, getD-set-same, getD-set-other}
+use Rattle.expr.specs.Reading as reading
 use Rattle.expr.specs.Reading.{Read, got, fault, length-fault, Reader, byte, byte2, byte4, many, framed, recorded, mapped}
 use Rattle.expr.specs.Lists.{all}
 use Rattle.expr.specs.Places.{onward, faultOf}
@@ -244,7 +245,7 @@ module _ (k : Counts) (s : List ℕ) (at : ℕ) where
             let y : getD (E .seen ++ (e ∷ [])) j d ≡ getD (E .seen) j d = List·getD-append (E .seen) (e ∷ []) d j z in
             (w .0, rw (x, y) (w .1))
 
-    pub edging-stop : {f : Fault} → i < k .edges → recorded byte2 (edgeIn k) (onward s place) ≡ fault (faultOf f) → many (k .edges) (recorded byte2 (edgeIn k)) (onward s at) ≡ fault (faultOf f)
+    pub edging-stop : {f : reading.Fault} → i < k .edges → recorded byte2 (edgeIn k) (onward s place) ≡ fault f → many (k .edges) (recorded byte2 (edgeIn k)) (onward s at) ≡ fault f
     edging-stop h q = going-stop _ _ _ (E .going) h q
 
     pub edging-all : k .edges ≤ i → got once (onward s place) ≡ mapped (all (λ e. assignsOnce (e .label))) (many (k .edges) (recorded byte2 (edgeIn k)) (onward s at))

@@ -4,3 +4,4 @@ pub mod Records
 pub mod Waits
 pub mod Moving
 pub mod Edges
+pub mod Offsets

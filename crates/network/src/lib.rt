@@ -3,6 +3,7 @@ pub mod configuration;
 pub mod edge;
 pub mod header;
 pub mod initial;
+pub mod laid;
 pub mod location;
 pub mod moved;
 pub mod wait;
