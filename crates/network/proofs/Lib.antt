@@ -5,3 +5,4 @@ pub mod Waits
 pub mod Moving
 pub mod Edges
 pub mod Offsets
+pub mod Checking

@@ -67,7 +67,7 @@ fn joins(rest: &[u8], counts: Counts, e: Edge) -> bool
 }
 
 // Whether each edge does.
-fn all_join(rest: &[u8], counts: Counts, offsets: &[u32; 1024]) -> bool
+pub fn all_join(rest: &[u8], counts: Counts, offsets: &[u32; 1024]) -> bool
     requires { ⌜ inRange counts ≡ true ⌝ }
     ensures { λ r. ⌜ ((n : Network) → Laid (now (rest .entry)) counts (now (offsets .entry)) n → r ≡ all (λ e. eqb (ownerOf n e) (locationAt n (e .target) .automaton)) (n .edges)) ⌝ }
 {
@@ -104,7 +104,7 @@ fn precedes(a: Edge, b: Edge) -> bool
 }
 
 // Whether the edges are in order, and none stands twice.
-fn all_ascend(rest: &[u8], counts: Counts, offsets: &[u32; 1024]) -> bool
+pub fn all_ascend(rest: &[u8], counts: Counts, offsets: &[u32; 1024]) -> bool
     requires { ⌜ inRange counts ≡ true ⌝ }
     ensures { λ r. ⌜ ((n : Network) → Laid (now (rest .entry)) counts (now (offsets .entry)) n → r ≡ edgesAscend (n .edges)) ⌝ }
 {

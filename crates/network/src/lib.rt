@@ -1,4 +1,5 @@
 // The network machine.
+pub mod check;
 pub mod configuration;
 pub mod edge;
 pub mod header;
@@ -6,4 +7,5 @@ pub mod initial;
 pub mod laid;
 pub mod location;
 pub mod moved;
+pub mod operation;
 pub mod wait;
