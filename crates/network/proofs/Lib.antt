@@ -3,3 +3,6 @@ pub mod Headers
 pub mod Records
 pub mod Waits
 pub mod Moving
+pub mod Edges
+pub mod Offsets
+pub mod Checking

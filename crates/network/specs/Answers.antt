@@ -1,7 +1,8 @@
 -- What the answers of the code stand for.
 use Prim.Native.Nat.{ℕ, _-_, _≤_, _<_, _^_}
 use mathlib.Core.List.{List}
-use lib.ListN.{length}
+use lib.ListN.{length, replicate}
+use lib.IntN.{pos}
 use Rattle.expr.specs.Answer.{Answer, done, refused}
 use Rattle.network.specs.declared.header.Counts.{Counts}
 use Rattle.network.specs.declared.header.HeaderRead.{HeaderRead}
@@ -23,3 +24,7 @@ HeaderFits file Hd.Refused = Unit
 abbrev pub movedOf : Configuration → Answer Configuration → Moved
 movedOf c (done d) = record { verdict = Vd.Done; configuration = d }
 movedOf c (refused n) = record { verdict = Vd.Refused n; configuration = c }
+
+-- what stands for a configuration where no network is
+abbrev pub noConfiguration : Configuration
+noConfiguration = record { locations = replicate 16 0; flags = replicate 16 0; variables = replicate 16 (pos 0); clocks = replicate 8 0 }

@@ -1,13 +1,15 @@
 -- Where the records of a checked file stand, in its bytes after version and length.
 use mathlib.Core.Path.{_≡_}
 use mathlib.Core.Bool.{true}
-use mathlib.Core.List.{List}
+use mathlib.Core.List.{List, [], _∷_}
 use Prim.Native.Nat.{ℕ, _+_, _*_, _<_}
 use lib.ListN.{length}
 use Rattle.expr.specs.Reading.{got, byte, recorded}
 use Rattle.expr.specs.Places.{onward}
 use Rattle.network.specs.Network.{Network, location, locationAt, inRange}
+use Rattle.network.specs.Edges.{EdgesAt}
 use Rattle.network.specs.declared.header.Counts.{Counts}
+use Rattle.network.specs.declared.edge.Edge as code
 
 -- the bytes of a location's record, its length byte included
 abbrev pub locationSize : ℕ → ℕ
@@ -26,3 +28,13 @@ pub record Located (rest : List ℕ) (k : Counts) (n : Network) : Type 0 where
   pub rendezvous : n .rendezvous ≡ k .rendezvous
   pub locations : length (n .locations) ≡ k .locations
   pub here : (i : ℕ) → i < k .locations → recorded byte (location (k .automata) (k .clocks)) (onward rest (locationPlace (k .clocks) i)) ≡ got (locationAt n i) (onward rest (locationPlace (k .clocks) i + locationSize (k .clocks)))
+
+-- and the edges at their offsets
+pub record Laid (rest : List ℕ) (k : Counts) (offsets : List ℕ) (n : Network) : Type 0 where
+  pub located : Located rest k n
+  pub edges : length (n .edges) ≡ k .edges
+  pub placed : EdgesAt k rest offsets (n .edges)
+
+-- what the code's edges are ordered by
+abbrev pub keyOf : code.Edge → List ℕ
+keyOf e = e .source ∷ e .target ∷ e .transition ∷ e .tested ∷ e .label .channel ∷ []

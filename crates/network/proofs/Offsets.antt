@@ -1,0 +1,98 @@
+-- The edges of a checked file, each at its offset.
+use mathlib.Core.Path.{_≡_, refl, sym, ap, ap₂, _∙_, subst}
+use mathlib.Core.Bool.{Bool, true, false, _&&_, _||_, or-false, and-false}
+use mathlib.Core.List.{List, [], _∷_}
+use Prim.Native.Nat.{ℕ, zero, suc, _+_, _-_, _≤_, _<_}
+use native.Mathlib.Omega.{arith}
+use borrow.Author.Tests.{eq-eqb, ne-eqb, le-ltb}
+use lib.Dec.{ltb, eqb}
+use lib.ListN.{length, getD, drop, length-drop, drop-of-length-le}
+use Rattle.expr.specs.Reading.{Read, got, byte2, recorded}
+use Rattle.expr.specs.Places.{onward, faultOf}
+use Rattle.expr.specs.declared.field.Fault.{Fault}
+use Rattle.expr.proofs.Reading.{no-answer, got-value}
+use Rattle.expr.proofs.Lists.{drop-next}
+use Rattle.network.specs.Network.{Edge, Network, locationAt, ownerOf, inRange, key, lexLess, edgesAscend}
+use Rattle.network.specs.Machine.{edgeAt}
+use Rattle.network.specs.Edges.{edgeIn, EdgeHere, Kept}
+use Rattle.network.specs.Layout.{Laid, keyOf}
+use Rattle.network.specs.declared.header.Counts.{Counts}
+use Rattle.network.specs.declared.edge.Edge as code
+use Rattle.network.specs.declared.edge.EdgeRead.{EdgeRead}
+use Rattle.network.specs.declared.edge.EdgeRead.the-variants as Ed
+use Rattle.network.proofs.Edges.{here-got, here-fault, few-edges}
+
+module _ {rest : List ℕ} {k : Counts} {offsets : List ℕ} {n : Network} (L : Laid rest k offsets n) where
+  module _ (i : ℕ) (h : i < k .edges) where
+    laid-edge : (t : List ℕ) × (recorded byte2 (edgeIn k) (onward rest (getD offsets i 0)) ≡ got (edgeAt n i) t)
+    unfolding edgeAt
+    laid-edge = L .placed i (omega (arith, L .edges)) _
+
+    module _ {place : ℕ} (e : i < 1024 → place ≡ getD offsets i 0) where
+      there : (t : List ℕ) × (recorded byte2 (edgeIn k) (onward rest place) ≡ got (edgeAt n i) t)
+      there = let w = laid-edge in (w .0, ap (λ (p : ℕ). recorded byte2 (edgeIn k) (onward rest p)) (e (omega (arith, few-edges k (L .located .in-range)))) ∙ w .1)
+
+      -- the code reads the edge that the network has
+      pub laid-kept : {r : EdgeRead} {c : code.Edge} {m : ℕ} → EdgeHere k rest r (recorded byte2 (edgeIn k) (onward rest place)) → r ≡ Ed.Edge c m → Kept k rest c (edgeAt n i)
+      laid-kept {c = c} g q = let w = here-got k rest g q in subst (Kept k rest c) (got-value (sym (w .1) ∙ there .1)) (w .2)
+
+      pub laid-there : {X : Type 0} {r : EdgeRead} {f : Fault} → EdgeHere k rest r (recorded byte2 (edgeIn k) (onward rest place)) → r ≡ Ed.Fault f → X
+      laid-there g q = no-answer (sym (here-fault k rest g q) ∙ there .1)
+
+  -- what a loop over the edges has left to see
+  pub edges-next : (i : ℕ) → i < k .edges → drop i (n .edges) ≡ edgeAt n i ∷ drop (i + 1) (n .edges)
+  unfolding edgeAt
+  edges-next i h = drop-next (n .edges) i _ (omega (arith, L .edges))
+
+  pub edges-end : (i : ℕ) → k .edges ≤ i → drop i (n .edges) ≡ []
+  edges-end i h = drop-of-length-le (n .edges) {i = i} (omega (arith, L .edges))
+
+  -- whether an edge joins two locations of one automaton
+  pub edge-joins : {c : code.Edge} {e : Edge} {b : Bool} → Kept k rest c e → b ≡ eqb (locationAt n (c .source) .automaton) (locationAt n (c .target) .automaton) → eqb (ownerOf n e) (locationAt n (e .target) .automaton) ≡ b
+  unfolding ownerOf
+  edge-joins K h = sym (h ∙ ap₂ (λ (x y : ℕ). eqb (locationAt n x .automaton) (locationAt n y .automaton)) (K .source) (K .target))
+
+  -- the order of the edges, from a place on
+  module _ (i : ℕ) (o : 1 ≤ i) (h : i < k .edges) where
+    ascend-two : edgesAscend (drop (i - 1) (n .edges)) ≡ (lexLess (key (edgeAt n (i - 1))) (key (edgeAt n i)) && edgesAscend (drop i (n .edges)))
+    unfolding edgesAscend
+    ascend-two =
+        let x : drop (i - 1) (n .edges) ≡ edgeAt n (i - 1) ∷ drop i (n .edges) = edges-next (i - 1) (omega arith) ∙ ap (λ (j : ℕ). edgeAt n (i - 1) ∷ drop j (n .edges)) (let z : i - 1 + 1 ≡ i = omega arith in z) in
+        rw (x, edges-next i h)
+
+    pub ascend-next : {b : Bool} → b ≡ lexLess (key (edgeAt n (i - 1))) (key (edgeAt n i)) → b ≡ true → edgesAscend (drop (i - 1) (n .edges)) ≡ edgesAscend (drop (i + 1 - 1) (n .edges))
+    ascend-next e q = ascend-two ∙ ap (λ (x : Bool). x && edgesAscend (drop i (n .edges))) (sym e ∙ q) ∙ ap (λ (j : ℕ). edgesAscend (drop j (n .edges))) (let z : i ≡ i + 1 - 1 = omega arith in z)
+
+    pub ascend-stop : {b : Bool} → b ≡ lexLess (key (edgeAt n (i - 1))) (key (edgeAt n i)) → b ≡ false → edgesAscend (drop (i - 1) (n .edges)) ≡ false
+    ascend-stop e q = ascend-two ∙ ap (λ (x : Bool). x && edgesAscend (drop i (n .edges))) (sym e ∙ q)
+
+  pub ascend-end : (i : ℕ) → k .edges ≤ i → edgesAscend (drop (i - 1) (n .edges)) ≡ true
+  unfolding edgesAscend
+  ascend-end i h = go (drop (i - 1) (n .edges)) (omega (arith, length-drop (i - 1) (n .edges), L .edges))
+    where
+      go : (es : List Edge) → length es ≤ 1 → edgesAscend es ≡ true
+      go [] l = refl
+      go (e ∷ []) l = refl
+      go (e ∷ (f ∷ es)) l = absurd (omega arith)
+
+  -- the code's edges are ordered by the same
+  pub same-keys : {a b : code.Edge} {e f : Edge} {r : Bool} → Kept k rest a e → Kept k rest b f → r ≡ lexLess (keyOf a) (keyOf b) → r ≡ lexLess (key e) (key f)
+  unfolding key
+  same-keys A B h = h ∙ ap₂ lexLess (same-key A) (same-key B)
+    where
+      same-key : {a : code.Edge} {e : Edge} → Kept k rest a e → keyOf a ≡ key e
+      same-key K = λ j. K .source j ∷ K .target j ∷ K .transition j ∷ K .tested j ∷ K .channel j ∷ []
+
+-- the order of lists of numbers, by the first that differ
+module _ {x y : ℕ} (xs ys : List ℕ) where
+  pub lex-first : (x ≡ y → ⊥) → lexLess (x ∷ xs) (y ∷ ys) ≡ ltb x y
+  unfolding lexLess
+  lex-first h = rw (ne-eqb x y h) (or-false (ltb x y))
+
+  pub lex-same : x ≡ y → lexLess (x ∷ xs) (y ∷ ys) ≡ lexLess xs ys
+  unfolding lexLess
+  lex-same h = rw (eq-eqb x y h, le-ltb x y (omega arith))
+
+pub lex-last : (x y : ℕ) → lexLess (x ∷ []) (y ∷ []) ≡ ltb x y
+unfolding lexLess
+lex-last x y = ap (λ (b : Bool). ltb x y || b) (and-false (eqb x y)) ∙ or-false (ltb x y)

@@ -1,0 +1,60 @@
+use mathlib.Core.Path.{sym, ap, _∙_}
+use native.Mathlib.Omega.{arith}
+use Prim.Native.Nat.{_-_, _≤_, _<_, _^_}
+use lib.ListN.{length}
+use Rattle.expr.proofs.Places.{answered}
+use Rattle.network.specs.Answers.{headerOf}
+use Rattle.network.proofs.Headers.{counts-at}
+use Rattle.network.proofs.Checking.{checked-refused, header-refused, checked-file, header-fits, rest-fits, refused-fits, finding-fits}
+use borrow.Author.Needs.{needs}
+use Rattle.network.proofs.check.check.Statement.{statement}
+use Rattle.network.proofs.check.check.Tie as tie
+
+-- the counts are there, and the places of what follows fit 32 bits
+fits : (k : tie.After-known-told) → (13 ≤ length (k .before .before .before .before .before .args .file .now)) × (length (k .before .before .before .before .before .args .file .now) - 5 < 2 ^ 32)
+fits k = header-fits _ (k .before .before .before .read-header .ensures .1) (k .before .h .given .1)
+
+read-header-requires : tie.Need-read-header-requires
+read-header-requires c κs = search needs
+
+enum-known-h : tie.Need-enum-known-h
+enum-known-h c = search needs
+
+enum-told : tie.Need-enum-told
+enum-told c = search needs
+
+not-checked-requires : tie.Need-not-checked-requires
+not-checked-requires c κs = search needs
+
+returns : tie.Need-returns
+returns c = (checked-refused _ _ (c .not-checked .ensures) (header-refused _ (answered headerOf (c .before .before .before .read-header .ensures .0) (c .before .enum-told .given .1))), refused-fits _ (c .not-checked .ensures))
+
+sub-check-rest : tie.Need-sub-check-rest
+sub-check-rest c = omega (arith, fits c .0)
+
+part-check-rest-start : tie.Need-part-check-rest-start
+part-check-rest-start c = omega (arith, fits c .0)
+
+part-check-rest-end : tie.Need-part-check-rest-end
+part-check-rest-end c = search needs
+
+check-rest-requires : tie.Need-check-rest-requires
+check-rest-requires c κs = let k = c .before in (counts-at _ (answered headerOf (k .before .before .before .read-header .ensures .0) (k .before .h .given .1)) .1, rest-fits (k .before .before .before .before .before .args .file .now) (fits k))
+
+returns-2 : tie.Need-returns-2
+returns-2 c = let k = c .before .before in (checked-file _ (answered headerOf (k .before .before .before .read-header .ensures .0) (k .before .h .given .1)) (c .check-rest .result .offsets) (c .check-rest .result .finding) (c .check-rest .ensures), finding-fits _ (c .check-rest .result .finding) (fits k .0))
+
+pub check-spec : {M : Type 1} → statement M
+check-spec =
+    tie.close
+    (tie.spec
+    read-header-requires
+    enum-known-h
+    enum-told
+    not-checked-requires
+    returns
+    sub-check-rest
+    part-check-rest-start
+    part-check-rest-end
+    check-rest-requires
+    returns-2)

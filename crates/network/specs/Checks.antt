@@ -1,0 +1,37 @@
+-- What the check of a file answers.
+use Prim.Native.Nat.{ℕ, _≤_}
+use lib.ListN.{length}
+use mathlib.Core.Path.{_≡_}
+use mathlib.Core.List.{List}
+use Rattle.expr.specs.Reading.{Read}
+use Rattle.expr.specs.Answer.{Answer, done, refused, unless}
+use Rattle.expr.specs.Answer as answer
+use Rattle.expr.specs.declared.field.Fault.{Fault}
+use Rattle.expr.specs.declared.field.Fault.the-variants as Fl
+use Rattle.network.specs.Network.{Network, numbered, sound}
+use Rattle.network.specs.Layout.{Laid}
+use Rattle.network.specs.declared.check.Finding.{Finding}
+use Rattle.network.specs.declared.check.Finding.the-variants as Fd
+
+-- 24 for a length, 25 for a field
+abbrev pub faultNumber : Fault → ℕ
+faultNumber Fl.Length = 24
+faultNumber Fl.Range = 25
+
+-- a network that was read, if it keeps the rules
+abbrev pub soundOf : Read Network → Answer Network
+soundOf q = answer._>>=_ (numbered q) (λ n. unless 25 (sound n) (done n))
+
+-- the network d is in the bytes where the answer says, or refused by the number that it has
+abbrev pub CheckedAs : List ℕ → List ℕ → Answer Network → Finding → Type 0
+CheckedAs rest offsets d (Fd.Counts k) = (n : Network) × (d ≡ done n) × Laid rest k offsets n
+CheckedAs rest offsets d (Fd.Refused m) = d ≡ refused m
+
+abbrev pub findingNumber : Finding → ℕ
+findingNumber (Fd.Counts k) = 0
+findingNumber (Fd.Refused m) = m
+
+-- a file that is right has its version, length and counts
+abbrev pub FindingFits : List ℕ → Finding → Type 0
+FindingFits file (Fd.Counts k) = 13 ≤ length file
+FindingFits file (Fd.Refused m) = Unit

@@ -1,0 +1,113 @@
+// The check of a network file: one pass over its records, then the rules.
+ghost use mathlib.Core.Path.{_≡_};
+ghost use mathlib.Core.Bool.{true};
+ghost use Prim.Native.Nat.{_<_, _^_};
+ghost use lib.ListN.{length};
+ghost use Rattle.expr.specs.Lists.{all};
+ghost use Rattle.expr.specs.Label.{assignsOnce};
+ghost use Rattle.expr.specs.Places.{onward};
+ghost use Rattle.network.specs.Network.{Network, inRange, records, sound, networkOf};
+ghost use Rattle.network.specs.Layout.{Laid};
+ghost use Rattle.network.specs.declared.check.Finding.the-variants as Finding;
+ghost use Rattle.network.specs.Checks.{faultNumber, soundOf, CheckedAs, findingNumber, FindingFits};
+use crate::edge::read_edges;
+use crate::header::Counts;
+use crate::header::HeaderRead;
+use crate::header::read_header;
+use crate::initial::one_initial_each;
+use crate::laid::all_ascend;
+use crate::laid::all_join;
+use crate::location::read_locations;
+use expr::field::Fault;
+use expr::field::Reached;
+
+pub enum Finding {
+    Counts(Counts),
+    Refused(u8),
+}
+
+// The counts of a file that is right, with the offsets of its edges, or the number of the refusal.
+pub struct Checked {
+    pub finding: Finding,
+    pub offsets: [u32; 1024],
+}
+
+// 24 for a length, 25 for a field.
+fn number_of(f: Fault) -> u8
+    ensures { λ r. ⌜ r ≡ faultNumber f ⌝ }
+{
+    match f {
+        Fault::Length => 24,
+        Fault::Range => 25,
+    }
+}
+
+// The number of a refusal.
+pub fn finding_number(f: Finding) -> u8
+    ensures { λ r. ⌜ r ≡ findingNumber f ⌝ }
+{
+    match f {
+        Finding::Refused(number) => number,
+        Finding::Counts(_) => 0,
+    }
+}
+
+fn not_checked(number: u8) -> Checked
+    ensures { λ r. ⌜ r .finding ≡ Finding.Refused number ⌝ }
+{
+    Checked {
+        finding: Finding::Refused(number),
+        offsets: [0; 1024],
+    }
+}
+
+// The rules of a file whose records are read.
+fn keeps_rules(rest: &[u8], counts: Counts, offsets: &[u32; 1024], once: bool) -> bool
+    requires { ⌜ inRange counts ≡ true ⌝ }
+    ensures { λ r. ⌜ ((n : Network) → Laid (now (rest .entry)) counts (now (offsets .entry)) n → all (λ e. assignsOnce (e .label)) (n .edges) ≡ once → r ≡ sound n) ⌝ }
+{
+    let initial = one_initial_each(rest, counts);
+    let joined = all_join(rest, counts, offsets);
+    let ordered = all_ascend(rest, counts, offsets);
+    initial & (joined & (ordered & once))
+}
+
+// The same of the bytes after version and length.
+fn check_rest(rest: &[u8], counts: Counts) -> Checked
+    requires { ⌜ (inRange counts ≡ true) × (length (now rest) < 2 ^ 32) ⌝ }
+    ensures { λ r. ⌜ CheckedAs (now (rest .entry)) (r .offsets) (soundOf (records counts (onward (now (rest .entry)) 8))) (r .finding) ⌝ }
+{
+    let l = read_locations(rest, 8, counts);
+    let Reached::At(at) = l else {
+        return not_checked(number_of(expr::field::reached_fault(l)));
+    };
+    let e = read_edges(rest, at, counts);
+    let q = e.reached;
+    let Reached::At(to) = q else {
+        return not_checked(number_of(expr::field::reached_fault(q)));
+    };
+    if to < rest.len() {
+        return not_checked(24);
+    }
+    let offsets = e.offsets;
+    let once = e.once;
+    if !keeps_rules(rest, counts, &offsets, once) {
+        return not_checked(25);
+    }
+    Checked {
+        finding: Finding::Counts(counts),
+        offsets,
+    }
+}
+
+// A whole file.
+pub fn check(file: &[u8]) -> Checked
+    ensures means { λ r. ⌜ CheckedAs (onward (now (file .entry)) 5) (r .offsets) (networkOf (now (file .entry))) (r .finding) ⌝ }
+    ensures within { λ r. ⌜ FindingFits (now (file .entry)) (r .finding) ⌝ }
+{
+    let h = read_header(file);
+    let HeaderRead::Counts(counts) = h else {
+        return not_checked(24);
+    };
+    check_rest(&file[5..], counts)
+}
