@@ -9,3 +9,4 @@ pub mod table;
 pub mod transition;
 pub mod transition_rule;
 pub mod check;
+pub mod machine;
