@@ -1,65 +1,54 @@
+use mathlib.Core.Path.{refl, sym, _∙_}
+use borrow.Author.Tests.{not-true, not-false}
+use Rattle.chart.specs.Chart.{stateAt, states}
+use Rattle.chart.specs.Machine.{isConfiguration, boundsKept}
 use borrow.Author.Needs.{needs}
 use Rattle.chart.proofs.machine.is_configuration.Statement.{statement}
 use Rattle.chart.proofs.machine.is_configuration.Tie as tie
-use Rattle.chart.proofs.machine.is_configuration.Reads as reads
-use Rattle.chart.proofs.machine.is_configuration.Lts as lts
-use Rattle.chart.proofs.activity.is_tree.Reads as is-tree-reads
-use Rattle.chart.proofs.machine.bounds_kept.Reads as bounds-kept-reads
-use Rattle.expr.proofs.clock.in_limit.Reads as in-limit-reads
-use Rattle.expr.proofs.clock.zero_past.Reads as zero-past-reads
-use Rattle.expr.proofs.clock.zeros_past.Reads as zeros-past-reads
 
--- src/machine.rt:60:9
 is-tree-requires : tie.Need-is-tree-requires
 is-tree-requires c κs = search needs
 
--- src/machine.rt:61:9
 returns : tie.Need-returns
-returns c = ?
+unfolding isConfiguration
+returns c = λ k G. rw (sym (c .before .is-tree .ensures k (c .before .before .before .before .before .before .args .given) (G .tabled) (G .parents) refl) ∙ not-true _ (c .if1 .taken))
 
--- src/machine.rt:63:33
 cast-zeros-past : tie.Need-cast-zeros-past
 cast-zeros-past c = search needs
 
--- src/machine.rt:63:9
 zeros-past-requires : tie.Need-zeros-past-requires
 zeros-past-requires c κs = search needs
 
--- src/machine.rt:64:9
 returns-2 : tie.Need-returns-2
-returns-2 c = ?
+unfolding isConfiguration
+returns-2 c = λ k G. rw (sym (c .before .before .before .before .is-tree .ensures k (c .before .before .before .before .before .before .before .before .before .args .given) (G .tabled) (G .parents) refl) ∙ not-false _ (c .before .before .before .if1 .left), G .stated .variables, sym (c .before .zeros-past .ensures) ∙ not-true _ (c .if2 .taken))
 
--- src/machine.rt:66:31
 cast-in-limit : tie.Need-cast-in-limit
 cast-in-limit c = search needs
 
--- src/machine.rt:66:9
 in-limit-requires : tie.Need-in-limit-requires
 in-limit-requires c κs = search needs
 
--- src/machine.rt:67:9
 returns-3 : tie.Need-returns-3
-returns-3 c = ?
+unfolding isConfiguration
+returns-3 c = λ k G. rw (sym (c .before .before .before .before .before .before .before .is-tree .ensures k (c .before .before .before .before .before .before .before .before .before .before .before .before .args .given) (G .tabled) (G .parents) refl) ∙ not-false _ (c .before .before .before .before .before .before .if1 .left), G .stated .variables, sym (c .before .before .before .before .zeros-past .ensures) ∙ not-false _ (c .before .before .before .if2 .left), G .stated .clocks, sym (c .before .in-limit .ensures) ∙ not-true _ (c .if3 .taken))
 
--- src/machine.rt:69:32
 cast-zero-past : tie.Need-cast-zero-past
 cast-zero-past c = search needs
 
--- src/machine.rt:69:9
 zero-past-requires : tie.Need-zero-past-requires
 zero-past-requires c κs = search needs
 
--- src/machine.rt:70:9
 returns-4 : tie.Need-returns-4
-returns-4 c = ?
+unfolding isConfiguration
+returns-4 c = λ k G. rw (sym (c .before .before .before .before .before .before .before .before .before .before .is-tree .ensures k (c .before .before .before .before .before .before .before .before .before .before .before .before .before .before .before .args .given) (G .tabled) (G .parents) refl) ∙ not-false _ (c .before .before .before .before .before .before .before .before .before .if1 .left), G .stated .variables, sym (c .before .before .before .before .before .before .before .zeros-past .ensures) ∙ not-false _ (c .before .before .before .before .before .before .if2 .left), G .stated .clocks, sym (c .before .before .before .before .in-limit .ensures) ∙ not-false _ (c .before .before .before .if3 .left), sym (c .before .zero-past .ensures) ∙ not-true _ (c .if4 .taken))
 
--- src/machine.rt:72:5
 bounds-kept-requires : tie.Need-bounds-kept-requires
 bounds-kept-requires c κs = search needs
 
--- src/machine.rt:54:1
 returns-5 : tie.Need-returns-5
-returns-5 c = ?
+unfolding isConfiguration boundsKept stateAt states
+returns-5 c = λ k G. rw (sym (c .before .before .before .before .before .before .before .before .before .before .before .is-tree .ensures k (c .before .before .before .before .before .before .before .before .before .before .before .before .before .before .before .before .args .given) (G .tabled) (G .parents) refl) ∙ not-false _ (c .before .before .before .before .before .before .before .before .before .before .if1 .left), G .stated .variables, sym (c .before .before .before .before .before .before .before .before .zeros-past .ensures) ∙ not-false _ (c .before .before .before .before .before .before .before .if2 .left), G .stated .clocks, sym (c .before .before .before .before .before .in-limit .ensures) ∙ not-false _ (c .before .before .before .before .if3 .left), sym (c .before .before .zero-past .ensures) ∙ not-false _ (c .before .if4 .left)) (c .bounds-kept .ensures k (c .before .before .before .before .before .before .before .before .before .before .before .before .before .before .before .before .args .given) (G .stated) refl refl)
 
 pub is-configuration-spec : {M : Type 1} → statement M
 is-configuration-spec =
