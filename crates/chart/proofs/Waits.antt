@@ -1,11 +1,12 @@
 -- The operations on a file, by what its check says.
 use mathlib.Core.Path.{_≡_, refl, sym, ap, _∙_}
 use mathlib.Core.List.{List}
-use Prim.Native.Nat.{ℕ}
-use native.Mathlib.Omega.{arith}
+use Prim.Native.Nat.{ℕ, _≤_}
+use lib.ListN.{length}
 use Rattle.expr.specs.Answer.{Answer, done, refused, _>>=_}
-use Rattle.expr.proofs.Answer.{refused-not}
-use Rattle.chart.specs.Chart.{Chart}
+use Rattle.expr.proofs.Answer.{then-at, refused-not}
+use Rattle.chart.specs.Chart.{Chart, countsOf, readChart}
+use Rattle.chart.proofs.Ranges.{counts-of-at, headed-long}
 use Rattle.chart.specs.Rules.{chartOf}
 use Rattle.chart.specs.Machine.{start, wait, startOf, waitOf}
 use Rattle.chart.specs.Ready.{verdict}
@@ -37,3 +38,11 @@ module _ (file : List ℕ) where
   pub wait-passed : (σ : Configuration) (d : ℕ) {c : Chart} → chartOf file ≡ done c → waitOf file σ d ≡ wait c σ d
   unfolding waitOf _>>=_
   wait-passed σ d h = rw h
+
+-- a file that holds a chart has a header
+pub chart-long : (file : List ℕ) {c : Chart} → chartOf file ≡ done c → 11 ≤ length file
+unfolding chartOf readChart
+chart-long file h =
+    let r = then-at (readChart file) _ h in
+    let s = then-at (countsOf file) _ (r .1) in
+    headed-long file (counts-of-at file (s .1) .0)

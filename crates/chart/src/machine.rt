@@ -3,7 +3,7 @@ ghost use mathlib.Core.Path.{_≡_};
 ghost use Prim.Native.Nat.{_<_};
 ghost use Rattle.chart.specs.Chart.{Chart};
 ghost use Rattle.chart.specs.Layout.{Stated};
-ghost use Rattle.chart.specs.Machine.{boundsKept, isConfiguration, wait, startOf};
+ghost use Rattle.chart.specs.Machine.{boundsKept, isConfiguration, wait, startOf, waitOf};
 ghost use Rattle.chart.specs.Outcomes.{outcomeOf, zeroConfiguration, boundKept, Grown};
 ghost use Rattle.chart.specs.declared.configuration.Configuration.{Configuration as Given};
 ghost use Rattle.expr.specs.Answer.{refused};
@@ -80,7 +80,7 @@ fn refuse(k: u8, given: Configuration) -> Outcome
 }
 
 // So many ticks later.
-pub fn wait_checked(
+fn wait_checked(
     rest: &[u8],
     counts: Counts,
     tree: Tree,
@@ -148,4 +148,21 @@ pub fn start(file: &[u8]) -> Outcome
             clocks: [0; 8],
         },
     }
+}
+
+// So many ticks later, for a file.
+pub fn wait(file: &[u8], given: Configuration, ticks: u32) -> Outcome
+    ensures { λ r. ⌜ r ≡ outcomeOf given (waitOf (now (file .entry)) given ticks) ⌝ }
+{
+    let f = checked(file);
+    let verdict = f.verdict;
+    let Checked::Passed = verdict else {
+        return Outcome {
+            answer: verdict,
+            configuration: given,
+        };
+    };
+    let counts = f.counts;
+    let tree = f.tree;
+    wait_checked(&file[3..file.len()], counts, tree, given, ticks)
 }
