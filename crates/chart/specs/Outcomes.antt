@@ -17,7 +17,6 @@ use Rattle.chart.specs.declared.header.Counts.{Counts}
 use Rattle.chart.specs.declared.table.Tree.{Tree}
 use Rattle.chart.specs.declared.configuration.Configuration.{Configuration}
 use Rattle.chart.specs.declared.machine.Outcome.{Outcome}
-use Rattle.chart.specs.declared.rule.Checked.{Checked}
 use Rattle.chart.specs.declared.rule.Checked.the-variants as Ck
 
 -- a refused call leaves the configuration given

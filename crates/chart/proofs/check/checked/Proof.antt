@@ -9,7 +9,7 @@ use Rattle.chart.proofs.Files.{header-refused, header-passed, verdict-r
 use Rattle.chart.proofs.Ranges.{counts-of-at}
 use Rattle.expr.specs.Answer.{done}
 use Rattle.expr.specs.Places.{onward}
-use Rattle.chart.specs.Chart.{Chart, countsOf}
+use Rattle.chart.specs.Chart.{countsOf}
 use Prim.Native.Nat.{ℕ, _≤_}
 use mathlib.Core.List.{List}
 use lib.ListN.{length}

@@ -1,4 +1,4 @@
-use mathlib.Core.Path.{refl, sym, ap, _∙_}
+use mathlib.Core.Path.{sym, ap, _∙_}
 use Rattle.expr.specs.Places.{reached, reachedFault}
 use Rattle.expr.proofs.Places.{answered}
 use Rattle.expr.proofs.Reading.{no-answer, mapped-fault}

@@ -1,4 +1,3 @@
-use mathlib.Core.Path.{sym, ap, _∙_}
 use Rattle.expr.proofs.Places.{answered}
 use Rattle.chart.specs.Answers.{checkedOf}
 use Rattle.chart.specs.Machine.{start}

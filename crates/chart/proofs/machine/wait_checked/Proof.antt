@@ -1,9 +1,7 @@
 use Prim.Native.Nat.{_≤_, _<_}
-use mathlib.Core.Path.{_≡_, refl, sym, _∙_}
-use mathlib.Core.Bool.{true, false}
+use mathlib.Core.Path.{refl, sym, _∙_}
 use native.Mathlib.Omega.{arith}
 use borrow.Author.Tests.{not-true, not-false, lt-leb, le-leb}
-use lib.Dec.{leb}
 use Rattle.expr.specs.Answer.{unless}
 use Rattle.expr.specs.Lists.{all}
 use Rattle.chart.specs.Chart.{stateAt, states}
