@@ -1,5 +1,5 @@
 -- The loops of the check over the transitions of a chart.
-use mathlib.Core.Path.{_≡_, refl, sym, ap, _∙_}
+use mathlib.Core.Path.{_≡_, refl, ap}
 use mathlib.Core.Bool.{Bool, true, false, not, Bool·beq}
 use mathlib.Core.List.{List, [], _∷_}
 use Prim.Native.Nat.{ℕ, _+_, _≤_, _<_}
@@ -9,7 +9,7 @@ use lib.ListN.{length, drop, drop-of-length-le}
 use Rattle.expr.specs.Lists.{all, below}
 use Rattle.expr.proofs.Bools.{clash}
 use Rattle.expr.proofs.Lists.{drop-next, all-at}
-use Rattle.chart.specs.Chart.{Chart, transitionAt, home, basic, parentOf}
+use Rattle.chart.specs.Chart.{Chart, transitionAt, home}
 use Rattle.chart.specs.Rules.{siblings, apart}
 use Rattle.chart.specs.Laid.{noTransition, Laid, apartFrom}
 use Rattle.chart.specs.declared.header.Counts.{Counts}

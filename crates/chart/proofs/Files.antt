@@ -13,11 +13,11 @@ use Rattle.expr.specs.Reading.{Reader, got, fault, length-fault, yield, next, _
 use Rattle.expr.specs.Places.{onward, faultOf}
 use Rattle.expr.specs.declared.field.Fault.{Fault}
 use Rattle.expr.specs.declared.field.Fault.the-variants as Fl
-use Rattle.expr.proofs.Answer.{unless-at, then-at as then-at-answer, refused-not, done-injective}
+use Rattle.expr.proofs.Answer.{unless-at, then-at as then-at-answer, done-injective}
 use Rattle.expr.proofs.Reading.{got-rest, bind-at, then-at, yield-at, many-at, mapped-got, mapped-at, fault-at}
 use Rattle.expr.proofs.Places.{bind-got, bind-fault, end-none, end-some, onward-onward, part-onward, length-onward}
 use Rattle.chart.specs.Chart.{Chart, State, Transition, state, records, numbered, headed, inRange, countsOf, readChart}
-use Rattle.chart.specs.Rules.{parents, entryMarks, siblings, stateRules, transitionRules, keepsRules, chartOf}
+use Rattle.chart.specs.Rules.{parents, siblings, stateRules, transitionRules, keepsRules, chartOf}
 use Rattle.chart.specs.Layout.{transitionBy, once}
 use Rattle.chart.specs.Laid.{Placed, Laid}
 use Rattle.chart.specs.Table.{Tabled}

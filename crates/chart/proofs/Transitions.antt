@@ -9,11 +9,11 @@ use lib.Dec.{leb}
 use lib.ListN.{length, getD, set, take, drop, take-append-drop, List·getD-append, length-set}
 use lib.Seq.{getD-set-same, getD-set-other, getD-append-seam}
 use Rattle.expr.specs.Lists.{all}
-use Rattle.expr.specs.Reading.{Fault, Read, got, fault, Reader, yield, next, _>>=_, byte, byte2, such, many, end, framed, whole, recorded, mapped}
-use Rattle.expr.specs.Guard.{Limits, Guard, limits, relation, clock, ticks, dataGuard, clockGuard, differenceGuard, guard, update}
+use Rattle.expr.specs.Reading.{Fault, Read, got, fault, Reader, next, _>>=_, byte, byte2, such, many, end, framed, whole, recorded, mapped}
+use Rattle.expr.specs.Guard.{Limits, limits, relation, clock, ticks, dataGuard, clockGuard, differenceGuard, guard, update}
 use Rattle.expr.specs.Label.{Label, body, label}
 use Rattle.expr.specs.Places.{onward}
-use Rattle.expr.proofs.Reading.{no-answer, got-value, next-at, bind-at, such-at, yield-at, mapped-got, mapped-fault, mapped-at, fault-at, mapped-bind}
+use Rattle.expr.proofs.Reading.{no-answer, got-value, next-at, bind-at, such-at, yield-at, mapped-got, mapped-at, fault-at, mapped-bind}
 use Rattle.expr.proofs.Places.{length-onward, onward-onward}
 use Rattle.expr.proofs.InFront.{InFront, field-at, yield-front, bind-front, such-front, many-front, byte-front, byte4-front}
 use Rattle.expr.proofs.Sizes.{byte-takes, byte2-takes, onto, byte-value}
@@ -22,7 +22,7 @@ use Rattle.expr.proofs.Lists.{all-more}
 use Rattle.expr.proofs.Many.{Going, going-none, going-more, going-stop, going-all}
 use Rattle.chart.specs.Chart.{Chart, Transition, transition, transitionAt}
 use Rattle.chart.specs.Layout.{transitionBy}
-use Rattle.chart.specs.Laid.{noTransition, Placed, Laid}
+use Rattle.chart.specs.Laid.{Laid}
 use Rattle.chart.specs.declared.header.Counts.{Counts}
 
 -- a record whose content is looked at as f has it

@@ -4,14 +4,14 @@ use mathlib.Core.Bool.{Bool, true}
 use mathlib.Core.List.{List}
 use Prim.Native.Nat.{ℕ, _+_, _*_, _<_}
 use lib.ListN.{length}
-use Rattle.expr.specs.Reading.{Reader, got, byte, byte2, recorded}
+use Rattle.expr.specs.Reading.{Reader, got, byte, recorded}
 use Rattle.expr.specs.Guard.{limits}
 use Rattle.expr.specs.Label.{assignsOnce}
 use Rattle.expr.specs.declared.field.Fault.{Fault}
 use Rattle.expr.specs.declared.field.Reached.{Reached}
 use Rattle.expr.specs.declared.field.Reached.the-variants as Rd
 use Rattle.expr.specs.Places.{onward}
-use Rattle.chart.specs.Chart.{Chart, Transition, state, stateAt, transition, transitionAt, inRange}
+use Rattle.chart.specs.Chart.{Chart, Transition, state, stateAt, transition, inRange}
 use Rattle.chart.specs.declared.header.Counts.{Counts}
 
 -- the bytes of a state's record, its length byte included

@@ -8,7 +8,7 @@ ghost use Rattle.chart.specs.Rules.{parents, siblings, exits, entries, a
 ghost use Rattle.chart.specs.Answers.{checkedOf};
 ghost use Rattle.chart.specs.Layout.{Stated, once};
 ghost use Rattle.chart.specs.Laid.{Laid, apartFrom};
-ghost use Rattle.chart.specs.Table.{Rooted, Tabled, Begun};
+ghost use Rattle.chart.specs.Table.{Rooted, Tabled};
 use crate::header::Counts;
 use crate::rule::Checked;
 use crate::state::entries_of;

@@ -9,7 +9,7 @@ use Rattle.chart.proofs.Files.{header-refused, header-passed, verdict-r
 use Rattle.chart.proofs.Ranges.{counts-of-at}
 use Rattle.expr.specs.Answer.{done}
 use Rattle.expr.specs.Places.{onward}
-use Rattle.chart.specs.Chart.{Chart, countsOf}
+use Rattle.chart.specs.Chart.{countsOf}
 use Prim.Native.Nat.{ℕ, _≤_}
 use mathlib.Core.List.{List}
 use lib.ListN.{length}
@@ -58,9 +58,10 @@ returns-2 : tie.Need-returns-2
 returns-2 c = let z = header-passed _ (counted (c .before .before)) in
     let e = c .checked-records .ensures in
     let p = part-onward (c .before .before .before .before .before .before .before .args .file .now) 3 in
-    let n = c .before .before .before .h .given .0 .0 in
-    (e .0 ∙ ap (λ (l : List ℕ). verdict (chartFrom n (onward l 8))) p ∙ ap verdict (sym z),
-    λ d q. subst (λ (l : List ℕ). Ready l (c .checked-records .result .counts) (c .checked-records .result .offsets) (c .checked-records .result .tree) d) p (e .1 d (ap (λ (l : List ℕ). chartFrom n (onward l 8)) p ∙ sym z ∙ q)))
+    let n = c .before .before .before .h .given .0 .0 in (
+      e .0 ∙ ap (λ (l : List ℕ). verdict (chartFrom n (onward l 8))) p ∙ ap verdict (sym z),
+      λ d q. subst (λ (l : List ℕ). Ready l (c .checked-records .result .counts) (c .checked-records .result .offsets) (c .checked-records .result .tree) d) p (e .1 d (ap (λ (l : List ℕ). chartFrom n (onward l 8)) p ∙ sym z ∙ q)),
+    )
 
 pub checked-spec : {M : Type 1} → statement M
 checked-spec =

@@ -1,4 +1,4 @@
-use mathlib.Core.Path.{refl, sym, ap, _∙_}
+use mathlib.Core.Path.{sym, ap, _∙_}
 use Rattle.expr.specs.Places.{reached, reachedFault}
 use Rattle.expr.proofs.Places.{answered}
 use Rattle.expr.proofs.Reading.{no-answer, mapped-fault}
@@ -50,9 +50,10 @@ returns-3 c = let t = c .before .before .before .before .before .read-transition
 
 returns-4 : tie.Need-returns-4
 returns-4 c = let t = c .before .before .before .before .read-transitions in
-    let h = answered (reached _ tt) (c .before .before .before .before .before .before .before .before .read-states .ensures) (c .before .before .before .before .before .before .s .given .1) in
-    (ap (reached _ (t .result .once)) (c .before .before .q .given .1) ∙ sym (records-whole _ _ _ h _ (answered (reached _ (t .result .once)) (t .ensures .0) (c .before .before .q .given .1)) (c .if1 .left)),
-    λ k u l r. records-laid _ _ _ h (c .before .before .before .before .before .before .before .before .before .before .pre) _ (λ ts v e. t .ensures .1 ts v l e) r)
+    let h = answered (reached _ tt) (c .before .before .before .before .before .before .before .before .read-states .ensures) (c .before .before .before .before .before .before .s .given .1) in (
+      ap (reached _ (t .result .once)) (c .before .before .q .given .1) ∙ sym (records-whole _ _ _ h _ (answered (reached _ (t .result .once)) (t .ensures .0) (c .before .before .q .given .1)) (c .if1 .left)),
+      λ k u l r. records-laid _ _ _ h (c .before .before .before .before .before .before .before .before .before .before .pre) _ (λ ts v e. t .ensures .1 ts v l e) r,
+    )
 
 pub read-records-spec : {M : Type 1} → statement M
 read-records-spec =

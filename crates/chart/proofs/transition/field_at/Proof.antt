@@ -1,6 +1,3 @@
-use mathlib.Core.Path.{ap, _∙_}
-use Prim.Native.Nat.{ℕ, _+_}
-use lib.ListN.{getD}
 use borrow.Author.Needs.{needs}
 use Rattle.chart.proofs.transition.field_at.Statement.{statement}
 use Rattle.chart.proofs.transition.field_at.Tie as tie

@@ -2,8 +2,6 @@ use mathlib.Core.Path.{refl, sym, _∙_}
 use native.Mathlib.Omega.{arith}
 use borrow.Author.Needs.{needs}
 use Prim.Native.Nat.{_-_}
-use lib.ListN.{length}
-use Rattle.expr.specs.Lists.{all}
 use Rattle.expr.specs.Reading.{byte2, recorded}
 use Rattle.expr.specs.Places.{onward, reached}
 use Rattle.expr.proofs.Places.{answered}

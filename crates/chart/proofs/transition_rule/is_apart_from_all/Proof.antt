@@ -4,11 +4,11 @@ use borrow.Author.Tests.{not-true, not-false}
 use native.Mathlib.Omega.{arith}
 use borrow.Author.Needs.{needs}
 use Prim.Native.Nat.{_-_, _<_}
-use lib.ListN.{drop, length}
+use lib.ListN.{drop}
 use Rattle.expr.specs.Lists.{all, below}
 use Rattle.expr.proofs.Lists.{all-next, all-stop}
 use Rattle.chart.specs.Chart.{Chart}
-use Rattle.chart.specs.Rules.{siblings, apart}
+use Rattle.chart.specs.Rules.{siblings}
 use Rattle.chart.specs.Laid.{Laid, apartFrom}
 use Rattle.chart.specs.Table.{Rooted}
 use Rattle.chart.proofs.Tables.{below-next, below-end}

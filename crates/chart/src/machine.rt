@@ -1,0 +1,168 @@
+// The chart machine: start and wait.
+ghost use mathlib.Core.Path.{_≡_};
+ghost use Prim.Native.Nat.{_<_};
+ghost use Rattle.chart.specs.Chart.{Chart};
+ghost use Rattle.chart.specs.Layout.{Stated};
+ghost use Rattle.chart.specs.Machine.{boundsKept, isConfiguration, wait, startOf, waitOf};
+ghost use Rattle.chart.specs.Outcomes.{outcomeOf, zeroConfiguration, boundKept, Grown};
+ghost use Rattle.chart.specs.declared.configuration.Configuration.{Configuration as Given};
+ghost use Rattle.expr.specs.Answer.{refused};
+use crate::activity::is_tree;
+use crate::check::checked;
+use crate::configuration::Configuration;
+use crate::entry::start_active;
+use crate::header::Counts;
+use crate::rule::Checked;
+use crate::state::bounds_of;
+use crate::table::Tree;
+use crate::table::is_in;
+
+// Passed, with the next configuration; or refused, with the one given.
+pub struct Outcome {
+    pub answer: Checked,
+    pub configuration: Configuration,
+}
+
+// Whether the state's bounds are kept, if it is active.
+fn bound_kept(rest: &[u8], counts: Counts, active: &[bool], clocks: [u32; 8], s: u8) -> bool
+    ensures { λ r. ⌜ ((c : Chart) (σ : Given) → Stated (now (rest .entry)) counts c → σ .active ≡ now (active .entry) → σ .clocks ≡ clocks → s < counts .states → r ≡ boundKept c σ s) ⌝ }
+{
+    if !is_in(active, s as usize) {
+        return true;
+    }
+    let bounds = bounds_of(rest, counts, s);
+    expr::clock::keeps(bounds, clocks)
+}
+
+// Whether the bounds of all active states are kept.
+fn bounds_kept(rest: &[u8], counts: Counts, active: [bool; 48], clocks: [u32; 8]) -> bool
+    ensures { λ r. ⌜ ((c : Chart) (σ : Given) → Stated (now (rest .entry)) counts c → σ .active ≡ active → σ .clocks ≡ clocks → r ≡ boundsKept c σ) ⌝ }
+{
+    let mut s = 0;
+    while s < counts.states {
+        if !bound_kept(rest, counts, &active, clocks, s) {
+            return false;
+        }
+        s += 1;
+    }
+    true
+}
+
+// 17
+fn is_configuration(rest: &[u8], counts: Counts, tree: Tree, given: Configuration) -> bool
+    ensures { λ r. ⌜ ((c : Chart) → Grown (now (rest .entry)) counts tree c → r ≡ isConfiguration c given) ⌝ }
+{
+    let active = given.active;
+    let variables = given.variables;
+    let clocks = given.clocks;
+    if !is_tree(tree, active) {
+        return false;
+    }
+    if !expr::clock::zeros_past(counts.variables as usize, variables) {
+        return false;
+    }
+    if !expr::clock::in_limit(counts.clocks as usize, clocks) {
+        return false;
+    }
+    if !expr::clock::zero_past(counts.clocks as usize, clocks) {
+        return false;
+    }
+    bounds_kept(rest, counts, active, clocks)
+}
+
+fn refuse(k: u8, given: Configuration) -> Outcome
+    ensures { λ r. ⌜ r ≡ outcomeOf given (refused k) ⌝ }
+{
+    Outcome {
+        answer: Checked::Refused(k),
+        configuration: given,
+    }
+}
+
+// So many ticks later.
+fn wait_checked(
+    rest: &[u8],
+    counts: Counts,
+    tree: Tree,
+    given: Configuration,
+    ticks: u32,
+) -> Outcome
+    ensures { λ r. ⌜ ((c : Chart) → Grown (now (rest .entry)) counts tree c → r ≡ outcomeOf given (wait c given ticks)) ⌝ }
+{
+    if !is_configuration(rest, counts, tree, given) {
+        return refuse(17, given);
+    }
+    if ticks == 0 {
+        return refuse(22, given);
+    }
+    let active = given.active;
+    let variables = given.variables;
+    let clocks = given.clocks;
+    let delayed = expr::clock::later(counts.clocks as usize, ticks, clocks);
+    let within = delayed.within;
+    if !within {
+        return refuse(22, given);
+    }
+    let after = delayed.clocks;
+    if !bounds_kept(rest, counts, active, after) {
+        return refuse(21, given);
+    }
+    Outcome {
+        answer: Checked::Passed,
+        configuration: Configuration {
+            active,
+            variables,
+            clocks: after,
+        },
+    }
+}
+
+fn zero_configuration() -> Configuration
+    ensures { λ r. ⌜ r ≡ zeroConfiguration ⌝ }
+{
+    Configuration {
+        active: [false; 48],
+        variables: [0; 16],
+        clocks: [0; 8],
+    }
+}
+
+// The configuration that a chart starts in.
+pub fn start(file: &[u8]) -> Outcome
+    ensures { λ r. ⌜ r ≡ outcomeOf zeroConfiguration (startOf (now (file .entry))) ⌝ }
+{
+    let f = checked(file);
+    let verdict = f.verdict;
+    let Checked::Passed = verdict else {
+        return Outcome {
+            answer: verdict,
+            configuration: zero_configuration(),
+        };
+    };
+    let active = start_active(f.tree);
+    Outcome {
+        answer: Checked::Passed,
+        configuration: Configuration {
+            active,
+            variables: [0; 16],
+            clocks: [0; 8],
+        },
+    }
+}
+
+// So many ticks later, for a file.
+pub fn wait(file: &[u8], given: Configuration, ticks: u32) -> Outcome
+    ensures { λ r. ⌜ r ≡ outcomeOf given (waitOf (now (file .entry)) given ticks) ⌝ }
+{
+    let f = checked(file);
+    let verdict = f.verdict;
+    let Checked::Passed = verdict else {
+        return Outcome {
+            answer: verdict,
+            configuration: given,
+        };
+    };
+    let counts = f.counts;
+    let tree = f.tree;
+    wait_checked(&file[3..file.len()], counts, tree, given, ticks)
+}
