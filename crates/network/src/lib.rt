@@ -1,4 +1,5 @@
 // The network machine.
+pub mod active;
 pub mod check;
 pub mod configuration;
 pub mod edge;
