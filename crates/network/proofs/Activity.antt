@@ -1,13 +1,15 @@
 -- Which edges are active, by what the code has of them.
 use mathlib.Core.Path.{_≡_, sym, ap, ap₂, _∙_}
 use mathlib.Core.Bool.{Bool, true, Bool·beq, _&&_}
-use mathlib.Core.List.{List}
+use mathlib.Core.List.{List, _∷_, map}
 use Prim.Native.Nat.{ℕ, _<_}
 use borrow.Author.Tests.{ltb-true}
 use lib.Dec.{ltb, eqb}
 use lib.ListN.{length, getD}
 use Rattle.expr.specs.Lists.{all, has, implies}
-use Rattle.expr.specs.Label.{guardsHold}
+use Rattle.expr.specs.Label.{Label, guardsHold}
+use Rattle.expr.specs.Clocks.{reset}
+use Rattle.expr.specs.Moves.{clocksAfter}
 use Rattle.expr.specs.Guard.{holds}
 use Rattle.expr.proofs.Lists.{all-at, getD-mem}
 use Rattle.network.specs.Network.{Edge, Network, ownerOf, locationAt}
@@ -32,3 +34,8 @@ module _ {k : Counts} {s : List ℕ} {e : code.Edge} {d : Edge} (K : Kept k s e 
       → (eqb p (e .source) && (x && y)) ≡ activeEdge n c d
   unfolding activeEdge ownerOf guardsHold
   active-kept n c f g h j = ap₂ _&&_ (ap (λ (p : ℕ). eqb p (e .source)) (g ∙ ap (place c) f) ∙ ap (λ (z : ℕ). eqb (place c (locationAt n z .automaton)) z) (K .source)) (ap₂ _&&_ h j)
+
+-- one more edge's resets
+pub clocks-next : {l rest : List ℕ} {m : ℕ} (f : ℕ → Label) (cs : List ℕ) → l ≡ m ∷ rest → clocksAfter (map f l) cs ≡ clocksAfter (map f rest) (reset (f m .resets) cs)
+unfolding clocksAfter
+clocks-next f cs e = rw e

@@ -62,7 +62,13 @@ pub fn is_active(rest: &[u8], counts: Counts, c: Configuration, e: Edge) -> bool
 }
 
 // Whether each edge of a list is, which has numbers of edges only.
-pub fn all_active(rest: &[u8], counts: Counts, offsets: &[u32; 1024], c: Configuration, list: &[u16]) -> bool
+pub fn all_active(
+    rest: &[u8],
+    counts: Counts,
+    offsets: &[u32; 1024],
+    c: Configuration,
+    list: &[u16],
+) -> bool
     requires { ⌜ inRange counts ≡ true ⌝ }
     ensures { λ r. ⌜ ((n : Network) → Laid (now (rest .entry)) counts (now (offsets .entry)) n → all (λ m. ltb m (counts .edges)) (now (list .entry)) ≡ true → r ≡ all (λ m. activeEdge n c (edgeAt n m)) (now (list .entry))) ⌝ }
 {
