@@ -1,14 +1,13 @@
 -- What the check of a file finds, part by part.
-use mathlib.Core.Path.{_≡_, refl, sym, ap, ap₂, _∙_, subst}
-use mathlib.Core.Bool.{Bool, true, false, _&&_}
+use mathlib.Core.Path.{_≡_, refl, sym, ap, _∙_, subst}
+use mathlib.Core.Bool.{Bool, true, false}
 use mathlib.Core.List.{List}
-use Prim.Native.Nat.{ℕ, _+_, _-_, _≤_, _<_, _^_}
+use Prim.Native.Nat.{ℕ, _-_, _≤_, _<_, _^_}
 use native.Mathlib.Omega.{arith}
 use lib.ListN.{length, take, drop}
 use Rattle.expr.specs.Lists.{all}
 use Rattle.expr.specs.Label.{assignsOnce}
-use Rattle.expr.specs.Reading as reading
-use Rattle.expr.specs.Reading.{Read, got, fault, length-fault, yield, _>>_, byte, byte2, many, end, recorded, skipped, mapped}
+use Rattle.expr.specs.Reading.{Read, got, fault, yield, _>>_, byte, byte2, many, recorded, skipped, mapped}
 use Rattle.expr.specs.Places.{onward, faultOf}
 use Rattle.expr.specs.Answer.{Answer, done, refused, unless, _>>=_}
 use Rattle.expr.specs.declared.field.Fault.{Fault}
@@ -18,7 +17,7 @@ use Rattle.expr.proofs.Reading.{mapped-at, fault-at, many-at}
 use Rattle.network.specs.Network.{Location, Edge, Network, location, inRange, records, numbered, sound, countsOf, readNetwork, networkOf}
 use Rattle.network.specs.Machine.{start, step, wait, startOf, stepOf, waitOf}
 use Rattle.network.specs.Edges.{edgeIn, EdgesAt}
-use Rattle.network.specs.Layout.{Located, Laid}
+use Rattle.network.specs.Layout.{Laid}
 use Rattle.network.specs.Checks.{faultNumber, soundOf, CheckedAs, FindingFits}
 use Rattle.network.specs.Answers.{HeaderFits}
 use Rattle.network.specs.declared.header.Counts.{Counts}

@@ -151,7 +151,7 @@ module _ (k : Counts) (rest : List ℕ) (at from to : ℕ) (h : framed byte2 (on
       let e = w .0 in
       let x = recorded-got byte2 (edgeIn k) (onward rest at) rest part to (to - from) e (Rd.At used) h long (sym (w .1)) in
       let bytes : body (limits (k .clocks) (k .variables)) (onward part (c .label .body)) ≡ got (e .label .body) (onward part used) =
-          ap (λ (y : EdgeHeading). body (limits (k .clocks) (k .variables)) (y .label .bytes)) (sym (w .2)) ∙ edge-body (k .automata) (k .locations) (limits (k .clocks) (k .variables)) (k .rendezvous + k .broadcasts) (onward part 0) (w .1) in
+      ap (λ (y : EdgeHeading). body (limits (k .clocks) (k .variables)) (y .label .bytes)) (sym (w .2)) ∙ edge-body (k .automata) (k .locations) (limits (k .clocks) (k .variables)) (k .rendezvous + k .broadcasts) (onward part 0) (w .1) in
       let there = part-read (body (limits (k .clocks) (k .variables))) (body-front (limits (k .clocks) (k .variables))) rest from (to - from) (c .label .body) bytes in
       let place = p (omega (arith, long, body-some (limits (k .clocks) (k .variables)) part (c .label .body) bytes)) in (
         e,

@@ -6,3 +6,4 @@ pub mod Moving
 pub mod Edges
 pub mod Offsets
 pub mod Checking
+pub mod Activity

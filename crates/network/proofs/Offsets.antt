@@ -2,17 +2,17 @@
 use mathlib.Core.Path.{_≡_, refl, sym, ap, ap₂, _∙_, subst}
 use mathlib.Core.Bool.{Bool, true, false, _&&_, _||_, or-false, and-false}
 use mathlib.Core.List.{List, [], _∷_}
-use Prim.Native.Nat.{ℕ, zero, suc, _+_, _-_, _≤_, _<_}
+use Prim.Native.Nat.{ℕ, _+_, _-_, _≤_, _<_}
 use native.Mathlib.Omega.{arith}
 use borrow.Author.Tests.{eq-eqb, ne-eqb, le-ltb}
 use lib.Dec.{ltb, eqb}
 use lib.ListN.{length, getD, drop, length-drop, drop-of-length-le}
-use Rattle.expr.specs.Reading.{Read, got, byte2, recorded}
-use Rattle.expr.specs.Places.{onward, faultOf}
+use Rattle.expr.specs.Reading.{got, byte2, recorded}
+use Rattle.expr.specs.Places.{onward}
 use Rattle.expr.specs.declared.field.Fault.{Fault}
 use Rattle.expr.proofs.Reading.{no-answer, got-value}
 use Rattle.expr.proofs.Lists.{drop-next}
-use Rattle.network.specs.Network.{Edge, Network, locationAt, ownerOf, inRange, key, lexLess, edgesAscend}
+use Rattle.network.specs.Network.{Edge, Network, locationAt, ownerOf, key, lexLess, edgesAscend}
 use Rattle.network.specs.Machine.{edgeAt}
 use Rattle.network.specs.Edges.{edgeIn, EdgeHere, Kept}
 use Rattle.network.specs.Layout.{Laid, keyOf}

@@ -1,4 +1,6 @@
 // The network machine.
+pub mod active;
+pub mod after;
 pub mod check;
 pub mod configuration;
 pub mod edge;
