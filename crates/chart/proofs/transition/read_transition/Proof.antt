@@ -103,7 +103,7 @@ returns-4 c = rw (c .no-transition4 .ensures, c .before .byte-fault4 .ensures �
     ∙ bind-fault _ _ _ (answered (byteOf _) (c .before .before .before .before .read-byte-or-none2 .ensures) (c .before .before .enum-told4 .given .1)))))
 
 read-label-requires : tie.Need-read-label-requires
-read-label-requires c κs = counts-range _ (c .before .before .before .before .before .before .before .before .before .before .before .before .before .before .before .before .before .before .pre) .variables-few
+read-label-requires c κs = search needs
 
 enum-known-l : tie.Need-enum-known-l
 enum-known-l c = search needs

@@ -13,7 +13,7 @@ channels-of-requires : tie.Need-channels-of-requires
 channels-of-requires c κs = search needs
 
 read-label-requires : tie.Need-read-label-requires
-read-label-requires c κs = few-variables (c .before .before .args .counts) (c .before .before .pre)
+read-label-requires c κs = search needs
 
 returns : tie.Need-returns
 returns c = let a = c .before .before .before .args in
