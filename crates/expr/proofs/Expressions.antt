@@ -1,20 +1,20 @@
 -- How the reader of expressions answers, by the code and by what it answers on the arguments. What is read is taken as
 -- some f has it, so that the same laws serve where only the end is looked at and where the value is.
 use mathlib.Core.Path.{_≡_, refl, sym, ap, _∙_}
+use mathlib.Core.Bool.{true}
 use mathlib.Core.List.{List}
 use mathlib.Core.Logic.{_≢_}
-use Prim.Native.Nat.{ℕ, zero, suc, _-_, _≤_, _<_, _^_}
+use Prim.Native.Nat.{ℕ, zero, suc, _-_, _≤_, _<_}
 use native.Mathlib.Omega.{arith}
 use native.Mathlib.Numerals.{sub-one}
-use borrow.Author.Tests.{lt-ltb, le-ltb, leb-true, ltb-true, eq-eqb, ne-eqb}
-use lib.Dec.{leb, ltb}
+use borrow.Author.Tests.{lt-ltb, le-ltb, eq-eqb, ne-eqb}
+use lib.Dec.{ltb}
 use lib.IntN.{ℤ}
 use lib.ListN.{length, getD}
 use Rattle.expr.specs.Reading.{length-fault, range-fault, Read, got, fault, Reader, yield, next, _>>=_, byte, byte4, such, mapped}
-use Rattle.expr.specs.Integer.{signed, floorDiv, floorMod}
+use Rattle.expr.specs.Integer.{signed, isDivisor, floorDiv, floorMod}
 use Rattle.expr.specs.Expression.{Expr, constant, variable, sum, difference, product, quotient, remainder, Code, constant-code, variable-code, sum-code, difference-code, product-code, quotient-code, remainder-code, codes, divisor, two, by, after, expression, value, combined, divided}
 use Rattle.expr.specs.Places.{onward}
-use Rattle.expr.proofs.Bools.{and-l, and-r}
 use Rattle.expr.proofs.Reading.{such-at, mapped-fault, mapped-yield}
 use Rattle.expr.proofs.InFront.{InFront, yield-front, fault-front, bind-front, such-front, byte-front, byte4-front}
 use Rattle.expr.proofs.Places.{onward-all, byte-some, byte-none, bind-got, bind-fault, such-got, such-not, such-fault}
@@ -86,10 +86,10 @@ pub divided-remainder : {c : ℕ} (x : ℤ) (d : ℕ) → c ≢ 5 → divided c 
 unfolding divided
 divided-remainder {c} x d h = rw (ne-eqb c 5 h)
 
--- a divisor that is read is in its range
-pub divisor-in : (s : List ℕ) {d : ℕ} {t : List ℕ} → divisor s ≡ got d t → (1 ≤ d) × (d < 2 ^ 31)
+-- a divisor that is read is one
+pub divisor-in : (s : List ℕ) {d : ℕ} {t : List ℕ} → divisor s ≡ got d t → isDivisor d ≡ true
 unfolding divisor
-divisor-in s {d} h = let w = such-at byte4 _ s h in (leb-true 1 d (and-l _ _ (w .0)), ltb-true d (2 ^ 31) (and-r (leb 1 d) _ (w .0)))
+divisor-in s h = such-at byte4 _ s h .0
 
 -- an operator's two arguments, one read after the other, and an argument with its divisor
 module _ {A : Type 0} (f : Expr → A) (r : Reader Expr) (s : List ℕ) where

@@ -1,21 +1,22 @@
 -- Laws of signed numbers: how the machine reads them, which results fit 64 bits, the floored quotient and remainder by
 -- sign and magnitude, and the relation that a number stands for.
-use mathlib.Core.Path.{_≡_, refl, ap, ap₂, _∙_}
+use mathlib.Core.Path.{_≡_, refl, sym, ap, ap₂, _∙_}
 use mathlib.Core.Bool.{Bool, true, false, cond}
 use Prim.Native.Nat.{ℕ, zero, suc, _+_, _-_, _*_, _/_, _%_, _^_, _≤_, _<_}
 use native.Mathlib.Omega.{arith}
-use native.Mathlib.Nat.{le-trans, lt-trans, mul-le-mul}
-use lib.Dec.{ltb, lit<}
+use native.Mathlib.Nat.{le-trans, lt-trans, mul-le-mul, mod-eq-of-lt, div-le-self, add-div-right, add-zero}
+use native.Mathlib.Numerals.{add-one}
+use lib.Dec.{leb, ltb, lit<}
 use lib.IntN.{ℤ, pos, negsuc, natAbs, negℤ, subℕ, _+ℤ_, _-ℤ_, _*ℤ_}
 use lib.ListN.{getD}
 use lib.Signed.{mag, ltZ}
-use borrow.Author.Tests.{ltb-true, lt-ltb, le-ltb}
+use borrow.Author.Tests.{leb-true, ltb-true, lt-ltb, le-ltb}
 use mir.Syntax.{Width, w32, w64}
 use mir.Val.{SFits, ofZ, toZ}
-use mir.ValLaws.{toZ-ofZ}
-use Rattle.expr.specs.Integer.{signed, residue, floorDiv, floorMod}
+use mir.ValLaws.{toZ-ofZ, toZ-pos}
+use Rattle.expr.specs.Integer.{signed, residue, wrap, isDivisor, floorDiv, floorMod}
 use Rattle.expr.specs.Guard.{lt, relations}
-use Rattle.expr.proofs.Bools.{clash}
+use Rattle.expr.proofs.Bools.{clash, and-l, and-r, cond-yes}
 
 -- what the machine reads of a number in 32 bits, and of one cast to 64 bits
 pub read-back : (z : ℤ) → mag z < 2 ^ 31 → toZ w32 (ofZ w32 z) ≡ z
@@ -84,6 +85,23 @@ module _ (x y : ℤ) (f : SFits w32 x) (g : SFits w32 y) where
       let m : (mag x + 1) * (mag y + 1) ≤ 2 ^ 31 * 2 ^ 31 = mul-le-mul {n₁ = mag x + 1} {m₁ = mag y + 1} {n₂ = 2 ^ 31} {m₂ = 2 ^ 31} (omega (arith, f .sfits)) (omega (arith, g .sfits)) in
       record { sfits = omega (arith, mag-mul x y) }
 
+-- what the machine reads of a natural number of 32 bits in 64 bits, and of its opposite
+module _ (n : ℕ) (h : n < 2 ^ 32) where
+  pub natural-fits : SFits w64 (pos n)
+  natural-fits = record { sfits = omega arith }
+
+  pub natural-read : toZ w64 n ≡ pos n
+  natural-read = toZ-pos w64 n (omega arith)
+
+  opposite : SFits w64 (pos 0 -ℤ pos n)
+  opposite = record { sfits = omega (arith, mag-add (pos 0) (negℤ (pos n)), mag-neg-pos n) }
+
+  pub opposite-fits : SFits w64 (pos 0 -ℤ toZ w64 n)
+  opposite-fits = rw natural-read opposite
+
+  pub opposite-read : toZ w64 (ofZ w64 (pos 0 -ℤ toZ w64 n)) ≡ pos 0 -ℤ pos n
+  opposite-read = rw natural-read (toZ-ofZ w64 _ opposite)
+
 -- the complement -1 - z: the magnitude of a negative number, and back
 complement-negative : (z : ℤ) → ltZ z (pos 0) ≡ true → negsuc 0 -ℤ z ≡ pos (mag z)
 complement-negative (pos n) e = absurd (omega (arith, ltb-true n 0 e))
@@ -110,12 +128,51 @@ module _ (w : Width) (z : ℤ) (f : SFits w z) where
   pub not-negative-read : ltZ (toZ w (ofZ w z)) (pos 0) ≡ false → toZ w (ofZ w z) ≡ pos (mag z)
   not-negative-read e = toZ-ofZ w z f ∙ not-negative z (rw (toZ-ofZ w z f) at e)
 
--- the floored quotient and remainder, and the low 32 bits, by the sign and the magnitude
-pub quotient-by-sign : (z : ℤ) (d : ℕ) → cond (ltZ z (pos 0)) (negsuc (mag z / d)) (pos (mag z / d)) ≡ floorDiv z d
-unfolding floorDiv
-quotient-by-sign (pos n) d = rw (le-ltb n 0 (omega arith))
-quotient-by-sign (negsuc n) d = refl
+-- a number that fits is what its low 32 bits mean
+wrap-small : (z : ℤ) → mag z < 2 ^ 31 → wrap z ≡ z
+unfolding wrap residue
+wrap-small (pos n) h = rw (mod-eq-of-lt {n = n} {m = 2 ^ 32} (omega arith)) (signed-low n h)
+wrap-small (negsuc n) h = rw (mod-eq-of-lt {n = n} {m = 2 ^ 32} (omega arith)) (signed-high (2 ^ 32 - suc n) (omega arith) ∙ ap negsuc (omega arith))
 
+-- what can divide
+pub divisor-range : (d : ℕ) → isDivisor d ≡ true → (1 ≤ d) × (d < 2 ^ 31)
+divisor-range d h = (leb-true 1 d (and-l _ _ h), ltb-true d (2 ^ 31) (and-r (leb 1 d) _ h))
+
+-- the size of a number, with what is added to round its quotient up, fits 32 bits
+pub size-fits : (z : ℤ) (d : ℕ) {a u : ℕ} → mag z < 2 ^ 31 → isDivisor d ≡ true → a ≡ natAbs z → u ≤ d - 1 → a + u < 2 ^ 32
+size-fits z d h i e l = omega (arith, absolute-le z, divisor-range d i)
+  where
+    absolute-le : (z : ℤ) → natAbs z ≤ mag z + 1
+    absolute-le (pos n) = omega arith
+    absolute-le (negsuc n) = omega arith
+
+-- the floored quotient by the sign and the size: below zero the quotient of the sizes is rounded up
+minus-suc : (k : ℕ) → pos 0 -ℤ pos (suc k) ≡ negsuc k
+minus-suc k = rw (lt-ltb 0 (suc k) (omega arith)) (ap negsuc (omega arith))
+
+rounded-up : (n d : ℕ) → 0 < d → (suc n + (d - 1)) / d ≡ suc (n / d)
+rounded-up n d h =
+    let e : suc n + (d - 1) ≡ n + d = omega arith in
+    ap (λ (k : ℕ). k / d) e ∙ add-div-right n h ∙ add-one (n / d)
+
+module _ (z : ℤ) (d : ℕ) {a u : ℕ} (h : mag z < 2 ^ 31) (i : isDivisor d ≡ true) (e : a ≡ natAbs z) where
+  pub quotient-negative : ltZ z (pos 0) ≡ true → u ≡ d - 1 → wrap (pos 0 -ℤ pos ((a + u) / d)) ≡ cond (isDivisor d) (floorDiv z d) (pos 0)
+  unfolding floorDiv
+  quotient-negative l k = rw (e, k) (go z h l) ∙ sym (cond-yes _ _ i)
+    where
+      go : (z : ℤ) → mag z < 2 ^ 31 → ltZ z (pos 0) ≡ true → wrap (pos 0 -ℤ pos ((natAbs z + (d - 1)) / d)) ≡ floorDiv z d
+      go (pos n) h l = absurd (omega (arith, ltb-true n 0 l))
+      go (negsuc n) h l = rw (rounded-up n d (divisor-range d i .0), minus-suc (n / d)) (wrap-small (negsuc (n / d)) (omega (arith, div-le-self n d)))
+
+  pub quotient-not-negative : ltZ z (pos 0) ≡ false → u ≡ 0 → wrap (pos ((a + u) / d)) ≡ cond (isDivisor d) (floorDiv z d) (pos 0)
+  unfolding floorDiv
+  quotient-not-negative l k = rw (e, k) (go z h l) ∙ sym (cond-yes _ _ i)
+    where
+      go : (z : ℤ) → mag z < 2 ^ 31 → ltZ z (pos 0) ≡ false → wrap (pos ((natAbs z + 0) / d)) ≡ floorDiv z d
+      go (pos n) h l = rw (add-zero n) (wrap-small (pos (n / d)) (omega (arith, div-le-self n d)))
+      go (negsuc n) h l = clash refl l
+
+-- the floored remainder, and the low 32 bits, by the sign and the magnitude
 pub remainder-negative : (z : ℤ) (d : ℕ) → ltZ z (pos 0) ≡ true → pos (d - 1 - mag z % d) ≡ floorMod z d
 unfolding floorMod
 remainder-negative (pos n) d e = absurd (omega (arith, ltb-true n 0 e))

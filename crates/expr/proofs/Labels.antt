@@ -18,6 +18,8 @@ use Rattle.expr.specs.Label.{Label, Body, body, label, targets, distinct
 use Rattle.expr.proofs.Bools.{parts, same, cond-no, or-else, not-no}
 use Rattle.expr.proofs.Lists.{any-more}
 use Rattle.expr.proofs.Places.{bind-got}
+use Rattle.expr.proofs.InFront.{InFront, yield-front, bind-front, many-front, byte-front}
+use Rattle.expr.proofs.Guards.{guard-front, update-front}
 use Rattle.expr.specs.Clocks.{reset, resetFrom}
 use Rattle.expr.specs.Moves.{variablesAfter, clocksAfter}
 use Rattle.expr.proofs.Bits.{has-zero}
@@ -96,6 +98,11 @@ body-parts l s {b} {t} h {g} {a} {u} {v} p q =
     let y = bind-at _ _ (x .1) (x .3) in
     let e = yield-at (y .1) (y .3) in
     (x .1, x .2 ∙ ap (λ (k : Body). got (k .guards) (x .1)) e, y .2 ∙ ap₂ (λ (k : Body) (r : List ℕ). got (k .updates) r) e (yield-rest _ (y .1) (y .3)))
+
+-- a body is read in front, whatever follows it
+pub body-front : (l : Limits) → InFront (body l)
+unfolding body
+body-front l = bind-front _ _ byte-front λ g. bind-front _ _ byte-front λ a. bind-front _ _ (many-front g _ (guard-front l)) λ gs. bind-front _ _ (many-front a _ (update-front l)) λ us. yield-front _
 
 -- a label that was read has the body that its bytes give
 pub label-body : (l : Limits) (channels : ℕ) (s : List ℕ) {b : Label} {t : List ℕ} → label l channels s ≡ got b t → body l (b .bytes) ≡ got (b .body) t

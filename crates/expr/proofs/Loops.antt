@@ -9,6 +9,14 @@ use lib.ListN.{length, getD, take, drop, set, length-set, drop-of-length-le}
 use lib.Seq.{take-all, take-suc, take-suc-set, drop-cons}
 use Rattle.expr.specs.Lists.{all}
 
+-- one more element of a list that has those of `whole` in front
+pub front-more : {A : Type 0} (whole l : List A) (i : ℕ) (d v : A) → take i l ≡ take i whole → i < length l → i < length whole → v ≡ getD whole i d → take (i + 1) (set l i v) ≡ take (i + 1) whole
+front-more whole l i d v f h k e = rw (add-one, take-suc-set l i v h, f, e) (sym (take-suc whole i d k))
+
+-- a list all of whose elements stand in front of another
+pub front-all : {A : Type 0} (whole l : List A) (i k : ℕ) → take i l ≡ take i whole → length whole ≡ k → i ≤ k → k ≤ i → take k l ≡ whole
+front-all whole l i k f e h g = ap (λ (j : ℕ). take j l) (let z : k ≡ i = omega arith in z) ∙ f ∙ take-all i whole (omega arith)
+
 -- l has n elements as `whole` has, and those before i are the same
 pub record Filled {A : Type 0} (n : ℕ) (whole l : List A) (i : ℕ) : Type 0 where
   pub size : length whole ≡ n
@@ -25,7 +33,7 @@ module _ {A : Type 0} (n : ℕ) (whole l : List A) where
         record {
           size = F .size;
           long = length-set l i v ∙ F .long;
-          done = rw (add-one, take-suc-set l i v (omega (arith, F .long)), F .done, e) (sym (take-suc whole i d (omega (arith, F .size))));
+          done = front-more whole l i d v (F .done) (omega (arith, F .long)) (omega (arith, F .size)) e;
         }
 
     pub filled-all : n ≤ i → l ≡ whole

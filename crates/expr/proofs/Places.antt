@@ -20,7 +20,7 @@ use Rattle.expr.specs.declared.field.Frame.{Frame}
 use Rattle.expr.specs.declared.field.Frame.the-variants as Fr
 use Rattle.expr.specs.declared.field.Reached.{Reached}
 use Rattle.expr.specs.declared.field.Reached.the-variants as Rd
-use Rattle.expr.specs.Reading.{Fault, length-fault, range-fault, Read, got, fault, Reader, yield, next, _>>=_, field, byte, byte2, byte4, such, end, framed, whole, recorded, mapped, skipped}
+use Rattle.expr.specs.Reading.{Fault, length-fault, range-fault, Read, got, fault, Reader, yield, next, _>>=_, _>>_, field, byte, byte2, byte4, such, end, framed, whole, recorded, mapped, skipped}
 
 -- a field of n bytes at a place that has so many, and at one that has not
 pub field-some : (n : ℕ) (value : List ℕ → ℕ) (s : List ℕ) (at : ℕ) → n ≤ length s - at → field n value (onward s at) ≡ got (value (onward s at)) (onward s (at + n))
@@ -99,6 +99,15 @@ module _ {A B : Type 0} (r : Reader A) (k : A → Reader B) (s : List ℕ) where
   pub bind-fault : {f : Fault} → r s ≡ fault f → (r >>= k) s ≡ fault f
   unfolding _>>=_ next
   bind-fault h = rw h
+
+-- .. and of two readers, the value of the second
+pub then-got : {A B : Type 0} (r : Reader A) (q : Reader B) (s : List ℕ) {a : A} {t : List ℕ} → r s ≡ got a t → _>>_ r q s ≡ q t
+unfolding _>>_ next
+then-got r q s h = rw h
+
+pub then-fault : {A B : Type 0} (r : Reader A) (q : Reader B) (s : List ℕ) {f : Fault} → r s ≡ fault f → _>>_ r q s ≡ fault f
+unfolding _>>_ next
+then-fault r q s h = rw h
 
 pub next-got : {A B : Type 0} {q : Read A} (k : A → Reader B) {a : A} {t : List ℕ} → q ≡ got a t → next q k ≡ k a t
 unfolding next

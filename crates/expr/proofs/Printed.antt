@@ -8,7 +8,7 @@ use borrow.Author.Tests.{le-leb}
 use lib.ListN.{length, length-append}
 use lib.Seq.{take-append-seam, drop-append-seam}
 use Rattle.expr.specs.Lists.{concat}
-use Rattle.expr.specs.Reading.{got, Reader, yield, next, _>>_, field, byte, byte2, byte4, such, many, end, framed, whole, recorded}
+use Rattle.expr.specs.Reading.{got, Reader, yield, next, field, byte, byte2, byte4, such, many, end, framed, whole, recorded}
 use Rattle.expr.proofs.Places.{bind-got, such-got}
 
 -- a number in front
@@ -31,10 +31,6 @@ byte4-front x y z w s = rw (le-leb 4 (suc (suc (suc (suc (length s))))) (omega a
 pub end-front : end [] ≡ got tt []
 unfolding end
 end-front = refl
-
-pub then-got : {A B : Type 0} (r : Reader A) (q : Reader B) (s : List ℕ) {a : A} {t : List ℕ} → r s ≡ got a t → _>>_ r q s ≡ q t
-unfolding _>>_ next
-then-got r q s h = rw h
 
 -- so many bytes
 pub bytes-front : (xs s : List ℕ) → many (length xs) byte (xs ++ s) ≡ got xs s

@@ -1,20 +1,21 @@
 -- Readers that take a fixed number of bytes: what they leave, and where the parts of a record stand.
-use mathlib.Core.Path.{_≡_, sym, ap, _∙_}
+use mathlib.Core.Path.{_≡_, refl, sym, ap, ap₂, _∙_}
 use mathlib.Core.Bool.{Bool, true, false, cond}
 use mathlib.Core.List.{List, [], _∷_, _++_}
-use Prim.Native.Nat.{ℕ, zero, suc, _+_, _*_}
+use Prim.Native.Nat.{ℕ, zero, suc, _+_, _*_, _<_}
 use native.Mathlib.Omega.{arith}
 use native.Mathlib.Nat.{zero-mul, suc-mul}
 use lib.Dec.{leb}
 use lib.ListN.{length, getD, take, drop, take-append-drop}
+use lib.Seq.{drop-drop}
 use Rattle.expr.specs.Reading.{Fault, got, fault, Reader, yield, _>>=_, field, byte, byte2, byte4, such, many, end, framed, whole, recorded}
 use Rattle.expr.specs.Clocks.{row, isBound}
 use Rattle.expr.specs.Places.{onward, reached}
 use Rattle.expr.specs.declared.field.Reached.{Reached}
 use Rattle.expr.specs.declared.field.Reached.the-variants as Rd
-use Rattle.expr.proofs.Reading.{no-answer, got-value, next-at, bind-at, yield-rest, such-at}
-use Rattle.expr.proofs.Places.{onward-all, onward-onward, getD-here}
-use Rattle.expr.proofs.InFront.{InFront, field-at, yield-front, bind-front, such-front, many-front, byte4-front}
+use Rattle.expr.proofs.Reading.{no-answer, got-value, got-rest, next-at, bind-at, yield-rest, such-at}
+use Rattle.expr.proofs.Places.{length-onward, onward-all, onward-onward, getD-here}
+use Rattle.expr.proofs.InFront.{InFront, field-at, yield-front, bind-front, such-front, many-front, byte-front, byte4-front}
 use Rattle.expr.proofs.Lengths.{end-at}
 use Rattle.expr.proofs.Rows.{bounds}
 
@@ -80,22 +81,60 @@ pub row-front : (n : ℕ) → InFront (row n)
 unfolding row
 row-front n = bind-front (bounds n) _ (many-front n _ (such-front byte4 isBound byte4-front)) (λ bs. yield-front _)
 
--- a record's content, where it stands in the file: it is read after the length
-pub recorded-inside : {A : Type 0} (size : Reader ℕ) (r : Reader A) → InFront r → (s : List ℕ) {a : A} {t : List ℕ} → recorded size r s ≡ got a t → (n : ℕ) × (u : List ℕ) × (size s ≡ got n u) × (r u ≡ got a t)
+-- a record's content is read, whole, in so many bytes after the length
+recorded-cut : {A : Type 0} (size : Reader ℕ) (r : Reader A) (s : List ℕ) {a : A} {t : List ℕ} → recorded size r s ≡ got a t
+    → (n : ℕ) × (u : List ℕ) × (size s ≡ got n u) × (r (take n u) ≡ got a []) × (t ≡ drop n u)
 unfolding recorded framed whole
-recorded-inside {A} size r f s {a} {t} h =
+recorded-cut size r s h =
     let w = bind-at (framed size) _ s h in
     let z = bind-at size _ s (w .2) in
     let x = next-at (r (w .0)) _ (w .3) in
     let e = next-at (end (x .1)) _ (x .3) in
     let p = part (z .0) (z .1) (leb (z .0) (length (z .1))) (z .3) in
-    (z .0, z .1, z .2, joined (z .0) (z .1) (w .0) (w .1) (x .0) (x .1) (p .0) (p .1) (x .2) (end-at (x .1) (e .2)) (e .3))
+    (z .0, z .1, z .2, ap r (sym (p .0)) ∙ x .2 ∙ ap₂ got (got-value (e .3)) (end-at (x .1) (e .2)), sym (got-rest (e .3)) ∙ p .1)
   where
     part : {p v : List ℕ} (n : ℕ) (u : List ℕ) (b : Bool) → cond b (got (take n u) (drop n u)) (fault Fault.length-fault) ≡ got p v → (p ≡ take n u) × (v ≡ drop n u)
     part n u true k = (cc, cc)
     part n u false k = no-answer k
 
-    joined : (n : ℕ) (u p v : List ℕ) (b : A) (q : List ℕ) → p ≡ take n u → v ≡ drop n u → r p ≡ got b q → q ≡ [] → got b v ≡ got a t → r u ≡ got a t
-    joined n u p v b q e g k o l =
-        ap r (sym (take-append-drop n u)) ∙ ap (λ (m : List ℕ). r (m ++ drop n u)) (sym e) ∙ f .alike p (drop n u) k
-        ∙ ap (λ (m : List ℕ). got b (m ++ drop n u)) o ∙ ap (got b) (sym g) ∙ l
+-- .. which stand in the file before what follows
+pub recorded-part : {A : Type 0} (size : Reader ℕ) (r : Reader A) (s : List ℕ) {a : A} {t : List ℕ} → recorded size r s ≡ got a t
+    → (n : ℕ) × (u : List ℕ) × (p : List ℕ) × (v : List ℕ) × (w : List ℕ) × (size s ≡ got n u) × (p ++ v ≡ u) × (r p ≡ got a w)
+recorded-part size r s h = let c = recorded-cut size r s h in (c .0, c .1, take (c .0) (c .1), drop (c .0) (c .1), [], c .2, take-append-drop (c .0) (c .1), c .3)
+
+-- .. so that a reader in front reads it there too
+pub recorded-inside : {A : Type 0} (size : Reader ℕ) (r : Reader A) → InFront r → (s : List ℕ) {a : A} {t : List ℕ} → recorded size r s ≡ got a t → (n : ℕ) × (u : List ℕ) × (size s ≡ got n u) × (r u ≡ got a t)
+recorded-inside size r f s {a} h =
+    let c = recorded-cut size r s h in
+    (c .0, c .1, c .2, ap r (sym (take-append-drop (c .0) (c .1))) ∙ f .alike (take (c .0) (c .1)) (drop (c .0) (c .1)) (c .3) ∙ ap (got a) (sym (c .4)))
+
+-- a record that is read stands before the end
+pub recorded-before : {A : Type 0} (r : Reader A) (s : List ℕ) (at : ℕ) {a : A} {t : List ℕ} → recorded byte2 r (onward s at) ≡ got a t → at < length s
+unfolding byte2
+recorded-before r s at h = let w = recorded-part byte2 r (onward s at) h in omega (arith, field-at 2 _ (onward s at) (w .5) .0, length-onward s at)
+
+plus-one : (at k : ℕ) → at + k + 1 ≡ at + (k + 1)
+plus-one at k = omega arith
+
+-- a byte that is read in front of what follows, and where it stands
+pub byte-here : {B : Type 0} (s v : List ℕ) (at m : ℕ) (test : ℕ → Bool) (k : ℕ → Reader B) (q : List ℕ) {b : B} {w : List ℕ} → q ++ v ≡ onward s (at + m) → (such byte test >>= k) q ≡ got b w
+    → (z : ℕ) × (u : List ℕ) × (getD s (at + m) 0 ≡ z) × (u ++ v ≡ onward s (at + (m + 1))) × (k z u ≡ got b w)
+byte-here s v at m test k q e h =
+    let a = bind-at (such byte test) k q h in
+    let f = onto s (at + m) 1 byte (at + (m + 1)) e byte-takes (plus-one at m) (byte-front .alike q v (such-at byte test q (a .2) .1)) in
+    (a .0, a .1, byte-value s (at + m) (f .0), f .1, a .3)
+
+-- a part of a list, from a place on, and what follows it
+part-front : {A : Type 0} (l : List A) (n b : ℕ) → (zs : List A) × (drop b l ≡ drop b (take n l) ++ zs)
+part-front l n zero = (drop n l, sym (take-append-drop n l))
+part-front [] zero (suc b) = ([], refl)
+part-front [] (suc n) (suc b) = ([], refl)
+part-front (x ∷ l) zero (suc b) = (drop b l, refl)
+part-front (x ∷ l) (suc n) (suc b) = part-front l n b
+
+-- what is read in front of a part is read in the whole
+pub part-read : {A : Type 0} (r : Reader A) → InFront r → (s : List ℕ) (from n b : ℕ) {a : A} {t : List ℕ} → r (onward (take n (drop from s)) b) ≡ got a t → (u : List ℕ) × (r (onward s (from + b)) ≡ got a u)
+unfolding onward
+part-read r f s from n b {a} {t} h =
+    let w = part-front (drop from s) n b in
+    (t ++ w .0, ap r (sym (drop-drop b from s) ∙ w .1) ∙ f .alike _ (w .0) h)

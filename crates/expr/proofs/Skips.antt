@@ -8,22 +8,27 @@ use Rattle.expr.proofs.Reading.{mapped-got, mapped-fault, mapped-at, fa
 use Rattle.expr.proofs.Rows.{bounds}
 use Rattle.expr.proofs.Many.{Going, going-none, going-more, going-stop, going-all}
 
+-- a record whose content is looked at as f has it
+pub mapped-recorded : {A B : Type 0} (f : A → B) (size : Reader ℕ) (r : Reader A) (s : List ℕ) → mapped f (recorded size r s) ≡ recorded size (λ p. mapped f (r p)) s
+unfolding recorded mapped next whole _>>=_
+mapped-recorded {A} {B} f size r s = mapped-bind f (framed size) (whole r) s ∙ go (framed size s)
+  where
+    closed : (t : List ℕ) (a : A) (e : Read (Unit {0})) → mapped f (next e (λ x y. got a t)) ≡ next e (λ x y. got (f a) t)
+    closed t a (got x y) = refl
+    closed t a (fault g) = refl
+
+    used : (t : List ℕ) (q : Read A) → mapped f (next q (λ a u. next (end u) (λ x y. got a t))) ≡ next (mapped f q) (λ b u. next (end u) (λ x y. got b t))
+    used t (got a u) = closed t a (end u)
+    used t (fault g) = refl
+
+    go : (q : Read (List ℕ)) → next q (λ p t. mapped f (whole r p t)) ≡ next q (whole (λ p. mapped f (r p)))
+    go (got p t) = used t (r p)
+    go (fault g) = refl
+
 -- a record of which only the end is looked at
 pub skipped-recorded : {A : Type 0} (size : Reader ℕ) (r : Reader A) (s : List ℕ) → skipped (recorded size r s) ≡ recorded size (λ p. skipped (r p)) s
-unfolding recorded skipped mapped next whole _>>=_
-skipped-recorded {A} size r s = mapped-bind _ (framed size) (whole r) s ∙ go (framed size s)
-  where
-    closed : (t : List ℕ) (a : A) (e : Read (Unit {0})) → mapped {B = Unit {0}} (λ a. tt) (next e (λ x y. got a t)) ≡ next e (λ x y. got tt t)
-    closed t a (got x y) = refl
-    closed t a (fault f) = refl
-
-    used : (t : List ℕ) (q : Read A) → mapped {B = Unit {0}} (λ a. tt) (next q (λ a u. next (end u) (λ x y. got a t))) ≡ next (mapped {B = Unit {0}} (λ a. tt) q) (λ a u. next (end u) (λ x y. got a t))
-    used t (got a u) = closed t a (end u)
-    used t (fault f) = refl
-
-    go : (q : Read (List ℕ)) → next q (λ p t. mapped {B = Unit {0}} (λ a. tt) (whole r p t)) ≡ next q (whole (λ p. mapped {B = Unit {0}} (λ a. tt) (r p)))
-    go (got p t) = used t (r p)
-    go (fault f) = refl
+unfolding skipped
+skipped-recorded size r s = mapped-recorded (λ a. tt) size r s
 
 -- the loop that only goes past the elements
 abbrev pub Skipping : {A : Type 0} → Reader A → ℕ → List ℕ → List ℕ → ℕ → Type 0

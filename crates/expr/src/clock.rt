@@ -1,7 +1,7 @@
 // Clocks and their bounds: 4294967295 is no bound.
 ghost use mathlib.Core.Path.{_≡_};
 ghost use mathlib.Core.Bool.{true, cond};
-ghost use Prim.Native.Nat.{_+_, _≤_, _<_, min};
+ghost use Prim.Native.Nat.{_+_, _<_, min};
 ghost use lib.Dec.{leb};
 ghost use Rattle.expr.specs.Lists.{has};
 ghost use Rattle.expr.specs.Reading.{byte4, such, skipped};
@@ -72,15 +72,21 @@ pub fn read_bounds(s: &[u8], at: usize, clocks: u8) -> Reached
     Reached::At(place)
 }
 
-// The bounds of the declared clocks; the others have none.
-pub fn read_row(s: &[u8], at: usize, clocks: usize) -> RowRead
-    requires { ⌜ clocks ≤ 8 ⌝ }
-    ensures { λ r. ⌜ reached (now (s .entry)) (r .row) (r .reached) ≡ row clocks (onward (now (s .entry)) at) ⌝ }
+fn at_most_eight(count: usize) -> usize
+    ensures { λ r. ⌜ r ≡ min count 8 ⌝ }
 {
+    if count < 8 { count } else { 8 }
+}
+
+// The bounds of the first eight of the declared clocks; the others have none.
+pub fn read_row(s: &[u8], at: usize, clocks: usize) -> RowRead
+    ensures { λ r. ⌜ reached (now (s .entry)) (r .row) (r .reached) ≡ row (min clocks 8) (onward (now (s .entry)) at) ⌝ }
+{
+    let count = at_most_eight(clocks);
     let mut row = [4294967295; 8];
     let mut place = at;
     let mut i = 0;
-    while i < clocks {
+    while i < count {
         let w = read_bound(s, place);
         let WordRead::Value(b, next) = w else {
             return no_row(word_fault(w));
@@ -195,12 +201,6 @@ pub fn zeros_past(count: usize, values: [i32; 16]) -> bool
         i += 1;
     }
     true
-}
-
-fn at_most_eight(count: usize) -> usize
-    ensures { λ r. ⌜ r ≡ min count 8 ⌝ }
-{
-    if count < 8 { count } else { 8 }
 }
 
 // Whether the first `count` clocks are within the limit.

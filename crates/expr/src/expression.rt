@@ -1,10 +1,9 @@
 // Expressions: prefix codes, read and evaluated from the front of a part of a record.
 ghost use mathlib.Core.Path.{_≡_};
-ghost use Prim.Native.Nat.{_≤_, _<_, _^_};
+ghost use Prim.Native.Nat.{_≤_, _<_};
 ghost use lib.IntN.{pos};
 ghost use lib.ListN.{length, getD};
-ghost use mathlib.Core.Bool.{_&&_};
-ghost use lib.Dec.{leb, ltb};
+ghost use lib.Dec.{ltb};
 ghost use Rattle.expr.specs.Reading.{byte, byte4, such, mapped, skipped};
 ghost use Rattle.expr.specs.Expression.{divisor, expression, value, combined, divided};
 ghost use Rattle.expr.specs.Places.{onward, byteOf, byteEnd, wordOf, wordEnd, valueOf, valueEnd, reached, reachedEnd, byteReached, wordReached};
@@ -19,6 +18,7 @@ use crate::field::read_signed;
 use crate::field::read_word;
 use crate::field::word_fault;
 use crate::signed::difference;
+use crate::signed::is_divisor;
 use crate::signed::product;
 use crate::signed::quotient;
 use crate::signed::remainder;
@@ -48,12 +48,6 @@ fn read_constant(s: &[u8], at: usize) -> Reached
     ensures within { λ r. ⌜ reachedEnd r ≤ length (now (s .entry)) ⌝ }
 {
     word_reached(read_word(s, at))
-}
-
-fn is_divisor(d: u32) -> bool
-    ensures { λ r. ⌜ r ≡ (leb 1 d && ltb d (2 ^ 31)) ⌝ }
-{
-    1 <= d && d < 2147483648
 }
 
 // The divisor of a quotient or remainder.

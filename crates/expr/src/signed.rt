@@ -3,11 +3,11 @@
 // (`below_zero`, `magnitude`) and put together once (`signed`, `with_sign`).
 ghost use mathlib.Core.Path.{_≡_};
 ghost use mathlib.Core.Bool.{cond, _&&_};
-ghost use Prim.Native.Nat.{_<_, _^_};
+ghost use Prim.Native.Nat.{_≤_, _<_, _^_};
 ghost use lib.IntN.{pos, negsuc, natAbs, _+ℤ_, _-ℤ_, _*ℤ_};
 ghost use lib.Signed.{mag, ltZ, leZ};
 ghost use lib.ListN.{getD};
-ghost use Rattle.expr.specs.Integer.{signed, wrap, floorDiv, floorMod};
+ghost use Rattle.expr.specs.Integer.{signed, wrap, isDivisor, floorDiv, floorMod};
 ghost use Rattle.expr.specs.Guard.{lt, relations, compareℕ, compareℤ};
 
 fn below_zero(x: i64) -> bool
@@ -87,19 +87,41 @@ pub fn product(x: i32, y: i32) -> i32
     wrap((x as i64) * (y as i64))
 }
 
-pub fn quotient(x: i32, d: u32) -> i32
-    requires { ⌜ 0 < d ⌝ }
-    ensures { λ r. ⌜ r ≡ floorDiv x d ⌝ }
+// Whether a number can be a divisor.
+pub fn is_divisor(d: u32) -> bool
+    ensures { λ r. ⌜ r ≡ isDivisor d ⌝ }
 {
-    let z = x as i64;
-    let q = magnitude(z) / (d as u64);
-    with_sign(below_zero(z), q as u32)
+    1 <= d && d < 2147483648
 }
 
-pub fn remainder(x: i32, d: u32) -> i32
-    requires { ⌜ (0 < d) × (d < 2 ^ 31) ⌝ }
-    ensures { λ r. ⌜ r ≡ floorMod x d ⌝ }
+// The number where it is asked for, else 0.
+fn only_where(asked: bool, n: u32) -> u32
+    ensures is { λ r. ⌜ r ≡ cond asked n 0 ⌝ }
+    ensures within { λ r. ⌜ r ≤ n ⌝ }
 {
+    if asked { n } else { 0 }
+}
+
+// The quotient rounded down: below zero its size is rounded up. By what is no divisor it is 0.
+pub fn quotient(x: i32, d: u32) -> i32
+    ensures { λ r. ⌜ r ≡ cond (isDivisor d) (floorDiv x d) (pos 0) ⌝ }
+{
+    if !is_divisor(d) {
+        return 0;
+    }
+    let negative = is_negative(x);
+    let size = absolute(x) + only_where(negative, d - 1);
+    let q = (size / d) as i64;
+    if negative { wrap(0 - q) } else { wrap(q) }
+}
+
+// What the quotient rounded down leaves. By what is no divisor it is 0.
+pub fn remainder(x: i32, d: u32) -> i32
+    ensures { λ r. ⌜ r ≡ cond (isDivisor d) (floorMod x d) (pos 0) ⌝ }
+{
+    if !is_divisor(d) {
+        return 0;
+    }
     let z = x as i64;
     let m = magnitude(z) % (d as u64);
     if below_zero(z) {

@@ -188,6 +188,18 @@ pub fn case_of(members: [Member; 16], count: usize, rendezvous: u8) -> Case
     }
 }
 
+// The owner of each member.
+pub fn owners_of(members: [Member; 16]) -> [u8; 16]
+    ensures { λ r. ⌜ r ≡ map ownerOf members ⌝ }
+{
+    let mut owners = [0; 16];
+    for i in 0..16 {
+        let m = members[i];
+        owners[i] = m.owner;
+    }
+    owners
+}
+
 // Whether each active receiver, of which the owner is given and else 255, has an owner of the chosen set.
 pub fn maximal(receivers: &[u8], owners: &[u8]) -> bool
     ensures { λ r. ⌜ r ≡ noneFits (now (receivers .entry)) (now (owners .entry)) ⌝ }

@@ -15,10 +15,13 @@ use Rattle.expr.proofs.clock.read_row.Statement.{statement}
 use Rattle.expr.proofs.clock.read_row.Tie as tie
 
 abbrev Inv-loop : tie.InvT-loop
-Inv-loop s at clocks row₀ place₀ i₀ row place i = (seen : List ℕ) × Going (such byte4 isBound) clocks (onward s at) (onward s place) i seen × (row ≡ padded 8 no-bound seen)
+Inv-loop s at clocks count row₀ place₀ i₀ row place i = (seen : List ℕ) × Going (such byte4 isBound) count (onward s at) (onward s place) i seen × (row ≡ padded 8 no-bound seen)
 
 abbrev μ-loop : tie.MeasureT-loop
-μ-loop s at clocks row₀ place₀ i₀ row place i = clocks - i
+μ-loop s at clocks count row₀ place₀ i₀ row place i = count - i
+
+at-most-eight-requires : tie.Need-at-most-eight-requires Inv-loop μ-loop
+at-most-eight-requires c κs = search needs
 
 loop-holds : tie.Need-loop-holds Inv-loop μ-loop
 unfolding padded
@@ -40,7 +43,7 @@ no-row-requires : tie.Need-no-row-requires Inv-loop μ-loop
 no-row-requires c κs = search needs
 
 returns : tie.Need-returns Inv-loop μ-loop
-returns c = rw (c .no-row .ensures, (c .before .word-fault .ensures ∙ ap wordFault (c .before .before .enum-told .given .1)))
+returns c = rw (← c .before .before .before .before .before .before .before .at-most-eight .ensures, c .no-row .ensures, (c .before .word-fault .ensures ∙ ap wordFault (c .before .before .enum-told .given .1)))
     (sym (row-fault _ _ (going-stop _ _ _ (c .before .before .before .before .before .before .loop .inv .1) (c .before .before .before .before .before .loop-test .taken) (answered (wordOf _) (c .before .before .before .before .read-bound .ensures) (c .before .before .enum-told .given .1)))))
 
 mul-row : tie.Need-mul-row Inv-loop μ-loop
@@ -62,7 +65,7 @@ loop-again c = let g = c .before .before .before .before .before .loop .inv in
 returns-2 : tie.Need-returns-2 Inv-loop μ-loop
 returns-2 c = let g = c .before .loop .inv in
     let a = going-all _ _ _ (g .1) (c .loop-test .left) in
-    rw (g .2) (sym (row-got _ _ _ _ (a .0) (a .1)))
+    rw (← c .before .before .at-most-eight .ensures, g .2) (sym (row-got _ _ _ _ (a .0) (a .1)))
 
 pub read-row-spec : {M : Type 1} → statement M
 read-row-spec =
@@ -70,6 +73,7 @@ read-row-spec =
     (tie.spec
     Inv-loop
     μ-loop
+    at-most-eight-requires
     loop-holds
     read-bound-requires
     enum-known-w

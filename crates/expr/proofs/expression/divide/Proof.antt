@@ -5,6 +5,7 @@ use Rattle.expr.specs.Expression.{divisor}
 use Rattle.expr.specs.Places.{onward, wordOf, wordEnd, faultOf, wordFault}
 use Rattle.expr.proofs.Reading.{mapped-got, mapped-fault}
 use Rattle.expr.proofs.Places.{answered}
+use Rattle.expr.proofs.Bools.{cond-yes}
 use Rattle.expr.proofs.Integers.{read-back}
 use Rattle.expr.proofs.Expressions.{divisor-in, divided-quotient, divided-remainder}
 use borrow.Author.Needs.{needs}
@@ -31,22 +32,22 @@ returns : tie.Need-returns
 returns c = (ap (λ f. fault (faultOf f)) (c .word-fault .ensures ∙ ap wordFault (c .before .enum-told .given .1)) ∙ sym (mapped-fault _ (answered (wordOf _) (c .before .before .before .read-divisor .ensures .0) (c .before .enum-told .given .1))), omega arith)
 
 quotient-requires : tie.Need-quotient-requires
-quotient-requires c κs = omega (arith, divisor-in _ (taken (c .before)))
+quotient-requires c κs = search needs
 
 remainder-requires : tie.Need-remainder-requires
-remainder-requires c κs = omega (arith, divisor-in _ (taken (c .before)))
+remainder-requires c κs = search needs
 
 returns-2 : tie.Need-returns-2
 returns-2 c =
     let x = c .before .before .before .before .before .before .before .args .x in
     let d = c .before .before .before .w .given .0 .0 in
-    (rw (read-back (c .quotient .result) (c .quotient .ok), c .quotient .ensures, read-back x (c .before .before .before .before .before .before .before .fits .x .sfits), ← divided-quotient x d (c .before .if1 .taken)) (sym (mapped-got _ (taken (c .before .before)))), omega (arith, ap wordEnd (c .before .before .before .w .given .1), c .before .before .before .before .before .read-divisor .ensures .1))
+    (rw (read-back (c .quotient .result) (c .quotient .ok), c .quotient .ensures ∙ cond-yes _ _ (divisor-in _ (taken (c .before .before))), read-back x (c .before .before .before .before .before .before .before .fits .x .sfits), ← divided-quotient x d (c .before .if1 .taken)) (sym (mapped-got _ (taken (c .before .before)))), omega (arith, ap wordEnd (c .before .before .before .w .given .1), c .before .before .before .before .before .read-divisor .ensures .1))
 
 returns-3 : tie.Need-returns-3
 returns-3 c =
     let x = c .before .before .before .before .before .before .before .args .x in
     let d = c .before .before .before .w .given .0 .0 in
-    (rw (read-back (c .remainder .result) (c .remainder .ok), c .remainder .ensures, read-back x (c .before .before .before .before .before .before .before .fits .x .sfits), ← divided-remainder x d (c .before .if1 .left)) (sym (mapped-got _ (taken (c .before .before)))), omega (arith, ap wordEnd (c .before .before .before .w .given .1), c .before .before .before .before .before .read-divisor .ensures .1))
+    (rw (read-back (c .remainder .result) (c .remainder .ok), c .remainder .ensures ∙ cond-yes _ _ (divisor-in _ (taken (c .before .before))), read-back x (c .before .before .before .before .before .before .before .fits .x .sfits), ← divided-remainder x d (c .before .if1 .left)) (sym (mapped-got _ (taken (c .before .before)))), omega (arith, ap wordEnd (c .before .before .before .w .given .1), c .before .before .before .before .before .read-divisor .ensures .1))
 
 pub divide-spec : {M : Type 1} → statement M
 divide-spec =

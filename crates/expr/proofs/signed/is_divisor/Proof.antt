@@ -1,6 +1,6 @@
 use borrow.Author.Tests.{le-leb, lt-leb}
-use Rattle.expr.proofs.expression.is_divisor.Statement.{statement}
-use Rattle.expr.proofs.expression.is_divisor.Tie as tie
+use Rattle.expr.proofs.signed.is_divisor.Statement.{statement}
+use Rattle.expr.proofs.signed.is_divisor.Tie as tie
 
 returns : tie.Need-returns
 returns c = rw (le-leb 1 (c .before .args .d) (c .if1 .taken))
