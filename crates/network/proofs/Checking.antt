@@ -28,10 +28,6 @@ use Rattle.network.specs.declared.check.Finding.{Finding}
 use Rattle.network.specs.declared.check.Finding.the-variants as Fd
 use Rattle.network.proofs.Records.{located}
 
--- an answer of the code that is known
-pub checked-refused : (rest offsets : List ℕ) {d : Answer Network} {v : Finding} {m : ℕ} → v ≡ Fd.Refused m → d ≡ refused m → CheckedAs rest offsets d v
-checked-refused rest offsets {d} e h = subst (CheckedAs rest offsets d) (sym e) h
-
 sound-fault : {q : Read Network} (f : Fault) → q ≡ fault (faultOf f) → soundOf q ≡ refused (faultNumber f)
 unfolding numbered _>>=_
 sound-fault Fl.Length h = rw h
@@ -118,9 +114,6 @@ module _ (file : List ℕ) where
   pub finding-fits : (v : Finding) → 13 ≤ length file → FindingFits file v
   finding-fits (Fd.Counts k) h = h
   finding-fits (Fd.Refused m) h = tt
-
-  pub refused-fits : {v : Finding} {m : ℕ} → v ≡ Fd.Refused m → FindingFits file v
-  refused-fits e = subst (FindingFits file) (sym e) tt
 
   -- what the check of a file says of its network
   module _ (offsets : List ℕ) {d : Answer Network} {v : Finding} where

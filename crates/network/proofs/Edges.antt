@@ -2,18 +2,18 @@
 use mathlib.Core.Path.{_≡_, refl, sym, ap, ap₂, _∙_, subst}
 use mathlib.Core.Bool.{Bool, true, _&&_}
 use mathlib.Core.List.{List, [], _∷_, _++_}
-use Prim.Native.Nat.{ℕ, zero, suc, _+_, _-_, _≤_, _<_}
+use Prim.Native.Nat.{ℕ, _+_, _-_, _≤_, _<_}
 use native.Mathlib.Omega.{arith}
 use native.Mathlib.Decide.{ℕ-discrete}
 use borrow.Author.Tests.{leb-true, lt-ltb, le-ltb}
 use lib.Dec.{leb}
-use lib.ListN.{length, getD, take, drop, set, take-append-drop, length-append, length-set, List·getD-append}
-use lib.Seq.{drop-drop, getD-at, getD-set-same, getD-set-other}
+use lib.ListN.{length, getD, take, drop, set, length-append, length-set, List·getD-append}
+use lib.Seq.{getD-at, getD-set-same, getD-set-other}
 use Rattle.expr.specs.Reading as reading
-use Rattle.expr.specs.Reading.{Read, got, fault, length-fault, Reader, byte, byte2, byte4, many, framed, recorded, mapped}
+use Rattle.expr.specs.Reading.{Read, got, fault, length-fault, byte, byte2, many, framed, recorded, mapped}
 use Rattle.expr.specs.Lists.{all}
 use Rattle.expr.specs.Places.{onward, faultOf}
-use Rattle.expr.specs.Guard.{Limits, limits, relation, clock, ticks, dataGuard, clockGuard, differenceGuard, guard, update}
+use Rattle.expr.specs.Guard.{Limits, limits}
 use Rattle.expr.specs.Label.{Label, Body, body, Heading, heading, assignsOnce}
 use Rattle.expr.specs.Headings.{headingOf}
 use Rattle.expr.specs.declared.field.Fault.{Fault}
@@ -23,9 +23,9 @@ use Rattle.expr.proofs.Places.{length-onward, recorded-got, part-length}
 use Rattle.expr.proofs.Reading.{mapped-got, mapped-at, fault-at, bind-at, yield-at, yield-rest, got-value}
 use Rattle.expr.proofs.Lists.{all-more}
 use Rattle.expr.proofs.Many.{Going, going-none, going-more, going-stop, going-all}
-use Rattle.expr.proofs.InFront.{InFront, bind-front, yield-front, such-front, many-front, byte-front, byte4-front, field-at}
-use Rattle.expr.proofs.Expressions.{expression-front}
-use Rattle.expr.proofs.Labels.{label-body}
+use Rattle.expr.proofs.InFront.{field-at}
+use Rattle.expr.proofs.Labels.{label-body, body-front}
+use Rattle.expr.proofs.Sizes.{part-read}
 use Rattle.network.specs.Network.{Edge, edge, inRange}
 use Rattle.network.specs.Edges.{EdgeHeading, edgeIn, edgeHeading, edgeHeadingOf, edgeOf, withBody, EdgeHere, Kept, EdgesAt}
 use Rattle.network.specs.declared.header.Counts.{Counts}
@@ -41,9 +41,6 @@ module _ (k : Counts) (h : inRange k ≡ true) where
       let b : leb (k .broadcasts) 144 ≡ true = search parts depth 12 in
       omega (arith, leb-true (k .rendezvous) 16 a, leb-true (k .broadcasts) 144 b)
 
-  pub few-variables : k .variables ≤ 16
-  few-variables = let a : leb (k .variables) 16 ≡ true = search parts depth 12 in leb-true (k .variables) 16 a
-
   pub few-edges : k .edges ≤ 1024
   few-edges = let a : leb (k .edges) 1024 ≡ true = search parts depth 12 in leb-true (k .edges) 1024 a
 
@@ -57,69 +54,10 @@ pub edge-got : {q : Read Edge} (k : code.Edge) (b : Label) (s t : List ℕ)
     → heading b ≡ headingOf s (k .label) → got (edgeHeadingOf s k) t ≡ mapped edgeHeading q
 edge-got k b s t h e = ap (λ (x : Heading). got (withLabel k x) t) (sym e) ∙ sym (mapped-got edgeHeading h)
 
--- bodies are read in front, whatever follows them
-relation-front : InFront relation
-unfolding relation
-relation-front = bind-front _ _ (such-front byte _ byte-front) λ n. yield-front _
-
-module _ (l : Limits) where
-  clock-front : InFront (clock l)
-  unfolding clock
-  clock-front = such-front byte _ byte-front
-
-  ticks-front : InFront ticks
-  unfolding ticks
-  ticks-front = such-front byte4 _ byte4-front
-
-  data-front : InFront (dataGuard l)
-  unfolding dataGuard
-  data-front = bind-front _ _ relation-front λ r. bind-front _ _ (expression-front (l .variables) 8) λ a. bind-front _ _ (expression-front (l .variables) 8) λ b. yield-front _
-
-  time-front : InFront (clockGuard l)
-  unfolding clockGuard
-  time-front = bind-front _ _ clock-front λ c. bind-front _ _ relation-front λ r. bind-front _ _ ticks-front λ n. yield-front _
-
-  difference-front : InFront (differenceGuard l)
-  unfolding differenceGuard
-  difference-front = bind-front _ _ clock-front λ c. bind-front _ _ clock-front λ d. bind-front _ _ relation-front λ r. bind-front _ _ ticks-front λ n. yield-front _
-
-  guard-front : InFront (guard l)
-  unfolding guard
-  guard-front = bind-front _ _ (such-front byte _ byte-front) λ k. kind k
-    where
-      kind : (k : ℕ) → InFront (getD (dataGuard l ∷ clockGuard l ∷ differenceGuard l ∷ []) k (dataGuard l))
-      kind zero = data-front
-      kind (suc zero) = time-front
-      kind (suc (suc zero)) = difference-front
-      kind (suc (suc (suc k))) = data-front
-
-  update-front : InFront (update l)
-  unfolding update
-  update-front = bind-front _ _ (such-front byte _ byte-front) λ v. bind-front _ _ (expression-front (l .variables) 8) λ e. yield-front _
-
-  pub body-front : InFront (body l)
-  unfolding body
-  body-front = bind-front _ _ byte-front λ g. bind-front _ _ byte-front λ a. bind-front _ _ (many-front g (guard l) guard-front) λ gs. bind-front _ _ (many-front a (update l) update-front) λ us. yield-front _
-
-  -- a body has bytes
-  body-some : (s : List ℕ) (at : ℕ) {b : Body} {t : List ℕ} → body l (onward s at) ≡ got b t → at < length s
-  unfolding body byte
-  body-some s at h = let w = bind-at byte _ (onward s at) h in omega (arith, field-at 1 _ (onward s at) (w .2) .0, length-onward s at)
-
--- a part of a list, from a place on, and what follows it
-part-front : {A : Type 0} (l : List A) (n b : ℕ) → (zs : List A) × (drop b l ≡ drop b (take n l) ++ zs)
-part-front l n zero = (drop n l, sym (take-append-drop n l))
-part-front [] zero (suc b) = ([], refl)
-part-front [] (suc n) (suc b) = ([], refl)
-part-front (x ∷ l) zero (suc b) = (drop b l, refl)
-part-front (x ∷ l) (suc n) (suc b) = part-front l n b
-
--- what is read in front of a part is read in the whole
-pub part-read : {A : Type 0} (r : Reader A) → InFront r → (s : List ℕ) (from n b : ℕ) {a : A} {t : List ℕ} → r (onward (take n (drop from s)) b) ≡ got a t → (u : List ℕ) × (r (onward s (from + b)) ≡ got a u)
-unfolding onward
-part-read r f s from n b {a} {t} h =
-    let w = part-front (drop from s) n b in
-    (t ++ w .0, ap r (sym (drop-drop b from s) ∙ w .1) ∙ f .alike _ (w .0) h)
+-- a body has bytes
+body-some : (l : Limits) (s : List ℕ) (at : ℕ) {b : Body} {t : List ℕ} → body l (onward s at) ≡ got b t → at < length s
+unfolding body byte
+body-some l s at h = let w = bind-at byte _ (onward s at) h in omega (arith, field-at 1 _ (onward s at) (w .2) .0, length-onward s at)
 
 -- the body of an edge that was read is the one that its bytes give
 edge-body : (automata locations : ℕ) (l : Limits) (channels : ℕ) (s : List ℕ) {e : Edge} {t : List ℕ} → edge automata locations l channels s ≡ got e t → body l (e .label .bytes) ≡ got (e .label .body) t
@@ -200,47 +138,37 @@ here-got k s {d = d} h q = subst (λ (r : EdgeRead). EdgeHere k s r d) q h
 pub here-fault : (k : Counts) (s : List ℕ) {r : EdgeRead} {d : Read Edge} {f : Fault} → EdgeHere k s r d → r ≡ Ed.Fault f → d ≡ fault (faultOf f)
 here-fault k s {d = d} h q = subst (λ (r : EdgeRead). EdgeHere k s r d) q h
 
--- a record has the bytes of its length
-pub record-some : {A : Type 0} (r : Reader A) (s : List ℕ) (at : ℕ) {a : A} {t : List ℕ} → recorded byte2 r (onward s at) ≡ got a t → at < length s
-unfolding recorded framed byte2
-record-some r s at h =
-    let w = bind-at (framed byte2) _ (onward s at) h in
-    let z = bind-at byte2 _ (onward s at) (w .2) in
-    omega (arith, field-at 2 _ (onward s at) (z .2) .0, length-onward s at)
-
--- the pass over the edges
-pub record Edging (k : Counts) (s : List ℕ) (at place i : ℕ) (once : Bool) (offsets : List ℕ) : Type 0 where
+-- the pass over the edges, which puts down the offset of each
+pub record Edging (k : Counts) (s : List ℕ) (at place i : ℕ) (once : Bool) (before offsets : List ℕ) : Type 0 where
   pub seen : List Edge
   pub going : Going (recorded byte2 (edgeIn k)) (k .edges) (onward s at) (onward s place) i seen
-  pub long : length offsets ≡ 1024
   pub keeps : once ≡ all (λ e. assignsOnce (e .label)) seen
-  pub offsets-at : EdgesAt k s offsets seen
+  pub put-down : length before ≡ 1024 → (length offsets ≡ 1024) × EdgesAt k s offsets seen
 
-module _ (k : Counts) (s : List ℕ) (at : ℕ) where
-  pub edging-none : (offsets : List ℕ) → length offsets ≡ 1024 → Edging k s at at 0 true offsets
+module _ (k : Counts) (s : List ℕ) (at : ℕ) (before : List ℕ) where
+  pub edging-none : Edging k s at at 0 true before before
   unfolding all
-  edging-none offsets h = record { seen = []; going = going-none _ _ _; long = h; keeps = refl; offsets-at = λ i l d. absurd (omega arith) }
+  edging-none = record { seen = []; going = going-none _ _ _; keeps = refl; put-down = λ f. (f, λ i l d. absurd (omega arith)) }
 
-  module _ {place i : ℕ} {once : Bool} {offsets : List ℕ} (E : Edging k s at place i once offsets) where
+  module _ {place i : ℕ} {once : Bool} {offsets : List ℕ} (E : Edging k s at place i once before offsets) where
     pub edging-more : {c : code.Edge} {n : ℕ} {b : Bool} → i < k .edges → k .edges ≤ 1024 → (e : Edge) × (recorded byte2 (edgeIn k) (onward s place) ≡ got e (onward s n)) × Kept k s c e
-        → b ≡ (once && c .label .once) → Edging k s at n (i + 1) b (set offsets i place)
+        → b ≡ (once && c .label .once) → Edging k s at n (i + 1) b before (set offsets i place)
     edging-more {n = n} h m w q = let e = w .0 in record {
       seen = E .seen ++ (e ∷ []);
       going = going-more _ _ _ (E .going) h (w .1);
-      long = length-set offsets i place ∙ E .long;
       keeps = q ∙ ap₂ _&&_ (E .keeps) (w .2 .once) ∙ sym (all-more _ (E .seen) e);
-      offsets-at = λ j l d. placed e (w .1) j l d (ℕ-discrete j i);
+      put-down = λ f. (length-set offsets i place ∙ E .put-down f .0, λ j l d. placed e (w .1) f j l d (ℕ-discrete j i));
     }
       where
-        placed : (e : Edge) → recorded byte2 (edgeIn k) (onward s place) ≡ got e (onward s n) → (j : ℕ) → j < length (E .seen ++ (e ∷ [])) → (d : Edge) → Dec (j ≡ i)
+        placed : (e : Edge) → recorded byte2 (edgeIn k) (onward s place) ≡ got e (onward s n) → length before ≡ 1024 → (j : ℕ) → j < length (E .seen ++ (e ∷ [])) → (d : Edge) → Dec (j ≡ i)
             → (t : List ℕ) × (recorded byte2 (edgeIn k) (onward s (getD (set offsets i place) j 0)) ≡ got (getD (E .seen ++ (e ∷ [])) j d) t)
-        placed e g j l d (yes p) =
-            let x : getD (set offsets i place) j 0 ≡ place = ap (λ (x : ℕ). getD (set offsets i place) x 0) p ∙ getD-set-same offsets i place 0 (omega (arith, E .long)) in
+        placed e g f j l d (yes p) =
+            let x : getD (set offsets i place) j 0 ≡ place = ap (λ (x : ℕ). getD (set offsets i place) x 0) p ∙ getD-set-same offsets i place 0 (omega (arith, E .put-down f .0)) in
             let y : getD (E .seen ++ (e ∷ [])) j d ≡ e = getD-at (E .seen) e [] d j (E .going .count ∙ sym p) in
             (onward s n, rw (x, y) g)
-        placed e g j l d (no p) =
+        placed e g f j l d (no p) =
             let z : j < length (E .seen) = omega (arith, p, length-append (E .seen) (e ∷ []), E .going .count) in
-            let w = E .offsets-at j z d in
+            let w = E .put-down f .1 j z d in
             let x : getD (set offsets i place) j 0 ≡ getD offsets j 0 = getD-set-other offsets i j place 0 p in
             let y : getD (E .seen ++ (e ∷ [])) j d ≡ getD (E .seen) j d = List·getD-append (E .seen) (e ∷ []) d j z in
             (w .0, rw (x, y) (w .1))
@@ -251,5 +179,5 @@ module _ (k : Counts) (s : List ℕ) (at : ℕ) where
     pub edging-all : k .edges ≤ i → got once (onward s place) ≡ mapped (all (λ e. assignsOnce (e .label))) (many (k .edges) (recorded byte2 (edgeIn k)) (onward s at))
     edging-all h = ap (λ (b : Bool). got b (onward s place)) (E .keeps) ∙ sym (mapped-got _ (going-all _ _ _ (E .going) h .0))
 
-    pub edging-at : k .edges ≤ i → (es : List Edge) (t : List ℕ) → many (k .edges) (recorded byte2 (edgeIn k)) (onward s at) ≡ got es t → EdgesAt k s offsets es
-    edging-at h es t q = subst (EdgesAt k s offsets) (got-value (sym (going-all _ _ _ (E .going) h .0) ∙ q)) (E .offsets-at)
+    pub edging-at : k .edges ≤ i → length before ≡ 1024 → (es : List Edge) (t : List ℕ) → many (k .edges) (recorded byte2 (edgeIn k)) (onward s at) ≡ got es t → EdgesAt k s offsets es
+    edging-at h f es t q = subst (EdgesAt k s offsets) (got-value (sym (going-all _ _ _ (E .going) h .0) ∙ q)) (E .put-down f .1)

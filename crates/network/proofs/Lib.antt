@@ -7,3 +7,9 @@ pub mod Edges
 pub mod Offsets
 pub mod Checking
 pub mod Activity
+pub mod Taken
+pub mod Signals
+pub mod Choosing
+pub mod Stepping
+pub mod InPlace
+pub mod Verdicts

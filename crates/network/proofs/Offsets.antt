@@ -17,6 +17,7 @@ use Rattle.network.specs.Machine.{edgeAt}
 use Rattle.network.specs.Edges.{edgeIn, EdgeHere, Kept}
 use Rattle.network.specs.Layout.{Laid, keyOf}
 use Rattle.network.specs.declared.header.Counts.{Counts}
+use Rattle.network.specs.declared.laid.Key.{Key}
 use Rattle.network.specs.declared.edge.Edge as code
 use Rattle.network.specs.declared.edge.EdgeRead.{EdgeRead}
 use Rattle.network.specs.declared.edge.EdgeRead.the-variants as Ed
@@ -29,7 +30,7 @@ module _ {rest : List ℕ} {k : Counts} {offsets : List ℕ} {n : Network} (L : 
     laid-edge = L .placed i (omega (arith, L .edges)) _
 
     module _ {place : ℕ} (e : i < 1024 → place ≡ getD offsets i 0) where
-      there : (t : List ℕ) × (recorded byte2 (edgeIn k) (onward rest place) ≡ got (edgeAt n i) t)
+      pub there : (t : List ℕ) × (recorded byte2 (edgeIn k) (onward rest place) ≡ got (edgeAt n i) t)
       there = let w = laid-edge in (w .0, ap (λ (p : ℕ). recorded byte2 (edgeIn k) (onward rest p)) (e (omega (arith, few-edges k (L .located .in-range)))) ∙ w .1)
 
       -- the code reads the edge that the network has
@@ -48,9 +49,9 @@ module _ {rest : List ℕ} {k : Counts} {offsets : List ℕ} {n : Network} (L : 
   edges-end i h = drop-of-length-le (n .edges) {i = i} (omega (arith, L .edges))
 
   -- whether an edge joins two locations of one automaton
-  pub edge-joins : {c : code.Edge} {e : Edge} {b : Bool} → Kept k rest c e → b ≡ eqb (locationAt n (c .source) .automaton) (locationAt n (c .target) .automaton) → eqb (ownerOf n e) (locationAt n (e .target) .automaton) ≡ b
-  unfolding ownerOf
-  edge-joins K h = sym (h ∙ ap₂ (λ (x y : ℕ). eqb (locationAt n x .automaton) (locationAt n y .automaton)) (K .source) (K .target))
+  pub edge-joins : (c : Key) (e : Edge) {b : Bool} → keyOf c ≡ key e → b ≡ eqb (locationAt n (c .source) .automaton) (locationAt n (c .target) .automaton) → eqb (ownerOf n e) (locationAt n (e .target) .automaton) ≡ b
+  unfolding ownerOf key
+  edge-joins c e K h = sym (h ∙ ap₂ (λ (x y : ℕ). eqb (locationAt n x .automaton) (locationAt n y .automaton)) (ap (λ (l : List ℕ). getD l 0 0) K) (ap (λ (l : List ℕ). getD l 1 0) K))
 
   -- the order of the edges, from a place on
   module _ (i : ℕ) (o : 1 ≤ i) (h : i < k .edges) where
@@ -74,14 +75,6 @@ module _ {rest : List ℕ} {k : Counts} {offsets : List ℕ} {n : Network} (L : 
       go [] l = refl
       go (e ∷ []) l = refl
       go (e ∷ (f ∷ es)) l = absurd (omega arith)
-
-  -- the code's edges are ordered by the same
-  pub same-keys : {a b : code.Edge} {e f : Edge} {r : Bool} → Kept k rest a e → Kept k rest b f → r ≡ lexLess (keyOf a) (keyOf b) → r ≡ lexLess (key e) (key f)
-  unfolding key
-  same-keys A B h = h ∙ ap₂ lexLess (same-key A) (same-key B)
-    where
-      same-key : {a : code.Edge} {e : Edge} → Kept k rest a e → keyOf a ≡ key e
-      same-key K = λ j. K .source j ∷ K .target j ∷ K .transition j ∷ K .tested j ∷ K .channel j ∷ []
 
 -- the order of lists of numbers, by the first that differ
 module _ {x y : ℕ} (xs ys : List ℕ) where

@@ -8,6 +8,7 @@ use Rattle.network.specs.declared.header.Counts.{Counts}
 use Rattle.network.specs.declared.header.HeaderRead.{HeaderRead}
 use Rattle.network.specs.declared.header.HeaderRead.the-variants as Hd
 use Rattle.network.specs.declared.configuration.Configuration.{Configuration}
+use Rattle.network.specs.declared.moved.Verdict.{Verdict}
 use Rattle.network.specs.declared.moved.Verdict.the-variants as Vd
 use Rattle.network.specs.declared.moved.Moved.{Moved}
 
@@ -24,6 +25,11 @@ HeaderFits file Hd.Refused = Unit
 abbrev pub movedOf : Configuration → Answer Configuration → Moved
 movedOf c (done d) = record { verdict = Vd.Done; configuration = d }
 movedOf c (refused n) = record { verdict = Vd.Refused n; configuration = c }
+
+-- the number of a refusal, and 0 where the call was done
+abbrev pub verdictNumber : Verdict → ℕ
+verdictNumber Vd.Done = 0
+verdictNumber (Vd.Refused n) = n
 
 -- what stands for a configuration where no network is
 abbrev pub noConfiguration : Configuration

@@ -9,7 +9,7 @@ use Rattle.expr.specs.Places.{onward}
 use Rattle.network.specs.Network.{Network, location, locationAt, inRange}
 use Rattle.network.specs.Edges.{EdgesAt}
 use Rattle.network.specs.declared.header.Counts.{Counts}
-use Rattle.network.specs.declared.edge.Edge as code
+use Rattle.network.specs.declared.laid.Key.{Key}
 
 -- the bytes of a location's record, its length byte included
 abbrev pub locationSize : ℕ → ℕ
@@ -36,5 +36,5 @@ pub record Laid (rest : List ℕ) (k : Counts) (offsets : List ℕ) (n : Network
   pub placed : EdgesAt k rest offsets (n .edges)
 
 -- what the code's edges are ordered by
-abbrev pub keyOf : code.Edge → List ℕ
-keyOf e = e .source ∷ e .target ∷ e .transition ∷ e .tested ∷ e .label .channel ∷ []
+abbrev pub keyOf : Key → List ℕ
+keyOf e = e .source ∷ e .target ∷ e .transition ∷ e .tested ∷ e .channel ∷ []

@@ -3,7 +3,7 @@ ghost use mathlib.Core.Path.{_≡_};
 ghost use mathlib.Core.Bool.{true, Bool·beq};
 ghost use lib.Dec.{ltb};
 ghost use Rattle.expr.specs.Lists.{all, any, has, implies};
-ghost use Rattle.network.specs.Network.{Network, inRange};
+ghost use Rattle.network.specs.Network.{Network};
 ghost use Rattle.network.specs.Machine.{edgeAt, flagsAgree, activeEdge, urgentAt};
 ghost use Rattle.network.specs.Edges.{Kept};
 ghost use Rattle.network.specs.Layout.{Located, Laid};
@@ -69,7 +69,6 @@ pub fn all_active(
     c: Configuration,
     list: &[u16],
 ) -> bool
-    requires { ⌜ inRange counts ≡ true ⌝ }
     ensures { λ r. ⌜ ((n : Network) → Laid (now (rest .entry)) counts (now (offsets .entry)) n → all (λ m. ltb m (counts .edges)) (now (list .entry)) ≡ true → r ≡ all (λ m. activeEdge n c (edgeAt n m)) (now (list .entry))) ⌝ }
 {
     let mut i = 0;
@@ -86,7 +85,6 @@ pub fn all_active(
 
 // Whether an edge of a list leaves an urgent location.
 pub fn any_urgent(rest: &[u8], counts: Counts, offsets: &[u32; 1024], list: &[u16]) -> bool
-    requires { ⌜ inRange counts ≡ true ⌝ }
     ensures { λ r. ⌜ ((n : Network) → Laid (now (rest .entry)) counts (now (offsets .entry)) n → all (λ m. ltb m (counts .edges)) (now (list .entry)) ≡ true → r ≡ any (λ m. urgentAt n (edgeAt n m .source)) (now (list .entry))) ⌝ }
 {
     let mut i = 0;

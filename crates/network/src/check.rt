@@ -8,7 +8,6 @@ ghost use Rattle.expr.specs.Label.{assignsOnce};
 ghost use Rattle.expr.specs.Places.{onward};
 ghost use Rattle.network.specs.Network.{Network, inRange, records, sound, networkOf};
 ghost use Rattle.network.specs.Layout.{Laid};
-ghost use Rattle.network.specs.declared.check.Finding.the-variants as Finding;
 ghost use Rattle.network.specs.Checks.{faultNumber, soundOf, CheckedAs, findingNumber, FindingFits};
 use crate::edge::read_edges;
 use crate::header::Counts;
@@ -21,15 +20,10 @@ use crate::location::read_locations;
 use expr::field::Fault;
 use expr::field::Reached;
 
+// The counts of a file that is right, or the number of the refusal.
 pub enum Finding {
     Counts(Counts),
     Refused(u8),
-}
-
-// The counts of a file that is right, with the offsets of its edges, or the number of the refusal.
-pub struct Checked {
-    pub finding: Finding,
-    pub offsets: [u32; 1024],
 }
 
 // 24 for a length, 25 for a field.
@@ -52,18 +46,8 @@ pub fn finding_number(f: Finding) -> u8
     }
 }
 
-fn not_checked(number: u8) -> Checked
-    ensures { λ r. ⌜ r .finding ≡ Finding.Refused number ⌝ }
-{
-    Checked {
-        finding: Finding::Refused(number),
-        offsets: [0; 1024],
-    }
-}
-
 // The rules of a file whose records are read.
 fn keeps_rules(rest: &[u8], counts: Counts, offsets: &[u32; 1024], once: bool) -> bool
-    requires { ⌜ inRange counts ≡ true ⌝ }
     ensures { λ r. ⌜ ((n : Network) → Laid (now (rest .entry)) counts (now (offsets .entry)) n → all (λ e. assignsOnce (e .label)) (n .edges) ≡ once → r ≡ sound n) ⌝ }
 {
     let initial = one_initial_each(rest, counts);
@@ -72,42 +56,38 @@ fn keeps_rules(rest: &[u8], counts: Counts, offsets: &[u32; 1024], once: bool) -
     initial & (joined & (ordered & once))
 }
 
-// The same of the bytes after version and length.
-fn check_rest(rest: &[u8], counts: Counts) -> Checked
+// The bytes after version and length. The offset of each edge is put down.
+fn check_rest(rest: &[u8], counts: Counts, offsets: &mut [u32; 1024]) -> Finding
     requires { ⌜ (inRange counts ≡ true) × (length (now rest) < 2 ^ 32) ⌝ }
-    ensures { λ r. ⌜ CheckedAs (now (rest .entry)) (r .offsets) (soundOf (records counts (onward (now (rest .entry)) 8))) (r .finding) ⌝ }
+    ensures { λ r. ⌜ (length (now (offsets .entry)) ≡ 1024 → CheckedAs (now (rest .entry)) (now (offsets .exit)) (soundOf (records counts (onward (now (rest .entry)) 8))) r) ⌝ }
 {
     let l = read_locations(rest, 8, counts);
     let Reached::At(at) = l else {
-        return not_checked(number_of(expr::field::reached_fault(l)));
+        return Finding::Refused(number_of(expr::field::reached_fault(l)));
     };
-    let e = read_edges(rest, at, counts);
+    let e = read_edges(rest, at, counts, offsets);
     let q = e.reached;
     let Reached::At(to) = q else {
-        return not_checked(number_of(expr::field::reached_fault(q)));
+        return Finding::Refused(number_of(expr::field::reached_fault(q)));
     };
     if to < rest.len() {
-        return not_checked(24);
+        return Finding::Refused(24);
     }
-    let offsets = e.offsets;
     let once = e.once;
-    if !keeps_rules(rest, counts, &offsets, once) {
-        return not_checked(25);
+    if !keeps_rules(rest, counts, offsets, once) {
+        return Finding::Refused(25);
     }
-    Checked {
-        finding: Finding::Counts(counts),
-        offsets,
-    }
+    Finding::Counts(counts)
 }
 
-// A whole file.
-pub fn check(file: &[u8]) -> Checked
-    ensures means { λ r. ⌜ CheckedAs (onward (now (file .entry)) 5) (r .offsets) (networkOf (now (file .entry))) (r .finding) ⌝ }
-    ensures within { λ r. ⌜ FindingFits (now (file .entry)) (r .finding) ⌝ }
+// A whole file. The offset of each edge is put down, from the sixth byte on.
+pub fn check(file: &[u8], offsets: &mut [u32; 1024]) -> Finding
+    ensures means { λ r. ⌜ (length (now (offsets .entry)) ≡ 1024 → CheckedAs (onward (now (file .entry)) 5) (now (offsets .exit)) (networkOf (now (file .entry))) r) ⌝ }
+    ensures within { λ r. ⌜ FindingFits (now (file .entry)) r ⌝ }
 {
     let h = read_header(file);
     let HeaderRead::Counts(counts) = h else {
-        return not_checked(24);
+        return Finding::Refused(24);
     };
-    check_rest(&file[5..], counts)
+    check_rest(&file[5..], counts, offsets)
 }

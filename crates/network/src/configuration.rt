@@ -13,6 +13,7 @@ use crate::location::automaton_of;
 use crate::location::is_urgent;
 use crate::location::keeps_bounds;
 
+#[repr(C)]
 pub struct Configuration {
     pub locations: [u8; Configuration::AUTOMATA],
     pub flags: [u8; Configuration::AUTOMATA],

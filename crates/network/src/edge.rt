@@ -98,17 +98,20 @@ fn read_values(s: &[u8], at: usize, written: u8) -> ByteRead
     }
 }
 
+// The channels, of which counts in range give at most 160.
 fn channels_of(counts: Counts) -> u8
-    requires { ⌜ inRange counts ≡ true ⌝ }
-    ensures { λ r. ⌜ r ≡ counts .rendezvous + counts .broadcasts ⌝ }
+    ensures { λ r. ⌜ (inRange counts ≡ true → r ≡ counts .rendezvous + counts .broadcasts) ⌝ }
 {
-    counts.rendezvous + counts.broadcasts
+    if counts.rendezvous <= 255 - counts.broadcasts {
+        counts.rendezvous + counts.broadcasts
+    } else {
+        255
+    }
 }
 
 // The label of an edge, from its place on.
 fn read_edge_label(s: &[u8], at: usize, counts: Counts) -> LabelRead
-    requires { ⌜ inRange counts ≡ true ⌝ }
-    ensures { λ r. ⌜ labelOf (now (s .entry)) r ≡ mapped heading (label (limits (counts .clocks) (counts .variables)) (counts .rendezvous + counts .broadcasts) (onward (now (s .entry)) at)) ⌝ }
+    ensures { λ r. ⌜ (inRange counts ≡ true → labelOf (now (s .entry)) r ≡ mapped heading (label (limits (counts .clocks) (counts .variables)) (counts .rendezvous + counts .broadcasts) (onward (now (s .entry)) at))) ⌝ }
 {
     let channels = channels_of(counts);
     expr::label::read_label(s, at, counts.clocks, counts.variables, channels)
@@ -116,8 +119,7 @@ fn read_edge_label(s: &[u8], at: usize, counts: Counts) -> LabelRead
 
 // The content of an edge's record.
 fn read_edge(s: &[u8], at: usize, counts: Counts) -> EdgeRead
-    requires { ⌜ inRange counts ≡ true ⌝ }
-    ensures { λ r. ⌜ edgeOf (now (s .entry)) r ≡ mapped edgeHeading (edgeIn counts (onward (now (s .entry)) at)) ⌝ }
+    ensures { λ r. ⌜ (inRange counts ≡ true → edgeOf (now (s .entry)) r ≡ mapped edgeHeading (edgeIn counts (onward (now (s .entry)) at))) ⌝ }
 {
     let a = expr::field::read_byte_below(s, at, counts.locations);
     let ByteRead::Value(source, at1) = a else {
@@ -198,8 +200,7 @@ fn with_body(e: Edge, body: usize) -> Edge
 
 // The edge's record at a place. The place of its body is one of the same bytes.
 pub fn edge_at(rest: &[u8], at: usize, counts: Counts) -> EdgeRead
-    requires { ⌜ inRange counts ≡ true ⌝ }
-    ensures { λ r. ⌜ EdgeHere counts (now (rest .entry)) r (recorded byte2 (edgeIn counts) (onward (now (rest .entry)) at)) ⌝ }
+    ensures { λ r. ⌜ (inRange counts ≡ true → EdgeHere counts (now (rest .entry)) r (recorded byte2 (edgeIn counts) (onward (now (rest .entry)) at))) ⌝ }
 {
     let p = expr::field::read_long_frame(rest, at);
     let Frame::Part(from, to) = p else {
@@ -217,20 +218,18 @@ pub fn edge_at(rest: &[u8], at: usize, counts: Counts) -> EdgeRead
     EdgeRead::Edge(with_body(e, body), to)
 }
 
-// What a pass over all edges finds: where it ends, whether all keep rule 13, and the offset of each.
+// What a pass over all edges finds: where it ends, and whether all keep rule 13.
 pub struct EdgesRead {
     pub reached: Reached,
     pub once: bool,
-    pub offsets: [u32; 1024],
 }
 
-// All edge records, from a place on.
-pub fn read_edges(rest: &[u8], at: usize, counts: Counts) -> EdgesRead
+// All edge records, from a place on. The offset of each is put down.
+pub fn read_edges(rest: &[u8], at: usize, counts: Counts, offsets: &mut [u32; 1024]) -> EdgesRead
     requires { ⌜ (inRange counts ≡ true) × (length (now rest) < 2 ^ 32) ⌝ }
     ensures means { λ r. ⌜ reached (now (rest .entry)) (r .once) (r .reached) ≡ mapped (all (λ e. assignsOnce (e .label))) (many (counts .edges) (recorded byte2 (edgeIn counts)) (onward (now (rest .entry)) at)) ⌝ }
-    ensures placed { λ r. ⌜ ((es : _) (t : _) → many (counts .edges) (recorded byte2 (edgeIn counts)) (onward (now (rest .entry)) at) ≡ got es t → EdgesAt counts (now (rest .entry)) (r .offsets) es) ⌝ }
+    ensures placed { λ r. ⌜ (length (now (offsets .entry)) ≡ 1024 → (es : _) (t : _) → many (counts .edges) (recorded byte2 (edgeIn counts)) (onward (now (rest .entry)) at) ≡ got es t → EdgesAt counts (now (rest .entry)) (now (offsets .exit)) es) ⌝ }
 {
-    let mut offsets = [0; 1024];
     let mut once = true;
     let mut place = at;
     let count = counts.edges as usize;
@@ -241,7 +240,6 @@ pub fn read_edges(rest: &[u8], at: usize, counts: Counts) -> EdgesRead
             return EdgesRead {
                 reached: Reached::Fault(edge_fault(e)),
                 once,
-                offsets,
             };
         };
         let label = edge.label;
@@ -253,6 +251,5 @@ pub fn read_edges(rest: &[u8], at: usize, counts: Counts) -> EdgesRead
     EdgesRead {
         reached: Reached::At(place),
         once,
-        offsets,
     }
 }

@@ -5,7 +5,7 @@ ghost use Prim.Native.Nat.{_<_};
 ghost use lib.Dec.{eqb};
 ghost use lib.ListN.{getD};
 ghost use Rattle.expr.specs.Lists.{all};
-ghost use Rattle.network.specs.Network.{Network, inRange, locationAt, ownerOf, lexLess, edgesAscend};
+ghost use Rattle.network.specs.Network.{Network, locationAt, ownerOf, key, lexLess, edgesAscend};
 ghost use Rattle.network.specs.Machine.{edgeAt};
 ghost use Rattle.network.specs.Edges.{Kept};
 ghost use Rattle.network.specs.Layout.{Located, Laid, keyOf};
@@ -14,10 +14,12 @@ use crate::edge::EdgeRead;
 use crate::edge::edge_at;
 use crate::header::Counts;
 use crate::location::automaton_of;
+use expr::field::byte_at;
+use expr::field::short_at;
 use expr::label::Label;
 
 // The offset of edge i, of which there are at most 1024.
-fn offset_of(offsets: &[u32; 1024], i: u16) -> u32
+pub fn offset_of(offsets: &[u32; 1024], i: u16) -> u32
     ensures { λ r. ⌜ (i < 1024 → r ≡ getD (now (offsets .entry)) i 0) ⌝ }
 {
     let j = i as usize;
@@ -47,7 +49,6 @@ fn no_edge() -> Edge {
 
 // Edge i of a checked file.
 pub fn edge_of(rest: &[u8], counts: Counts, offsets: &[u32; 1024], i: u16) -> Edge
-    requires { ⌜ inRange counts ≡ true ⌝ }
     ensures { λ r. ⌜ ((n : Network) → Laid (now (rest .entry)) counts (now (offsets .entry)) n → i < counts .edges → Kept counts (now (rest .entry)) r (edgeAt n i)) ⌝ }
 {
     let offset = offset_of(offsets, i);
@@ -58,8 +59,36 @@ pub fn edge_of(rest: &[u8], counts: Counts, offsets: &[u32; 1024], i: u16) -> Ed
     edge
 }
 
+// What edges are ordered by.
+pub struct Key {
+    pub source: u8,
+    pub target: u8,
+    pub transition: u8,
+    pub tested: u16,
+    pub channel: u8,
+}
+
+// The same of edge i of a checked file. Its bytes stand at fixed places of the record.
+fn key_of(rest: &[u8], offsets: &[u32; 1024], i: u16) -> Key
+    ensures { λ r. ⌜ ((k : _) (n : Network) → Laid (now (rest .entry)) k (now (offsets .entry)) n → i < k .edges → keyOf r ≡ key (edgeAt n i)) ⌝ }
+{
+    let at = offset_of(offsets, i) as usize;
+    let source = byte_at(rest, at + 2);
+    let target = byte_at(rest, at + 3);
+    let transition = byte_at(rest, at + 4);
+    let tested = short_at(rest, at + 6);
+    let channel = byte_at(rest, at + 13);
+    Key {
+        source,
+        target,
+        transition,
+        tested,
+        channel,
+    }
+}
+
 // Whether an edge joins two locations of one automaton.
-fn joins(rest: &[u8], counts: Counts, e: Edge) -> bool
+fn joins(rest: &[u8], counts: Counts, e: Key) -> bool
     ensures { λ r. ⌜ ((n : Network) → Located (now (rest .entry)) counts n → r ≡ eqb (locationAt n (e .source) .automaton) (locationAt n (e .target) .automaton)) ⌝ }
 {
     let from = automaton_of(rest, counts, e.source);
@@ -68,12 +97,11 @@ fn joins(rest: &[u8], counts: Counts, e: Edge) -> bool
 
 // Whether each edge does.
 pub fn all_join(rest: &[u8], counts: Counts, offsets: &[u32; 1024]) -> bool
-    requires { ⌜ inRange counts ≡ true ⌝ }
     ensures { λ r. ⌜ ((n : Network) → Laid (now (rest .entry)) counts (now (offsets .entry)) n → r ≡ all (λ e. eqb (ownerOf n e) (locationAt n (e .target) .automaton)) (n .edges)) ⌝ }
 {
     let mut i = 0;
     while i < counts.edges {
-        let e = edge_of(rest, counts, offsets, i);
+        let e = key_of(rest, offsets, i);
         if !joins(rest, counts, e) {
             return false;
         }
@@ -83,35 +111,32 @@ pub fn all_join(rest: &[u8], counts: Counts, offsets: &[u32; 1024]) -> bool
 }
 
 // The order of edges in a file.
-fn precedes(a: Edge, b: Edge) -> bool
-    ensures { λ r. ⌜ r ≡ lexLess (keyOf a) (keyOf b) ⌝ }
+fn precedes(x: Key, y: Key) -> bool
+    ensures { λ r. ⌜ r ≡ lexLess (keyOf x) (keyOf y) ⌝ }
 {
-    if a.source != b.source {
-        return a.source < b.source;
+    if x.source != y.source {
+        return x.source < y.source;
     }
-    if a.target != b.target {
-        return a.target < b.target;
+    if x.target != y.target {
+        return x.target < y.target;
     }
-    if a.transition != b.transition {
-        return a.transition < b.transition;
+    if x.transition != y.transition {
+        return x.transition < y.transition;
     }
-    if a.tested != b.tested {
-        return a.tested < b.tested;
+    if x.tested != y.tested {
+        return x.tested < y.tested;
     }
-    let x = a.label;
-    let y = b.label;
     x.channel < y.channel
 }
 
 // Whether the edges are in order, and none stands twice.
 pub fn all_ascend(rest: &[u8], counts: Counts, offsets: &[u32; 1024]) -> bool
-    requires { ⌜ inRange counts ≡ true ⌝ }
     ensures { λ r. ⌜ ((n : Network) → Laid (now (rest .entry)) counts (now (offsets .entry)) n → r ≡ edgesAscend (n .edges)) ⌝ }
 {
     let mut i = 1;
     while i < counts.edges {
-        let a = edge_of(rest, counts, offsets, i - 1);
-        let b = edge_of(rest, counts, offsets, i);
+        let a = key_of(rest, offsets, i - 1);
+        let b = key_of(rest, offsets, i);
         if !precedes(a, b) {
             return false;
         }

@@ -1,13 +1,17 @@
-// The network machine.
-pub mod active;
-pub mod after;
+// The network machine. The operations are in `operation`, and in place in `in_place`; what they answer with is in
+// `moved`, `configuration`, `check` and `header`.
+mod active;
+mod after;
 pub mod check;
+mod choice;
 pub mod configuration;
-pub mod edge;
+mod edge;
 pub mod header;
-pub mod initial;
-pub mod laid;
-pub mod location;
+pub mod in_place;
+mod initial;
+mod laid;
+mod location;
 pub mod moved;
 pub mod operation;
-pub mod wait;
+mod step;
+mod wait;

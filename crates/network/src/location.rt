@@ -104,9 +104,6 @@ pub fn is_initial(rest: &[u8], counts: Counts, i: u8) -> bool
 pub fn bounds_of(rest: &[u8], counts: Counts, i: u8) -> [u32; 8]
     ensures { λ r. ⌜ ((n : Network) → Located (now (rest .entry)) counts n → i < counts .locations → r ≡ locationAt n i .bounds) ⌝ }
 {
-    if counts.clocks > 8 {
-        return [4294967295; 8];
-    }
     let read = expr::clock::read_row(
         rest,
         location_place(counts.clocks, i, 4),

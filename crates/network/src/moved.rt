@@ -1,7 +1,7 @@
 // What a step or a wait answers.
 ghost use mathlib.Core.Path.{_≡_};
 ghost use Rattle.expr.specs.Answer.{refused};
-ghost use Rattle.network.specs.Answers.{movedOf};
+ghost use Rattle.network.specs.Answers.{movedOf, verdictNumber};
 use crate::configuration::Configuration;
 
 pub enum Verdict {
@@ -22,5 +22,24 @@ pub fn refused(number: u8, c: Configuration) -> Moved
     Moved {
         verdict: Verdict::Refused(number),
         configuration: c,
+    }
+}
+
+// The configuration after a call.
+pub fn configuration_of(m: Moved) -> Configuration
+    ensures { λ r. ⌜ r ≡ m .configuration ⌝ }
+{
+    let c = m.configuration;
+    c
+}
+
+// The number of a refusal, and 0 where the call was done.
+pub fn number_of(m: Moved) -> u8
+    ensures { λ r. ⌜ r ≡ verdictNumber (m .verdict) ⌝ }
+{
+    let v = m.verdict;
+    match v {
+        Verdict::Done => 0,
+        Verdict::Refused(number) => number,
     }
 }

@@ -4,7 +4,7 @@ use lib.ListN.{length}
 use Rattle.expr.proofs.Places.{answered}
 use Rattle.network.specs.Answers.{headerOf}
 use Rattle.network.proofs.Headers.{counts-at}
-use Rattle.network.proofs.Checking.{checked-refused, header-refused, checked-file, header-fits, rest-fits, refused-fits, finding-fits}
+use Rattle.network.proofs.Checking.{header-refused, checked-file, header-fits, rest-fits, finding-fits}
 use borrow.Author.Needs.{needs}
 use Rattle.network.proofs.check.check.Statement.{statement}
 use Rattle.network.proofs.check.check.Tie as tie
@@ -22,11 +22,8 @@ enum-known-h c = search needs
 enum-told : tie.Need-enum-told
 enum-told c = search needs
 
-not-checked-requires : tie.Need-not-checked-requires
-not-checked-requires c κs = search needs
-
 returns : tie.Need-returns
-returns c = (checked-refused _ _ (c .not-checked .ensures) (header-refused _ (answered headerOf (c .before .before .before .read-header .ensures .0) (c .before .enum-told .given .1))), refused-fits _ (c .not-checked .ensures))
+returns c = (λ f. header-refused _ (answered headerOf (c .before .before .read-header .ensures .0) (c .enum-told .given .1)), tt)
 
 sub-check-rest : tie.Need-sub-check-rest
 sub-check-rest c = omega (arith, fits c .0)
@@ -38,10 +35,10 @@ part-check-rest-end : tie.Need-part-check-rest-end
 part-check-rest-end c = search needs
 
 check-rest-requires : tie.Need-check-rest-requires
-check-rest-requires c κs = let k = c .before in (counts-at _ (answered headerOf (k .before .before .before .read-header .ensures .0) (k .before .h .given .1)) .1, rest-fits (k .before .before .before .before .before .args .file .now) (fits k))
+check-rest-requires c κs = let k = c .before .before in (counts-at _ (answered headerOf (k .before .before .before .read-header .ensures .0) (k .before .h .given .1)) .1, rest-fits (k .before .before .before .before .before .args .file .now) (fits k))
 
 returns-2 : tie.Need-returns-2
-returns-2 c = let k = c .before .before in (checked-file _ (answered headerOf (k .before .before .before .read-header .ensures .0) (k .before .h .given .1)) (c .check-rest .result .offsets) (c .check-rest .result .finding) (c .check-rest .ensures), finding-fits _ (c .check-rest .result .finding) (fits k .0))
+returns-2 c = let k = c .before .before .before in (λ f. checked-file _ (answered headerOf (k .before .before .before .read-header .ensures .0) (k .before .h .given .1)) _ (c .check-rest .result) (c .check-rest .ensures f), finding-fits _ (c .check-rest .result) (fits k .0))
 
 pub check-spec : {M : Type 1} → statement M
 check-spec =
@@ -50,7 +47,6 @@ check-spec =
     read-header-requires
     enum-known-h
     enum-told
-    not-checked-requires
     returns
     sub-check-rest
     part-check-rest-start

@@ -4,7 +4,7 @@ use Rattle.expr.specs.Answer.{refused}
 use Rattle.expr.proofs.Places.{answered}
 use borrow.Author.Tests.{not-true, not-false}
 use Rattle.network.specs.Checks.{faultNumber}
-use Rattle.network.proofs.Checking.{checked-refused, locations-fault, edges-fault, rest-fault, rules-broken, rules-kept}
+use Rattle.network.proofs.Checking.{locations-fault, edges-fault, rest-fault, rules-broken, rules-kept}
 use borrow.Author.Needs.{needs}
 use Rattle.network.proofs.check.check_rest.Statement.{statement}
 use Rattle.network.proofs.check.check_rest.Tie as tie
@@ -24,14 +24,11 @@ reached-fault-requires c κs = search needs
 number-of-requires : tie.Need-number-of-requires
 number-of-requires c κs = search needs
 
-not-checked-requires : tie.Need-not-checked-requires
-not-checked-requires c κs = search needs
-
 returns : tie.Need-returns
-returns c = let t = c .before .before .before in
+returns c = let t = c .before .before in
     let a = t .before .before .before .before .args in
-    checked-refused _ _ (c .not-checked .ensures) (locations-fault (a .counts) (a .rest .now) (t .enum-told .given .0 .0) (answered (reached _ tt) (t .before .before .read-locations .ensures) (t .enum-told .given .1))
-    ∙ ap refused (sym (c .before .number-of .ensures ∙ ap faultNumber (c .before .before .reached-fault .ensures ∙ ap reachedFault (t .enum-told .given .1)))))
+    λ f. locations-fault (a .counts) (a .rest .now) (t .enum-told .given .0 .0) (answered (reached _ tt) (t .before .before .read-locations .ensures) (t .enum-told .given .1))
+    ∙ ap refused (sym (c .number-of .ensures ∙ ap faultNumber (c .before .reached-fault .ensures ∙ ap reachedFault (t .enum-told .given .1))))
 
 read-edges-requires : tie.Need-read-edges-requires
 read-edges-requires c κs = search needs
@@ -48,48 +45,39 @@ reached-fault-requires-2 c κs = search needs
 number-of-requires-2 : tie.Need-number-of-requires-2
 number-of-requires-2 c κs = search needs
 
-not-checked-requires-2 : tie.Need-not-checked-requires-2
-not-checked-requires-2 c κs = search needs
-
 returns-2 : tie.Need-returns-2
-returns-2 c = let t = c .before .before .before in
+returns-2 c = let t = c .before .before in
     let e = t .before .before .read-edges in
-    let k = t .before .before .before in
+    let k = t .before .before .before .before in
     let a = k .before .before .before .before .before .args in
-    checked-refused _ _ (c .not-checked2 .ensures) (edges-fault (a .counts) (a .rest .now) _ (answered (reached _ tt) (k .before .before .before .read-locations .ensures) (k .before .l .given .1)) (t .enum-told2 .given .0 .0) (answered (reached _ (e .result .once)) (e .ensures .0) (t .enum-told2 .given .1))
-    ∙ ap refused (sym (c .before .number-of2 .ensures ∙ ap faultNumber (c .before .before .reached-fault2 .ensures ∙ ap reachedFault (t .enum-told2 .given .1)))))
-
-not-checked-requires-3 : tie.Need-not-checked-requires-3
-not-checked-requires-3 c κs = search needs
+    λ f. edges-fault (a .counts) (a .rest .now) _ (answered (reached _ tt) (k .before .before .before .read-locations .ensures) (k .before .l .given .1)) (t .enum-told2 .given .0 .0) (answered (reached _ (e .result .once)) (e .ensures .0) (t .enum-told2 .given .1))
+    ∙ ap refused (sym (c .number-of2 .ensures ∙ ap faultNumber (c .before .reached-fault2 .ensures ∙ ap reachedFault (t .enum-told2 .given .1))))
 
 returns-3 : tie.Need-returns-3
-returns-3 c = let d = c .before .before in
+returns-3 c = let d = c .before in
     let e = d .before .before .before .read-edges in
-    let k = d .before .before .before .before in
+    let k = d .before .before .before .before .before in
     let a = k .before .before .before .before .before .args in
-    checked-refused _ _ (c .not-checked3 .ensures) (rest-fault (a .counts) (a .rest .now) _ (answered (reached _ tt) (k .before .before .before .read-locations .ensures) (k .before .l .given .1)) _ _ (answered (reached _ (e .result .once)) (e .ensures .0) (d .before .q .given .1)) (c .before .if1 .taken))
+    λ f. rest-fault (a .counts) (a .rest .now) _ (answered (reached _ tt) (k .before .before .before .read-locations .ensures) (k .before .l .given .1)) _ _ (answered (reached _ (e .result .once)) (e .ensures .0) (d .before .q .given .1)) (c .if1 .taken)
 
 keeps-rules-requires : tie.Need-keeps-rules-requires
 keeps-rules-requires c κs = search needs
 
-not-checked-requires-4 : tie.Need-not-checked-requires-4
-not-checked-requires-4 c κs = search needs
-
 returns-4 : tie.Need-returns-4
-returns-4 c = let r = c .before .before in
-    let d = r .before .before .before .before in
+returns-4 c = let r = c .before in
+    let d = r .before .before .before in
     let e = d .before .before .before .read-edges in
-    let k = d .before .before .before .before in
+    let k = d .before .before .before .before .before in
     let a = k .before .before .before .before .before .args in
-    checked-refused _ _ (c .not-checked4 .ensures) (rules-broken (a .counts) (a .rest .now) _ (answered (reached _ tt) (k .before .before .before .read-locations .ensures) (k .before .l .given .1)) _ _ (answered (reached _ (e .result .once)) (e .ensures .0) (d .before .q .given .1)) (r .before .before .before .if1 .left) (k .before .before .before .before .before .pre .0) (e .result .offsets) (e .ensures .1) _ (r .keeps-rules .ensures) (not-true _ (c .before .if2 .taken)))
+    λ f. rules-broken (a .counts) (a .rest .now) _ (answered (reached _ tt) (k .before .before .before .read-locations .ensures) (k .before .l .given .1)) _ _ (answered (reached _ (e .result .once)) (e .ensures .0) (d .before .q .given .1)) (r .before .before .if1 .left) (k .before .before .before .before .before .pre .0) _ (e .ensures .1 f) _ (r .keeps-rules .ensures) (not-true _ (c .if2 .taken))
 
 returns-5 : tie.Need-returns-5
 returns-5 c = let r = c .before in
-    let d = r .before .before .before .before in
+    let d = r .before .before .before in
     let e = d .before .before .before .read-edges in
-    let k = d .before .before .before .before in
+    let k = d .before .before .before .before .before in
     let a = k .before .before .before .before .before .args in
-    rules-kept (a .counts) (a .rest .now) _ (answered (reached _ tt) (k .before .before .before .read-locations .ensures) (k .before .l .given .1)) _ _ (answered (reached _ (e .result .once)) (e .ensures .0) (d .before .q .given .1)) (r .before .before .before .if1 .left) (k .before .before .before .before .before .pre .0) (e .result .offsets) (e .ensures .1) _ (r .keeps-rules .ensures) (not-false _ (c .if2 .left))
+    λ f. rules-kept (a .counts) (a .rest .now) _ (answered (reached _ tt) (k .before .before .before .read-locations .ensures) (k .before .l .given .1)) _ _ (answered (reached _ (e .result .once)) (e .ensures .0) (d .before .q .given .1)) (r .before .before .if1 .left) (k .before .before .before .before .before .pre .0) _ (e .ensures .1 f) _ (r .keeps-rules .ensures) (not-false _ (c .if2 .left))
 
 pub check-rest-spec : {M : Type 1} → statement M
 check-rest-spec =
@@ -100,18 +88,14 @@ check-rest-spec =
     enum-told
     reached-fault-requires
     number-of-requires
-    not-checked-requires
     returns
     read-edges-requires
     enum-known-q
     enum-told-2
     reached-fault-requires-2
     number-of-requires-2
-    not-checked-requires-2
     returns-2
-    not-checked-requires-3
     returns-3
     keeps-rules-requires
-    not-checked-requires-4
     returns-4
     returns-5)

@@ -27,7 +27,7 @@ frame-fault-requires : tie.Need-frame-fault-requires
 frame-fault-requires c κs = search needs
 
 returns : tie.Need-returns
-returns c = rw (c .frame-fault .ensures ∙ ap frameFault (c .before .enum-told .given .1)) (recorded-fault _ _ _ (answered (frameOf _) (c .before .before .before .read-long-frame .ensures .0) (c .before .enum-told .given .1)))
+returns c = λ g. rw (c .frame-fault .ensures ∙ ap frameFault (c .before .enum-told .given .1)) (recorded-fault _ _ _ (answered (frameOf _) (c .before .before .before .read-long-frame .ensures .0) (c .before .enum-told .given .1)))
 
 sub-read-edge : tie.Need-sub-read-edge
 sub-read-edge c = fits c .0
@@ -48,16 +48,16 @@ enum-told-2 : tie.Need-enum-told-2
 enum-told-2 c = search needs
 
 returns-2 : tie.Need-returns-2
-returns-2 c = let k = c .before .before .before .before in
-    rw (c .enum-told2 .given .1) (edge-fault (k .before .before .before .before .before .args .counts) _ _ _ _ (answered (frameOf _) (k .before .before .before .read-long-frame .ensures .0) (k .before .p .given .1)) (c .enum-told2 .given .0 .0) (fits k .0) (fits k .1) (answered (edgeOf _) (c .before .before .read-edge .ensures) (c .enum-told2 .given .1)))
+returns-2 c = λ g. let k = c .before .before .before .before in
+    rw (c .enum-told2 .given .1) (edge-fault (k .before .before .before .before .before .args .counts) _ _ _ _ (answered (frameOf _) (k .before .before .before .read-long-frame .ensures .0) (k .before .p .given .1)) (c .enum-told2 .given .0 .0) (fits k .0) (fits k .1) (answered (edgeOf _) (c .before .before .read-edge .ensures g) (c .enum-told2 .given .1)))
 
 sub-if1 : tie.Need-sub-if1
 sub-if1 c = fits (c .before .before .before .before .before) .0
 
 returns-3 : tie.Need-returns-3
-returns-3 c = let q = c .before .before in
+returns-3 c = λ g. let q = c .before .before in
     let k = q .before .before .before .before in
-    edge-short (k .before .before .before .before .before .args .counts) _ _ _ _ (answered (frameOf _) (k .before .before .before .read-long-frame .ensures .0) (k .before .p .given .1)) _ _ (fits k .0) (fits k .1) (answered (edgeOf _) (q .before .before .read-edge .ensures) (q .q .given .1)) (c .if1 .taken)
+    edge-short (k .before .before .before .before .before .args .counts) _ _ _ _ (answered (frameOf _) (k .before .before .before .read-long-frame .ensures .0) (k .before .p .given .1)) _ _ (fits k .0) (fits k .1) (answered (edgeOf _) (q .before .before .read-edge .ensures g) (q .q .given .1)) (c .if1 .taken)
 
 body-place-requires : tie.Need-body-place-requires
 body-place-requires c κs = fits (c .before .before .before .before .before .before .before) .0
@@ -66,9 +66,9 @@ with-body-requires : tie.Need-with-body-requires
 with-body-requires c κs = search needs
 
 returns-4 : tie.Need-returns-4
-returns-4 c = let q = c .before .before .before .before .before in
+returns-4 c = λ g. let q = c .before .before .before .before .before in
     let k = q .before .before .before .before in
-    rw (c .with-body .ensures) (edge-here (k .before .before .before .before .before .args .counts) _ _ _ _ (answered (frameOf _) (k .before .before .before .read-long-frame .ensures .0) (k .before .p .given .1)) _ _ _ (fits k .0) (fits k .1) (answered (edgeOf _) (q .before .before .read-edge .ensures) (q .q .given .1)) (c .before .before .before .if1 .left) (c .before .body-place .ensures))
+    rw (c .with-body .ensures) (edge-here (k .before .before .before .before .before .args .counts) _ _ _ _ (answered (frameOf _) (k .before .before .before .read-long-frame .ensures .0) (k .before .p .given .1)) _ _ _ (fits k .0) (fits k .1) (answered (edgeOf _) (q .before .before .read-edge .ensures g) (q .q .given .1)) (c .before .before .before .if1 .left) (c .before .body-place .ensures))
 
 pub edge-at-spec : {M : Type 1} → statement M
 edge-at-spec =

@@ -25,7 +25,7 @@ byte-fault-requires c κs = search needs
 
 returns : tie.Need-returns
 unfolding edge
-returns c = rw (c .byte-fault .ensures ∙ ap byteFault (c .before .enum-told .given .1))
+returns c = λ g. rw (c .byte-fault .ensures ∙ ap byteFault (c .before .enum-told .given .1))
     (sym (mapped-fault _ (bind-fault _ _ _ (answered (byteOf _) (c .before .before .before .read-byte-below .ensures) (c .before .enum-told .given .1)))))
 
 read-byte-below-requires-2 : tie.Need-read-byte-below-requires-2
@@ -42,7 +42,7 @@ byte-fault-requires-2 c κs = search needs
 
 returns-2 : tie.Need-returns-2
 unfolding edge
-returns-2 c = rw (c .byte-fault2 .ensures ∙ ap byteFault (c .before .enum-told2 .given .1))
+returns-2 c = λ g. rw (c .byte-fault2 .ensures ∙ ap byteFault (c .before .enum-told2 .given .1))
     (sym (mapped-fault _ (bind-got _ _ _ (answered (byteOf _) (c .before .before .before .before .before .before .before .read-byte-below .ensures) (c .before .before .before .before .before .a .given .1))
     ∙ bind-fault _ _ _ (answered (byteOf _) (c .before .before .before .read-byte-below2 .ensures) (c .before .enum-told2 .given .1)))))
 
@@ -60,7 +60,7 @@ byte-fault-requires-3 c κs = search needs
 
 returns-3 : tie.Need-returns-3
 unfolding edge
-returns-3 c = rw (c .byte-fault3 .ensures ∙ ap byteFault (c .before .enum-told3 .given .1))
+returns-3 c = λ g. rw (c .byte-fault3 .ensures ∙ ap byteFault (c .before .enum-told3 .given .1))
     (sym (mapped-fault _ (bind-got _ _ _ (answered (byteOf _) (c .before .before .before .before .before .before .before .before .before .before .before .read-byte-below .ensures) (c .before .before .before .before .before .before .before .before .before .a .given .1))
     ∙ bind-got _ _ _ (answered (byteOf _) (c .before .before .before .before .before .before .before .read-byte-below2 .ensures) (c .before .before .before .before .before .b .given .1))
     ∙ bind-fault _ _ _ (answered (byteOf _) (c .before .before .before .read-byte-or-none .ensures) (c .before .enum-told3 .given .1)))))
@@ -79,7 +79,7 @@ byte-fault-requires-4 c κs = search needs
 
 returns-4 : tie.Need-returns-4
 unfolding edge
-returns-4 c = rw (c .byte-fault4 .ensures ∙ ap byteFault (c .before .enum-told4 .given .1))
+returns-4 c = λ g. rw (c .byte-fault4 .ensures ∙ ap byteFault (c .before .enum-told4 .given .1))
     (sym (mapped-fault _ (bind-got _ _ _ (answered (byteOf _) (c .before .before .before .before .before .before .before .before .before .before .before .before .before .before .before .read-byte-below .ensures) (c .before .before .before .before .before .before .before .before .before .before .before .before .before .a .given .1))
     ∙ bind-got _ _ _ (answered (byteOf _) (c .before .before .before .before .before .before .before .before .before .before .before .read-byte-below2 .ensures) (c .before .before .before .before .before .before .before .before .before .b .given .1))
     ∙ bind-got _ _ _ (answered (byteOf _) (c .before .before .before .before .before .before .before .read-byte-or-none .ensures) (c .before .before .before .before .before .t .given .1))
@@ -99,7 +99,7 @@ short-fault-requires c κs = search needs
 
 returns-5 : tie.Need-returns-5
 unfolding edge
-returns-5 c = rw (c .short-fault .ensures ∙ ap shortFault (c .before .enum-told5 .given .1))
+returns-5 c = λ g. rw (c .short-fault .ensures ∙ ap shortFault (c .before .enum-told5 .given .1))
     (sym (mapped-fault _ (bind-got _ _ _ (answered (byteOf _) (c .before .before .before .before .before .before .before .before .before .before .before .before .before .before .before .before .before .before .before .read-byte-below .ensures) (c .before .before .before .before .before .before .before .before .before .before .before .before .before .before .before .before .before .a .given .1))
     ∙ bind-got _ _ _ (answered (byteOf _) (c .before .before .before .before .before .before .before .before .before .before .before .before .before .before .before .read-byte-below2 .ensures) (c .before .before .before .before .before .before .before .before .before .before .before .before .before .b .given .1))
     ∙ bind-got _ _ _ (answered (byteOf _) (c .before .before .before .before .before .before .before .before .before .before .before .read-byte-or-none .ensures) (c .before .before .before .before .before .before .before .before .before .t .given .1))
@@ -120,7 +120,7 @@ short-fault-requires-2 c κs = search needs
 
 returns-6 : tie.Need-returns-6
 unfolding edge
-returns-6 c = rw (c .short-fault2 .ensures ∙ ap shortFault (c .before .enum-told6 .given .1))
+returns-6 c = λ g. rw (c .short-fault2 .ensures ∙ ap shortFault (c .before .enum-told6 .given .1))
     (sym (mapped-fault _ (bind-got _ _ _ (answered (byteOf _) (c .before .before .before .before .before .before .before .before .before .before .before .before .before .before .before .before .before .before .before .before .before .before .before .read-byte-below .ensures) (c .before .before .before .before .before .before .before .before .before .before .before .before .before .before .before .before .before .before .before .before .before .a .given .1))
     ∙ bind-got _ _ _ (answered (byteOf _) (c .before .before .before .before .before .before .before .before .before .before .before .before .before .before .before .before .before .before .before .read-byte-below2 .ensures) (c .before .before .before .before .before .before .before .before .before .before .before .before .before .before .before .before .before .b .given .1))
     ∙ bind-got _ _ _ (answered (byteOf _) (c .before .before .before .before .before .before .before .before .before .before .before .before .before .before .before .read-byte-or-none .ensures) (c .before .before .before .before .before .before .before .before .before .before .before .before .before .t .given .1))
@@ -142,7 +142,7 @@ byte-fault-requires-5 c κs = search needs
 
 returns-7 : tie.Need-returns-7
 unfolding edge
-returns-7 c = rw (c .byte-fault5 .ensures ∙ ap byteFault (c .before .enum-told7 .given .1))
+returns-7 c = λ g. rw (c .byte-fault5 .ensures ∙ ap byteFault (c .before .enum-told7 .given .1))
     (sym (mapped-fault _ (bind-got _ _ _ (answered (byteOf _) (c .before .before .before .before .before .before .before .before .before .before .before .before .before .before .before .before .before .before .before .before .before .before .before .before .before .before .before .read-byte-below .ensures) (c .before .before .before .before .before .before .before .before .before .before .before .before .before .before .before .before .before .before .before .before .before .before .before .before .before .a .given .1))
     ∙ bind-got _ _ _ (answered (byteOf _) (c .before .before .before .before .before .before .before .before .before .before .before .before .before .before .before .before .before .before .before .before .before .before .before .read-byte-below2 .ensures) (c .before .before .before .before .before .before .before .before .before .before .before .before .before .before .before .before .before .before .before .before .before .b .given .1))
     ∙ bind-got _ _ _ (answered (byteOf _) (c .before .before .before .before .before .before .before .before .before .before .before .before .before .before .before .before .before .before .before .read-byte-or-none .ensures) (c .before .before .before .before .before .before .before .before .before .before .before .before .before .before .before .before .before .t .given .1))
@@ -165,7 +165,7 @@ byte-fault-requires-6 c κs = search needs
 
 returns-8 : tie.Need-returns-8
 unfolding edge
-returns-8 c = rw (c .byte-fault6 .ensures ∙ ap byteFault (c .before .enum-told8 .given .1))
+returns-8 c = λ g. rw (c .byte-fault6 .ensures ∙ ap byteFault (c .before .enum-told8 .given .1))
     (sym (mapped-fault _ (bind-got _ _ _ (answered (byteOf _) (c .before .before .before .before .before .before .before .before .before .before .before .before .before .before .before .before .before .before .before .before .before .before .before .before .before .before .before .before .before .before .before .read-byte-below .ensures) (c .before .before .before .before .before .before .before .before .before .before .before .before .before .before .before .before .before .before .before .before .before .before .before .before .before .before .before .before .before .a .given .1))
     ∙ bind-got _ _ _ (answered (byteOf _) (c .before .before .before .before .before .before .before .before .before .before .before .before .before .before .before .before .before .before .before .before .before .before .before .before .before .before .before .read-byte-below2 .ensures) (c .before .before .before .before .before .before .before .before .before .before .before .before .before .before .before .before .before .before .before .before .before .before .before .before .before .b .given .1))
     ∙ bind-got _ _ _ (answered (byteOf _) (c .before .before .before .before .before .before .before .before .before .before .before .before .before .before .before .before .before .before .before .before .before .before .before .read-byte-or-none .ensures) (c .before .before .before .before .before .before .before .before .before .before .before .before .before .before .before .before .before .before .before .before .before .t .given .1))
@@ -176,7 +176,7 @@ returns-8 c = rw (c .byte-fault6 .ensures ∙ ap byteFault (c .before .enum-told
     ∙ bind-fault _ _ _ (answered (byteOf _) (c .before .before .before .read-values .ensures) (c .before .enum-told8 .given .1)))))
 
 read-edge-label-requires : tie.Need-read-edge-label-requires
-read-edge-label-requires c κs = c .before .before .before .before .before .before .before .before .before .before .before .before .before .before .before .before .before .before .before .before .before .before .before .before .before .before .before .before .before .before .before .before .before .pre
+read-edge-label-requires c κs = search needs
 
 enum-known-l : tie.Need-enum-known-l
 enum-known-l c = search needs
@@ -189,7 +189,7 @@ label-fault-requires c κs = search needs
 
 returns-9 : tie.Need-returns-9
 unfolding edge
-returns-9 c = rw (c .label-fault .ensures ∙ ap labelFault (c .before .enum-told9 .given .1))
+returns-9 c = λ g. rw (c .label-fault .ensures ∙ ap labelFault (c .before .enum-told9 .given .1))
     (sym (mapped-fault _ (bind-got _ _ _ (answered (byteOf _) (c .before .before .before .before .before .before .before .before .before .before .before .before .before .before .before .before .before .before .before .before .before .before .before .before .before .before .before .before .before .before .before .before .before .before .before .read-byte-below .ensures) (c .before .before .before .before .before .before .before .before .before .before .before .before .before .before .before .before .before .before .before .before .before .before .before .before .before .before .before .before .before .before .before .before .before .a .given .1))
     ∙ bind-got _ _ _ (answered (byteOf _) (c .before .before .before .before .before .before .before .before .before .before .before .before .before .before .before .before .before .before .before .before .before .before .before .before .before .before .before .before .before .before .before .read-byte-below2 .ensures) (c .before .before .before .before .before .before .before .before .before .before .before .before .before .before .before .before .before .before .before .before .before .before .before .before .before .before .before .before .before .b .given .1))
     ∙ bind-got _ _ _ (answered (byteOf _) (c .before .before .before .before .before .before .before .before .before .before .before .before .before .before .before .before .before .before .before .before .before .before .before .before .before .before .before .read-byte-or-none .ensures) (c .before .before .before .before .before .before .before .before .before .before .before .before .before .before .before .before .before .before .before .before .before .before .before .before .before .t .given .1))
@@ -198,11 +198,11 @@ returns-9 c = rw (c .label-fault .ensures ∙ ap labelFault (c .before .enum-tol
     ∙ bind-got _ _ _ (answered (shortOf _) (c .before .before .before .before .before .before .before .before .before .before .before .before .before .before .before .read-needed .ensures) (c .before .before .before .before .before .before .before .before .before .before .before .before .before .v .given .1))
     ∙ bind-got _ _ _ (answered (byteOf _) (c .before .before .before .before .before .before .before .before .before .before .before .read-byte .ensures .0) (c .before .before .before .before .before .before .before .before .before .w .given .1))
     ∙ bind-got _ _ _ (answered (byteOf _) (c .before .before .before .before .before .before .before .read-values .ensures) (c .before .before .before .before .before .y .given .1))
-    ∙ bind-fault _ _ _ (fault-at _ _ (answered (labelOf _) (c .before .before .before .read-edge-label .ensures) (c .before .enum-told9 .given .1))))))
+    ∙ bind-fault _ _ _ (fault-at _ _ (answered (labelOf _) (c .before .before .before .read-edge-label .ensures g) (c .before .enum-told9 .given .1))))))
 
 returns-10 : tie.Need-returns-10
 unfolding edge yield
-returns-10 c = let m = mapped-at heading _ (answered (labelOf _) (c .before .before .before .read-edge-label .ensures) (c .before .l .given .1)) in
+returns-10 c = λ g. let m = mapped-at heading _ (answered (labelOf _) (c .before .before .before .read-edge-label .ensures g) (c .before .l .given .1)) in
     edge-got _ (m .0) _ _ (bind-got _ _ _ (answered (byteOf _) (c .before .before .before .before .before .before .before .before .before .before .before .before .before .before .before .before .before .before .before .before .before .before .before .before .before .before .before .before .before .before .before .before .before .before .before .read-byte-below .ensures) (c .before .before .before .before .before .before .before .before .before .before .before .before .before .before .before .before .before .before .before .before .before .before .before .before .before .before .before .before .before .before .before .before .before .a .given .1))
     ∙ bind-got _ _ _ (answered (byteOf _) (c .before .before .before .before .before .before .before .before .before .before .before .before .before .before .before .before .before .before .before .before .before .before .before .before .before .before .before .before .before .before .before .read-byte-below2 .ensures) (c .before .before .before .before .before .before .before .before .before .before .before .before .before .before .before .before .before .before .before .before .before .before .before .before .before .before .before .before .before .b .given .1))
     ∙ bind-got _ _ _ (answered (byteOf _) (c .before .before .before .before .before .before .before .before .before .before .before .before .before .before .before .before .before .before .before .before .before .before .before .before .before .before .before .read-byte-or-none .ensures) (c .before .before .before .before .before .before .before .before .before .before .before .before .before .before .before .before .before .before .before .before .before .before .before .before .before .t .given .1))

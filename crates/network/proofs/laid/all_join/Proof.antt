@@ -22,15 +22,15 @@ abbrev μ-loop : tie.MeasureT-loop
 loop-holds : tie.Need-loop-holds Inv-loop μ-loop
 loop-holds c = λ n L. refl
 
-edge-of-requires : tie.Need-edge-of-requires Inv-loop μ-loop
-edge-of-requires c κs = c .before .before .before .before .pre
+key-of-requires : tie.Need-key-of-requires Inv-loop μ-loop
+key-of-requires c κs = search needs
 
 joins-requires : tie.Need-joins-requires Inv-loop μ-loop
 joins-requires c κs = search needs
 
 returns : tie.Need-returns Inv-loop μ-loop
 returns c = λ n L. let l = c .before .before .before in
-    sym (l .before .before .loop .inv n L ∙ all-stop _ (edges-next L _ (l .if1 .taken)) (edge-joins L (c .before .before .edge-of .ensures n L (l .if1 .taken)) (c .before .joins .ensures n (L .located)) ∙ not-true _ (c .if2 .taken)))
+    sym (l .before .before .loop .inv n L ∙ all-stop _ (edges-next L _ (l .if1 .taken)) (edge-joins L (c .before .before .key-of .result) _ (c .before .before .key-of .ensures _ n L (l .if1 .taken)) (c .before .joins .ensures n (L .located)) ∙ not-true _ (c .if2 .taken)))
 
 add-i : tie.Need-add-i Inv-loop μ-loop
 add-i c = omega arith
@@ -40,7 +40,7 @@ loop-less c = omega arith
 
 loop-again : tie.Need-loop-again Inv-loop μ-loop
 loop-again c = λ n L. let l = c .before .before .before in
-    l .before .before .loop .inv n L ∙ all-next _ (edges-next L _ (l .if1 .taken)) (edge-joins L (c .before .before .edge-of .ensures n L (l .if1 .taken)) (c .before .joins .ensures n (L .located)) ∙ not-false _ (c .if2 .left))
+    l .before .before .loop .inv n L ∙ all-next _ (edges-next L _ (l .if1 .taken)) (edge-joins L (c .before .before .key-of .result) _ (c .before .before .key-of .ensures _ n L (l .if1 .taken)) (c .before .joins .ensures n (L .located)) ∙ not-false _ (c .if2 .left))
 
 returns-2 : tie.Need-returns-2 Inv-loop μ-loop
 unfolding all
@@ -53,7 +53,7 @@ all-join-spec =
     Inv-loop
     μ-loop
     loop-holds
-    edge-of-requires
+    key-of-requires
     joins-requires
     returns
     add-i

@@ -23,11 +23,11 @@ no-edge-requires c κs = search needs
 
 returns : tie.Need-returns
 returns c = λ n L l. let a = c .before .before .before in
-    laid-there L _ l (a .before .offset-of .ensures) (a .edge-at .ensures) (c .before .enum-told .given .1)
+    laid-there L _ l (a .before .offset-of .ensures) (a .edge-at .ensures (L .located .in-range)) (c .before .enum-told .given .1)
 
 returns-2 : tie.Need-returns-2
 returns-2 c = λ n L l. let a = c .before .before .before in
-    laid-kept L _ l (a .before .offset-of .ensures) (a .edge-at .ensures) (c .before .e .given .1)
+    laid-kept L _ l (a .before .offset-of .ensures) (a .edge-at .ensures (L .located .in-range)) (c .before .e .given .1)
 
 pub edge-of-spec : {M : Type 1} → statement M
 edge-of-spec =

@@ -16,7 +16,7 @@ returns-4 : tie.Need-returns-4
 returns-4 c = let d = c .before .before in sym (lex-same _ _ (d .before .before .before .before .before .before .before .before .before .if1 .left) ∙ lex-same _ _ (d .before .before .before .before .before .before .if2 .left) ∙ lex-same _ _ (d .before .before .before .if3 .left) ∙ lex-first _ _ (d .if4 .taken))
 
 returns-5 : tie.Need-returns-5
-returns-5 c = let d = c .before .before .before .before in sym (lex-same _ _ (d .before .before .before .before .before .before .before .before .before .if1 .left) ∙ lex-same _ _ (d .before .before .before .before .before .before .if2 .left) ∙ lex-same _ _ (d .before .before .before .if3 .left) ∙ lex-same _ _ (d .if4 .left) ∙ lex-last _ _)
+returns-5 c = let d = c .before .before in sym (lex-same _ _ (d .before .before .before .before .before .before .before .before .before .if1 .left) ∙ lex-same _ _ (d .before .before .before .before .before .before .if2 .left) ∙ lex-same _ _ (d .before .before .before .if3 .left) ∙ lex-same _ _ (d .if4 .left) ∙ lex-last _ _)
 
 pub precedes-spec : {M : Type 1} → statement M
 precedes-spec = tie.close (tie.spec returns returns-2 returns-3 returns-4 returns-5)

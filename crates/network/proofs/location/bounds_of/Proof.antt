@@ -2,15 +2,12 @@ use mathlib.Core.Path.{ap, _∙_}
 use Prim.Native.Nat.{ℕ}
 use Rattle.expr.specs.Clocks.{row}
 use Rattle.expr.specs.Places.{onward}
+use Rattle.expr.proofs.Rows.{row-few}
 use Rattle.expr.proofs.Sizes.{reached-value}
 use Rattle.network.proofs.Records.{few-clocks, bounds-row}
-use native.Mathlib.Omega.{arith}
 use borrow.Author.Needs.{needs}
 use Rattle.network.proofs.location.bounds_of.Statement.{statement}
 use Rattle.network.proofs.location.bounds_of.Tie as tie
-
-returns : tie.Need-returns
-returns c = λ n L l. absurd (omega (arith, few-clocks L))
 
 location-place-requires : tie.Need-location-place-requires
 location-place-requires c κs = search needs
@@ -21,11 +18,11 @@ cast-read-row c = search needs
 read-row-requires : tie.Need-read-row-requires
 read-row-requires c κs = search needs
 
-returns-2 : tie.Need-returns-2
-returns-2 c = λ n L l. let q = c .before .read-row in
-    let a = c .before .before .before .before .before .before .before .args in
-    reached-value _ (q .result .row) (q .result .reached) (q .ensures ∙ ap (λ (p : ℕ). row (a .counts .clocks) (onward (a .rest .now) p)) (c .before .before .before .location-place .ensures) ∙ bounds-row L l)
+returns : tie.Need-returns
+returns c = λ n L l. let q = c .before .read-row in
+    let a = c .before .before .before .before .before .args in
+    reached-value _ (q .result .row) (q .result .reached) (q .ensures ∙ row-few _ _ (few-clocks L) ∙ ap (λ (p : ℕ). row (a .counts .clocks) (onward (a .rest .now) p)) (c .before .before .before .location-place .ensures) ∙ bounds-row L l)
 
 pub bounds-of-spec : {M : Type 1} → statement M
 bounds-of-spec =
-    tie.close (tie.spec returns location-place-requires cast-read-row read-row-requires returns-2)
+    tie.close (tie.spec location-place-requires cast-read-row read-row-requires returns)

@@ -1,7 +1,7 @@
 use mathlib.Core.Path.{sym, ap, _∙_}
 use native.Mathlib.Omega.{arith}
 use Prim.Native.Nat.{ℕ, _≤_}
-use lib.ListN.{length}
+use lib.ListN.{length, length-replicate}
 use Rattle.expr.specs.Answer.{refused}
 use Rattle.network.specs.Answers.{movedOf}
 use Rattle.network.specs.Checks.{findingNumber}
@@ -11,7 +11,7 @@ use Rattle.network.proofs.operation.wait.Statement.{statement}
 use Rattle.network.proofs.operation.wait.Tie as tie
 
 -- the file is longer than version and length
-fits : (k : tie.After-known-told) → 13 ≤ length (k .before .before .before .before .before .args .file .now)
+fits : (k : tie.After-known-told) → 13 ≤ length (k .before .before .before .before .before .before .args .file .now)
 fits k = found-fits _ (k .before .before .before .check .ensures .1) (k .before .finding .given .1)
 
 check-requires : tie.Need-check-requires
@@ -31,9 +31,9 @@ refused-requires c κs = search needs
 
 returns : tie.Need-returns
 returns c = let t = c .before .before in
-    let a = t .before .before .before .before .args in
+    let a = t .before .before .before .before .before .args in
     c .refused .ensures ∙ ap (λ (m : ℕ). movedOf (a .c) (refused m)) (c .before .finding-number .ensures ∙ ap findingNumber (t .enum-told .given .1))
-    ∙ ap (movedOf (a .c)) (sym (wait-refused _ (a .c) (a .ticks) (not-found _ (t .before .before .check .result .offsets) (t .before .before .check .ensures .0) (t .enum-told .given .1))))
+    ∙ ap (movedOf (a .c)) (sym (wait-refused _ (a .c) (a .ticks) (not-found _ _ (t .before .before .check .ensures .0 (length-replicate {A = ℕ} 1024 0)) (t .enum-told .given .1))))
 
 sub-wait-checked : tie.Need-sub-wait-checked
 sub-wait-checked c = omega (arith, fits c)
@@ -49,8 +49,8 @@ wait-checked-requires c κs = search needs
 
 returns-2 : tie.Need-returns-2
 returns-2 c = let k = c .before .before in
-    let a = k .before .before .before .before .before .args in
-    let w = found _ (k .before .before .before .check .result .offsets) (k .before .before .before .check .ensures .0) (k .before .finding .given .1) in
+    let a = k .before .before .before .before .before .before .args in
+    let w = found _ _ (k .before .before .before .check .ensures .0 (length-replicate {A = ℕ} 1024 0)) (k .before .finding .given .1) in
     c .wait-checked .ensures (w .0) (w .2 .located) ∙ ap (movedOf (a .c)) (sym (wait-done _ (a .c) (a .ticks) (w .1)))
 
 pub wait-spec : {M : Type 1} → statement M
