@@ -1,6 +1,6 @@
 -- The loops of the check over the transitions of a chart.
-use mathlib.Core.Path.{_≡_, refl, ap}
-use mathlib.Core.Bool.{Bool, true, false, not, Bool·beq}
+use mathlib.Core.Path.{_≡_, ap}
+use mathlib.Core.Bool.{true}
 use mathlib.Core.List.{List, [], _∷_}
 use Prim.Native.Nat.{ℕ, _+_, _≤_, _<_}
 use native.Mathlib.Omega.{arith}
@@ -15,14 +15,6 @@ use Rattle.chart.specs.Laid.{noTransition, Laid, apartFrom}
 use Rattle.chart.specs.declared.header.Counts.{Counts}
 use Rattle.chart.proofs.Tree.{unknown-basic, sequential-not-basic}
 use Rattle.chart.proofs.Step.{siblings-at, transition-mem}
-
-pub beq-true : (b : Bool) → Bool·beq true b ≡ b
-beq-true true = refl
-beq-true false = refl
-
-pub beq-false : (b : Bool) → Bool·beq false b ≡ not b
-beq-false true = refl
-beq-false false = refl
 
 -- what a loop over the transitions has left to see
 module _ {rest : List ℕ} {n : Counts} {offsets : List ℕ} {c : Chart} (L : Laid rest n offsets c) (i : ℕ) where

@@ -199,8 +199,8 @@ module _ (c : Chart) (t : Tree) (T : Tabled c t) (rule5 : parents c ≡ true) (r
 abbrev pub someEntered : Chart → List Transition → ℕ → Bool
 someEntered c ts s = any (λ t. entered c (t .destination) (t .entry) s) ts
 
--- one more move
-pub field-more : (f : Transition → ℕ) (ts : List Transition) (t : Transition) (l : List ℕ) (v i : ℕ) → map f ts ≡ take (length ts) l → i ≡ length ts → i < length l → v ≡ f t → map f (ts ++ (t ∷ [])) ≡ take (length (ts ++ (t ∷ []))) (set l i v)
+-- a table with one more element
+pub field-more : {A : Type 0} (f : A → ℕ) (ts : List A) (t : A) (l : List ℕ) (v i : ℕ) → map f ts ≡ take (length ts) l → i ≡ length ts → i < length l → v ≡ f t → map f (ts ++ (t ∷ [])) ≡ take (length (ts ++ (t ∷ []))) (set l i v)
 field-more f ts t l v i e q h k =
     map-append f ts (t ∷ []) ∙ ap (λ (x : List ℕ). x ++ (f t ∷ [])) (e ∙ ap (λ (n : ℕ). take n l) (sym q)) ∙ ap (λ (x : ℕ). take i l ++ (x ∷ [])) (sym k)
     ∙ sym (take-suc-set l i v h) ∙ ap (λ (n : ℕ). take n (set l i v)) (let z : suc i ≡ length (ts ++ (t ∷ [])) = omega (arith, length-append ts (t ∷ [])) in z)

@@ -9,13 +9,13 @@ use lib.ListN.{length, take, drop}
 use Rattle.expr.specs.Lists.{all}
 use Rattle.expr.specs.Answer.{Answer, done, refused, _>>=_}
 use Rattle.expr.specs.Reading as reading
-use Rattle.expr.specs.Reading.{Reader, got, fault, length-fault, yield, next, _>>_, byte, byte2, many, end, recorded, mapped, skipped}
+use Rattle.expr.specs.Reading.{Reader, got, fault, length-fault, yield, _>>_, byte, byte2, many, end, recorded, mapped, skipped}
 use Rattle.expr.specs.Places.{onward, faultOf}
 use Rattle.expr.specs.declared.field.Fault.{Fault}
 use Rattle.expr.specs.declared.field.Fault.the-variants as Fl
 use Rattle.expr.proofs.Answer.{unless-at, then-at as then-at-answer, done-injective}
 use Rattle.expr.proofs.Reading.{got-rest, bind-at, then-at, yield-at, many-at, mapped-got, mapped-at, fault-at}
-use Rattle.expr.proofs.Places.{bind-got, bind-fault, end-none, end-some, onward-onward, part-onward, length-onward}
+use Rattle.expr.proofs.Places.{bind-got, bind-fault, then-got, then-fault, end-none, end-some, onward-onward, part-onward, length-onward}
 use Rattle.chart.specs.Chart.{Chart, State, Transition, state, records, numbered, headed, inRange, countsOf, readChart}
 use Rattle.chart.specs.Rules.{parents, siblings, stateRules, transitionRules, keepsRules, chartOf}
 use Rattle.chart.specs.Layout.{transitionBy, once}
@@ -27,14 +27,6 @@ use Rattle.chart.specs.declared.table.Tree.{Tree}
 use Rattle.expr.proofs.Bools.{parts}
 use Rattle.chart.proofs.States.{stated}
 use Rattle.chart.proofs.Ranges.{counts-of-at}
-
-then-got : {A B : Type 0} (r : Reader A) (q : Reader B) (s : List ℕ) {a : A} {t : List ℕ} → r s ≡ got a t → _>>_ r q s ≡ q t
-unfolding _>>_ next
-then-got r q s h = rw h
-
-then-fault : {A B : Type 0} (r : Reader A) (q : Reader B) (s : List ℕ) {f : reading.Fault} → r s ≡ fault f → _>>_ r q s ≡ fault f
-unfolding _>>_ next
-then-fault r q s h = rw h
 
 abbrev statesOf : Counts → Reader (List State)
 statesOf n = many (n .states) (recorded byte (state (n .clocks) (n .entries) (n .exits)))

@@ -1,104 +1,27 @@
 -- Transition records in a checked file: where each stands, and where its fields do.
 use mathlib.Core.Path.{_≡_, refl, sym, ap, ap₂, _∙_, subst}
-use mathlib.Core.Bool.{Bool, true, false, cond, _&&_}
+use mathlib.Core.Bool.{Bool, true, _&&_}
 use mathlib.Core.List.{List, [], _∷_, _++_}
-use Prim.Native.Nat.{ℕ, zero, suc, _+_, _≤_, _<_}
+use Prim.Native.Nat.{ℕ, _+_, _≤_, _<_}
 use native.Mathlib.Omega.{arith}
 use native.Mathlib.Decide.{ℕ-discrete}
-use lib.Dec.{leb}
-use lib.ListN.{length, getD, set, take, drop, take-append-drop, List·getD-append, length-set}
+use lib.ListN.{length, getD, set, List·getD-append, length-set}
 use lib.Seq.{getD-set-same, getD-set-other, getD-append-seam}
 use Rattle.expr.specs.Lists.{all}
-use Rattle.expr.specs.Reading.{Fault, Read, got, fault, Reader, next, _>>=_, byte, byte2, such, many, end, framed, whole, recorded, mapped}
-use Rattle.expr.specs.Guard.{Limits, limits, relation, clock, ticks, dataGuard, clockGuard, differenceGuard, guard, update}
+use Rattle.expr.specs.Reading.{Fault, got, fault, Reader, byte2, many, recorded, mapped}
+use Rattle.expr.specs.Guard.{Limits, limits}
 use Rattle.expr.specs.Label.{Label, body, label}
 use Rattle.expr.specs.Places.{onward}
-use Rattle.expr.proofs.Reading.{no-answer, got-value, next-at, bind-at, such-at, yield-at, mapped-got, mapped-at, fault-at, mapped-bind}
-use Rattle.expr.proofs.Places.{length-onward, onward-onward}
-use Rattle.expr.proofs.InFront.{InFront, field-at, yield-front, bind-front, such-front, many-front, byte-front, byte4-front}
-use Rattle.expr.proofs.Sizes.{byte-takes, byte2-takes, onto, byte-value}
-use Rattle.expr.proofs.Expressions.{expression-front}
+use Rattle.expr.proofs.Reading.{got-value, next-at, bind-at, yield-at, mapped-got, mapped-at, fault-at}
+use Rattle.expr.proofs.Places.{onward-onward}
+use Rattle.expr.proofs.Labels.{body-front}
+use Rattle.expr.proofs.Sizes.{byte2-takes, recorded-part, byte-here}
 use Rattle.expr.proofs.Lists.{all-more}
 use Rattle.expr.proofs.Many.{Going, going-none, going-more, going-stop, going-all}
 use Rattle.chart.specs.Chart.{Chart, Transition, transition, transitionAt}
 use Rattle.chart.specs.Layout.{transitionBy}
 use Rattle.chart.specs.Laid.{Laid}
 use Rattle.chart.specs.declared.header.Counts.{Counts}
-
--- a record whose content is looked at as f has it
-pub mapped-recorded : {A B : Type 0} (f : A → B) (size : Reader ℕ) (r : Reader A) (s : List ℕ) → mapped f (recorded size r s) ≡ recorded size (λ p. mapped f (r p)) s
-unfolding recorded mapped next whole _>>=_
-mapped-recorded {A} {B} f size r s = mapped-bind f (framed size) (whole r) s ∙ go (framed size s)
-  where
-    closed : (t : List ℕ) (a : A) (e : Read (Unit {0})) → mapped f (next e (λ x y. got a t)) ≡ next e (λ x y. got (f a) t)
-    closed t a (got x y) = refl
-    closed t a (fault g) = refl
-
-    used : (t : List ℕ) (q : Read A) → mapped f (next q (λ a u. next (end u) (λ x y. got a t))) ≡ next (mapped f q) (λ b u. next (end u) (λ x y. got b t))
-    used t (got a u) = closed t a (end u)
-    used t (fault g) = refl
-
-    go : (q : Read (List ℕ)) → next q (λ p t. mapped f (whole r p t)) ≡ next q (whole (λ p. mapped f (r p)))
-    go (got p t) = used t (r p)
-    go (fault g) = refl
-
--- a body is read in front, whatever follows it
-relation-front : InFront relation
-unfolding relation
-relation-front = bind-front _ _ (such-front _ _ byte-front) λ n. yield-front _
-
-ticks-front : InFront ticks
-unfolding ticks
-ticks-front = such-front _ _ byte4-front
-
-module _ (l : Limits) where
-  clock-front : InFront (clock l)
-  unfolding clock
-  clock-front = such-front _ _ byte-front
-
-  data-front : InFront (dataGuard l)
-  unfolding dataGuard
-  data-front = bind-front _ _ relation-front λ r. bind-front _ _ (expression-front _ _) λ a. bind-front _ _ (expression-front _ _) λ b. yield-front _
-
-  guards-front : (k : ℕ) → InFront (getD (dataGuard l ∷ clockGuard l ∷ differenceGuard l ∷ []) k (dataGuard l))
-  unfolding clockGuard differenceGuard
-  guards-front zero = data-front
-  guards-front (suc zero) = bind-front _ _ clock-front λ c. bind-front _ _ relation-front λ r. bind-front _ _ ticks-front λ n. yield-front _
-  guards-front (suc (suc zero)) = bind-front _ _ clock-front λ c. bind-front _ _ clock-front λ d. bind-front _ _ relation-front λ r. bind-front _ _ ticks-front λ n. yield-front _
-  guards-front (suc (suc (suc k))) = data-front
-
-  guard-front : InFront (guard l)
-  unfolding guard
-  guard-front = bind-front _ _ (such-front _ _ byte-front) λ k. guards-front k
-
-  update-front : InFront (update l)
-  unfolding update
-  update-front = bind-front _ _ (such-front _ _ byte-front) λ v. bind-front _ _ (expression-front _ _) λ e. yield-front _
-
-  pub body-front : InFront (body l)
-  unfolding body
-  body-front = bind-front _ _ byte-front λ g. bind-front _ _ byte-front λ a. bind-front _ _ (many-front g _ guard-front) λ gs. bind-front _ _ (many-front a _ update-front) λ us. yield-front _
-
--- a record's content is a part of the bytes after its length
-pub recorded-part : {A : Type 0} (size : Reader ℕ) (r : Reader A) (s : List ℕ) {a : A} {t : List ℕ} → recorded size r s ≡ got a t
-    → (n : ℕ) × (u : List ℕ) × (p : List ℕ) × (v : List ℕ) × (w : List ℕ) × (size s ≡ got n u) × (p ++ v ≡ u) × (r p ≡ got a w)
-unfolding recorded framed whole
-recorded-part {A} size r s {a} {t} h =
-    let w = bind-at (framed size) _ s h in
-    let z = bind-at size _ s (w .2) in
-    let x = next-at (r (w .0)) _ (w .3) in
-    let e = next-at (end (x .1)) _ (x .3) in
-    let p = part (z .0) (z .1) (leb (z .0) (length (z .1))) (z .3) in
-    (z .0, z .1, w .0, drop (z .0) (z .1), x .1, z .2, ap (λ (l : List ℕ). l ++ drop (z .0) (z .1)) p ∙ take-append-drop (z .0) (z .1), x .2 ∙ ap (λ (y : A). got y (x .1)) (got-value (e .3)))
-  where
-    part : {p v : List ℕ} (n : ℕ) (u : List ℕ) (b : Bool) → cond b (got (take n u) (drop n u)) (fault Fault.length-fault) ≡ got p v → p ≡ take n u
-    part n u true k = cc
-    part n u false k = no-answer k
-
--- a record that is read stands before the end
-pub recorded-before : {A : Type 0} (r : Reader A) (s : List ℕ) (at : ℕ) {a : A} {t : List ℕ} → recorded byte2 r (onward s at) ≡ got a t → at < length s
-unfolding byte2
-recorded-before r s at h = let w = recorded-part byte2 r (onward s at) h in omega (arith, field-at 2 _ (onward s at) (w .5) .0, length-onward s at)
 
 -- the fields of a transition whose record stands at a place
 pub record Parts (l : Limits) (s : List ℕ) (at : ℕ) (x : Transition) : Type 0 where
@@ -110,17 +33,6 @@ pub record Parts (l : Limits) (s : List ℕ) (at : ℕ) (x : Transition) : Type 
   pub channel : getD s (at + 7) 0 ≡ x .label .channel
   pub resets : getD s (at + 8) 0 ≡ x .label .resets
   pub content : (t : List ℕ) × (body l (onward s (at + 9)) ≡ got (x .label .body) t)
-
-plus-one : (at k : ℕ) → at + k + 1 ≡ at + (k + 1)
-plus-one at k = omega arith
-
--- a byte that is read in front of what follows, and where it stands
-byte-here : {B : Type 0} (s v : List ℕ) (at m : ℕ) (test : ℕ → Bool) (k : ℕ → Reader B) (q : List ℕ) {b : B} {w : List ℕ} → q ++ v ≡ onward s (at + m) → (such byte test >>= k) q ≡ got b w
-    → (z : ℕ) × (u : List ℕ) × (getD s (at + m) 0 ≡ z) × (u ++ v ≡ onward s (at + (m + 1))) × (k z u ≡ got b w)
-byte-here s v at m test k q e h =
-    let a = bind-at (such byte test) k q h in
-    let f = onto s (at + m) 1 byte (at + (m + 1)) e byte-takes (plus-one at m) (byte-front .alike q v (such-at byte test q (a .2) .1)) in
-    (a .0, a .1, byte-value s (at + m) (f .0), f .1, a .3)
 
 -- the fields of a label
 record LabelParts (l : Limits) (s : List ℕ) (at : ℕ) (x : Label) : Type 0 where

@@ -8,7 +8,7 @@ use Rattle.expr.proofs.Answer.{then-at, refused-not}
 use Rattle.chart.specs.Chart.{Chart, countsOf, readChart}
 use Rattle.chart.proofs.Ranges.{counts-of-at, headed-long}
 use Rattle.chart.specs.Rules.{chartOf}
-use Rattle.chart.specs.Machine.{start, wait, startOf, waitOf}
+use Rattle.chart.specs.Machine.{start, step, wait, startOf, stepOf, waitOf}
 use Rattle.chart.specs.Ready.{verdict}
 use Rattle.chart.specs.declared.configuration.Configuration.{Configuration}
 
@@ -30,6 +30,14 @@ module _ (file : List ℕ) where
   pub start-passed : {c : Chart} → chartOf file ≡ done c → startOf file ≡ done (start c)
   unfolding startOf _>>=_
   start-passed h = rw h
+
+  pub step-refused : (σ : Configuration) (ms : List ℕ) {k : ℕ} → chartOf file ≡ refused k → stepOf file σ ms ≡ refused k
+  unfolding stepOf _>>=_
+  step-refused σ ms h = rw h
+
+  pub step-passed : (σ : Configuration) (ms : List ℕ) {c : Chart} → chartOf file ≡ done c → stepOf file σ ms ≡ step c σ ms
+  unfolding stepOf _>>=_
+  step-passed σ ms h = rw h
 
   pub wait-refused : (σ : Configuration) (d : ℕ) {k : ℕ} → chartOf file ≡ refused k → waitOf file σ d ≡ refused k
   unfolding waitOf _>>=_

@@ -1,5 +1,8 @@
-// The check of charts, and the chart machine.
-pub mod activity;
+// The check of charts, and the chart machine. The operations are in `check` and `machine`; what they answer with is
+// there, in `configuration`, `header`, `rule` and `table`. The flattener reads a checked chart by `entry`, `state`,
+// `table` and `transition`.
+mod activity;
+mod allowed;
 pub mod check;
 pub mod configuration;
 pub mod entry;
@@ -8,5 +11,7 @@ pub mod machine;
 pub mod rule;
 pub mod state;
 pub mod table;
+mod taken;
 pub mod transition;
-pub mod transition_rule;
+mod transition_list;
+mod transition_rule;

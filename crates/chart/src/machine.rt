@@ -1,21 +1,24 @@
-// The chart machine: start and wait.
+// The chart machine: start, step and wait.
 ghost use mathlib.Core.Path.{_≡_};
 ghost use Prim.Native.Nat.{_<_};
 ghost use Rattle.chart.specs.Chart.{Chart};
 ghost use Rattle.chart.specs.Layout.{Stated};
-ghost use Rattle.chart.specs.Machine.{boundsKept, isConfiguration, wait, startOf, waitOf};
+ghost use Rattle.chart.specs.Machine.{boundsKept, isConfiguration, tested, step, wait, startOf, stepOf, waitOf};
 ghost use Rattle.chart.specs.Outcomes.{outcomeOf, zeroConfiguration, boundKept, Grown};
 ghost use Rattle.chart.specs.declared.configuration.Configuration.{Configuration as Given};
+ghost use Rattle.chart.specs.Ready.{Ready};
 ghost use Rattle.expr.specs.Answer.{refused};
 use crate::activity::is_tree;
+use crate::allowed::all_active;
+use crate::allowed::is_allowed;
 use crate::check::checked;
 use crate::configuration::Configuration;
-use crate::entry::start_active;
 use crate::header::Counts;
 use crate::rule::Checked;
 use crate::state::bounds_of;
 use crate::table::Tree;
 use crate::table::is_in;
+use crate::taken;
 
 // Passed, with the next configuration; or refused, with the one given.
 pub struct Outcome {
@@ -79,6 +82,48 @@ fn refuse(k: u8, given: Configuration) -> Outcome
     }
 }
 
+// The next configuration, or 21 and the one given where a bound is broken.
+fn tested(rest: &[u8], counts: Counts, given: Configuration, next: Configuration) -> Outcome
+    ensures { λ r. ⌜ ((c : Chart) → Stated (now (rest .entry)) counts c → r ≡ outcomeOf given (tested c next)) ⌝ }
+{
+    let active = next.active;
+    let clocks = next.clocks;
+    if !bounds_kept(rest, counts, active, clocks) {
+        return refuse(21, given);
+    }
+    Outcome {
+        answer: Checked::Passed,
+        configuration: next,
+    }
+}
+
+// The transitions of the list are taken.
+fn step_checked(
+    rest: &[u8],
+    counts: Counts,
+    offsets: &[u32],
+    tree: Tree,
+    given: Configuration,
+    list: &[u16],
+) -> Outcome
+    ensures { λ r. ⌜ ((c : Chart) → Ready (now (rest .entry)) counts (now (offsets .entry)) tree c → r ≡ outcomeOf given (step c given (now (list .entry)))) ⌝ }
+{
+    if !is_configuration(rest, counts, tree, given) {
+        return refuse(17, given);
+    }
+    if !expr::step::known(list, counts.transitions as usize) {
+        return refuse(18, given);
+    }
+    if !all_active(rest, counts, offsets, tree, given, list) {
+        return refuse(19, given);
+    }
+    if !is_allowed(rest, counts, offsets, tree, given, list) {
+        return refuse(20, given);
+    }
+    let next = taken::after(rest, counts, offsets, tree, given, list);
+    tested(rest, counts, given, next)
+}
+
 // So many ticks later.
 fn wait_checked(
     rest: &[u8],
@@ -104,26 +149,21 @@ fn wait_checked(
         return refuse(22, given);
     }
     let after = delayed.clocks;
-    if !bounds_kept(rest, counts, active, after) {
-        return refuse(21, given);
-    }
-    Outcome {
-        answer: Checked::Passed,
-        configuration: Configuration {
-            active,
-            variables,
-            clocks: after,
-        },
-    }
+    let moved = Configuration {
+        active,
+        variables,
+        clocks: after,
+    };
+    tested(rest, counts, given, moved)
 }
 
 fn zero_configuration() -> Configuration
     ensures { λ r. ⌜ r ≡ zeroConfiguration ⌝ }
 {
     Configuration {
-        active: [false; 48],
-        variables: [0; 16],
-        clocks: [0; 8],
+        active: [false; Configuration::STATES],
+        variables: [0; Configuration::VARIABLES],
+        clocks: [0; Configuration::CLOCKS],
     }
 }
 
@@ -139,15 +179,28 @@ pub fn start(file: &[u8]) -> Outcome
             configuration: zero_configuration(),
         };
     };
-    let active = start_active(f.tree);
     Outcome {
         answer: Checked::Passed,
-        configuration: Configuration {
-            active,
-            variables: [0; 16],
-            clocks: [0; 8],
-        },
+        configuration: Configuration::start(f.tree),
     }
+}
+
+// The transitions of the list are taken, for a file.
+pub fn step(file: &[u8], given: Configuration, list: &[u16]) -> Outcome
+    ensures { λ r. ⌜ r ≡ outcomeOf given (stepOf (now (file .entry)) given (now (list .entry))) ⌝ }
+{
+    let f = checked(file);
+    let verdict = f.verdict;
+    let Checked::Passed = verdict else {
+        return Outcome {
+            answer: verdict,
+            configuration: given,
+        };
+    };
+    let counts = f.counts;
+    let offsets = f.offsets;
+    let tree = f.tree;
+    step_checked(&file[3..file.len()], counts, &offsets, tree, given, list)
 }
 
 // So many ticks later, for a file.

@@ -114,9 +114,6 @@ pub fn exits_of(rest: &[u8], counts: Counts, s: u8) -> u8
 pub fn bounds_of(rest: &[u8], counts: Counts, s: u8) -> [u32; 8]
     ensures { λ r. ⌜ ((c : Chart) → Stated (now (rest .entry)) counts c → s < counts .states → r ≡ stateAt c s .bounds) ⌝ }
 {
-    if counts.clocks > 8 {
-        return [4294967295; 8];
-    }
     let read = expr::clock::read_row(
         rest,
         state_place(counts.clocks, s) + 6,

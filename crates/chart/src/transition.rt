@@ -1,142 +1,13 @@
-// The transition records of a chart file.
+// The fields of a transition's record, in a checked file.
 ghost use mathlib.Core.Path.{_≡_};
-ghost use mathlib.Core.Bool.{true, _&&_};
-ghost use mathlib.Core.List.{List};
-ghost use Prim.Native.Nat.{ℕ, _+_, _≤_, _<_};
-ghost use lib.ListN.{getD, length};
-ghost use Rattle.expr.specs.Lists.{all};
-ghost use Rattle.expr.specs.Reading.{got, byte2, many, recorded, mapped};
-ghost use Rattle.expr.specs.Places.{onward, reached};
-ghost use Rattle.chart.specs.Layout.{transitionBy, once, stopped};
-ghost use Rattle.chart.specs.Chart.{Chart, Transition, inRange, transitionAt};
-ghost use Rattle.chart.specs.Laid.{Placed, Laid};
+ghost use Prim.Native.Nat.{_+_, _<_};
+ghost use lib.ListN.{getD};
+ghost use Rattle.chart.specs.Chart.{Chart, transitionAt};
+ghost use Rattle.chart.specs.Laid.{Laid};
 use crate::header::Counts;
-use expr::field::ByteRead;
-use expr::field::Fault;
-use expr::field::Frame;
-use expr::field::Reached;
-use expr::label::LabelRead;
-
-// Where a transition ends, and whether its label keeps rule 13.
-pub struct TransitionRead {
-    pub reached: Reached,
-    pub once: bool,
-}
-
-fn no_transition(f: Fault) -> TransitionRead
-    ensures { λ r. ⌜ r .reached ≡ stopped f ⌝ }
-{
-    TransitionRead {
-        reached: Reached::Fault(f),
-        once: false,
-    }
-}
-
-// The content of a transition's record.
-fn read_transition(s: &[u8], at: usize, counts: Counts) -> TransitionRead
-    requires { ⌜ inRange counts ≡ true ⌝ }
-    ensures { λ r. ⌜ reached (now (s .entry)) (r .once) (r .reached) ≡ mapped once (transitionBy counts (onward (now (s .entry)) at)) ⌝ }
-{
-    let channels = counts.rendezvous + counts.broadcasts;
-    let a = expr::field::read_byte_below(s, at, counts.states);
-    let ByteRead::Value(_, at1) = a else {
-        return no_transition(expr::field::byte_fault(a));
-    };
-    let d = expr::field::read_byte_below(s, at1, counts.states);
-    let ByteRead::Value(_, at2) = d else {
-        return no_transition(expr::field::byte_fault(d));
-    };
-    let x = expr::field::read_byte_or_none(s, at2, counts.exits);
-    let ByteRead::Value(_, at3) = x else {
-        return no_transition(expr::field::byte_fault(x));
-    };
-    let e = expr::field::read_byte_or_none(s, at3, counts.entries);
-    let ByteRead::Value(_, at4) = e else {
-        return no_transition(expr::field::byte_fault(e));
-    };
-    let l = expr::label::read_label(s, at4, counts.clocks, counts.variables, channels);
-    let LabelRead::Label(label, next) = l else {
-        return no_transition(expr::label::label_fault(l));
-    };
-    TransitionRead {
-        reached: Reached::At(next),
-        once: label.once,
-    }
-}
-
-// The transition's record at a place.
-fn transition_at(s: &[u8], at: usize, counts: Counts) -> TransitionRead
-    requires { ⌜ inRange counts ≡ true ⌝ }
-    ensures { λ r. ⌜ reached (now (s .entry)) (r .once) (r .reached) ≡ mapped once (recorded byte2 (transitionBy counts) (onward (now (s .entry)) at)) ⌝ }
-{
-    let p = expr::field::read_long_frame(s, at);
-    let Frame::Part(from, to) = p else {
-        return no_transition(expr::field::frame_fault(p));
-    };
-    let t = read_transition(&s[from..to], 0, counts);
-    let q = t.reached;
-    let reached = expr::field::whole(q, to - from, to);
-    TransitionRead {
-        reached,
-        once: t.once,
-    }
-}
-
-// The transitions are read: whether all keep rule 13, and where their records stand.
-pub struct TransitionsRead {
-    pub reached: Reached,
-    pub once: bool,
-    pub offsets: [u32; 64],
-}
-
-// A place of a file, which is below 65536.
-fn offset_of(place: usize) -> u32
-    ensures { λ r. ⌜ (place < 65536 → r ≡ place) ⌝ }
-{
-    if place < 65536 { place as u32 } else { 0 }
-}
-
-fn both(a: bool, b: bool) -> bool
-    ensures { λ r. ⌜ r ≡ (a && b) ⌝ }
-{
-    a && b
-}
-
-// The records of all transitions, from a place on.
-pub fn read_transitions(rest: &[u8], at: usize, counts: Counts) -> TransitionsRead
-    requires { ⌜ inRange counts ≡ true ⌝ }
-    ensures read { λ r. ⌜ reached (now (rest .entry)) (r .once) (r .reached) ≡ mapped (all once) (many (counts .transitions) (recorded byte2 (transitionBy counts)) (onward (now (rest .entry)) at)) ⌝ }
-    ensures placed { λ r. ⌜ ((ts : List Transition) (t : List ℕ) → length (now (rest .entry)) ≤ 65536 → many (counts .transitions) (recorded byte2 (transitionBy counts)) (onward (now (rest .entry)) at) ≡ got ts t → Placed (now (rest .entry)) counts (r .offsets) ts) ⌝ }
-{
-    let mut offsets = [0; 64];
-    let mut once = true;
-    let mut place = at;
-    let mut i = 0;
-    while i < counts.transitions {
-        let t = transition_at(rest, place, counts);
-        let q = t.reached;
-        let Reached::At(next) = q else {
-            return TransitionsRead {
-                reached: q,
-                once,
-                offsets,
-            };
-        };
-        let j = i as usize;
-        offsets[j] = offset_of(place);
-        once = both(once, t.once);
-        place = next;
-        i += 1;
-    }
-    TransitionsRead {
-        reached: Reached::At(place),
-        once,
-        offsets,
-    }
-}
 
 // Where the record of a transition stands.
-fn offset_at(offsets: &[u32], t: u8) -> u32
+pub fn offset_at(offsets: &[u32], t: u8) -> u32
     ensures { λ r. ⌜ r ≡ getD (now (offsets .entry)) t 0 ⌝ }
 {
     let i = t as usize;
@@ -192,4 +63,12 @@ pub fn resets_of(rest: &[u8], offsets: &[u32], t: u8) -> u8
     ensures { λ r. ⌜ ((c : Chart) (n : Counts) → Laid (now (rest .entry)) n (now (offsets .entry)) c → t < n .transitions → r ≡ transitionAt c t .label .resets) ⌝ }
 {
     field_at(rest, offsets, t, 8)
+}
+
+// Where the body of a transition's label stands: its guards and assignments.
+pub fn body_of(offsets: &[u32], t: u8) -> usize
+    ensures { λ r. ⌜ r ≡ getD (now (offsets .entry)) t 0 + 9 ⌝ }
+{
+    let place = offset_at(offsets, t) as usize;
+    place + 9
 }

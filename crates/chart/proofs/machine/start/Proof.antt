@@ -1,6 +1,5 @@
 use Rattle.expr.proofs.Places.{answered}
 use Rattle.chart.specs.Answers.{checkedOf}
-use Rattle.chart.specs.Machine.{start}
 use Rattle.chart.specs.Outcomes.{outcomeOf}
 use Rattle.chart.proofs.Waits.{verdict-refused-at, verdict-done-at, start-refused, start-passed}
 use borrow.Author.Needs.{needs}
@@ -23,15 +22,15 @@ returns : tie.Need-returns
 unfolding outcomeOf
 returns c = rw (c .zero-configuration .ensures, c .before .enum-told2 .given .1, start-refused _ (verdict-refused-at _ (answered checkedOf (c .before .before .before .checked .ensures .0) (c .before .enum-told2 .given .1))))
 
-start-active-requires : tie.Need-start-active-requires
-start-active-requires c κs = search needs
+start-requires : tie.Need-start-requires
+start-requires c κs = search needs
 
 returns-2 : tie.Need-returns-2
-unfolding outcomeOf start
+unfolding outcomeOf
 returns-2 c = let f = c .before .before .before .checked in
     let d = verdict-done-at _ (answered checkedOf (f .ensures .0) (c .before .enum-told .given .1)) in
     let R = f .ensures .1 (d .0) (d .1) in
-    rw (start-passed _ (d .1), c .start-active .ensures (d .0) (R .tabled) (R .parents) (R .entry-marks))
+    rw (start-passed _ (d .1), c .start .ensures (d .0) (R .tabled) (R .parents) (R .entry-marks))
 
 pub start-spec : {M : Type 1} → statement M
 start-spec =
@@ -42,5 +41,5 @@ start-spec =
     enum-told-2
     zero-configuration-requires
     returns
-    start-active-requires
+    start-requires
     returns-2)

@@ -1,14 +1,11 @@
 use mathlib.Core.Path.{_∙_}
-use native.Mathlib.Omega.{arith}
+use Rattle.expr.proofs.Rows.{row-few}
 use Rattle.expr.proofs.Sizes.{reached-value}
 use Rattle.chart.proofs.Ranges.{counts-range}
 use Rattle.chart.proofs.States.{bounds-here}
 use borrow.Author.Needs.{needs}
 use Rattle.chart.proofs.state.bounds_of.Statement.{statement}
 use Rattle.chart.proofs.state.bounds_of.Tie as tie
-
-returns : tie.Need-returns
-returns c = λ k S l. absurd (let r = counts-range _ (S .in-range) in omega arith)
 
 state-place-requires : tie.Need-state-place-requires
 state-place-requires c κs = search needs
@@ -22,10 +19,10 @@ cast-read-row c = search needs
 read-row-requires : tie.Need-read-row-requires
 read-row-requires c κs = search needs
 
-returns-2 : tie.Need-returns-2
-returns-2 c = λ k S l. reached-value _ (c .before .read-row .result .row) (c .before .read-row .result .reached) (c .before .read-row .ensures ∙ bounds-here S _ l _ (c .before .before .before .state-place .ensures .0))
+returns : tie.Need-returns
+returns c = λ k S l. reached-value _ (c .before .read-row .result .row) (c .before .read-row .result .reached) (c .before .read-row .ensures ∙ row-few _ _ (counts-range _ (S .in-range) .clocks-few) ∙ bounds-here S _ l _ (c .before .before .before .state-place .ensures .0))
 
 pub bounds-of-spec : {M : Type 1} → statement M
 bounds-of-spec =
     tie.close
-    (tie.spec returns state-place-requires add-read-row cast-read-row read-row-requires returns-2)
+    (tie.spec state-place-requires add-read-row cast-read-row read-row-requires returns)

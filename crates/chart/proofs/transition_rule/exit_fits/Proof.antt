@@ -3,7 +3,7 @@ use borrow.Author.Tests.{eq-eqb, ne-eqb}
 use mathlib.Core.Path.{sym}
 use Rattle.chart.specs.Chart.{basic}
 use Rattle.chart.specs.Rules.{exits}
-use Rattle.chart.proofs.Crossings.{beq-true, beq-false}
+use Rattle.expr.proofs.Bools.{beq-true, beq-false}
 use borrow.Author.Needs.{needs}
 use Rattle.chart.proofs.transition_rule.exit_fits.Statement.{statement}
 use Rattle.chart.proofs.transition_rule.exit_fits.Tie as tie

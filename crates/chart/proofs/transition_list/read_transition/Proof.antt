@@ -10,8 +10,8 @@ use Rattle.chart.specs.Chart.{transition}
 use Rattle.chart.specs.Layout.{once}
 use Rattle.chart.proofs.Ranges.{counts-range}
 use borrow.Author.Needs.{needs}
-use Rattle.chart.proofs.transition.read_transition.Statement.{statement}
-use Rattle.chart.proofs.transition.read_transition.Tie as tie
+use Rattle.chart.proofs.transition_list.read_transition.Statement.{statement}
+use Rattle.chart.proofs.transition_list.read_transition.Tie as tie
 
 add-channels : tie.Need-add-channels
 add-channels c = omega (arith, counts-range _ (c .before .before .pre))

@@ -5,10 +5,10 @@ use lib.ListN.{length}
 use Rattle.expr.specs.Places.{frameOf, frameFault}
 use Rattle.expr.proofs.Places.{recorded-got, recorded-fault, frame-fits, part-length, answered}
 use Rattle.expr.proofs.Reading.{mapped-fault}
-use Rattle.chart.proofs.Transitions.{mapped-recorded}
+use Rattle.expr.proofs.Skips.{mapped-recorded}
 use borrow.Author.Needs.{needs}
-use Rattle.chart.proofs.transition.transition_at.Statement.{statement}
-use Rattle.chart.proofs.transition.transition_at.Tie as tie
+use Rattle.chart.proofs.transition_list.transition_at.Statement.{statement}
+use Rattle.chart.proofs.transition_list.transition_at.Tie as tie
 
 fits : (c : tie.After-known-told) → (c .before .p .given .0 .0 ≤ c .before .p .given .0 .1 .0) × (c .before .p .given .0 .1 .0 ≤ length (c .before .before .before .before .before .args .s .now))
 fits c = frame-fits _ (c .before .before .before .read-long-frame .ensures .1) (c .before .p .given .1)

@@ -9,9 +9,10 @@ use Rattle.expr.proofs.Reading.{no-answer, mapped-fault, mapped-at}
 use Rattle.chart.specs.Layout.{transitionBy, once}
 use Rattle.chart.specs.Laid.{noTransition}
 use Rattle.chart.proofs.Ranges.{counts-range}
-use Rattle.chart.proofs.Transitions.{recorded-before, Kept, kept-none, kept-more, kept-stop, kept-all, kept-placed}
-use Rattle.chart.proofs.transition.read_transitions.Statement.{statement}
-use Rattle.chart.proofs.transition.read_transitions.Tie as tie
+use Rattle.expr.proofs.Sizes.{recorded-before}
+use Rattle.chart.proofs.Transitions.{Kept, kept-none, kept-more, kept-stop, kept-all, kept-placed}
+use Rattle.chart.proofs.transition_list.read_transitions.Statement.{statement}
+use Rattle.chart.proofs.transition_list.read_transitions.Tie as tie
 
 abbrev Inv-loop : tie.InvT-loop
 Inv-loop rest at counts offsets₀ once₀ place₀ i₀ offsets passed place i = Kept (recorded byte2 (transitionBy counts)) noTransition once (counts .transitions) rest (onward rest at) (onward rest place) i passed offsets
