@@ -26,26 +26,30 @@ use Rattle.flattener.proofs.Automata.{Region, regionAt, region-of-autom
 use Rattle.flattener.proofs.Sums.{sums-at, sums-by, sorted-at, sorted-by}
 
 -- the choices below s that its child r gives, if s is sequential
-choicesOf : ℕ → Chart → ℕ → ℕ → ℕ → List ℕ
+unfoldable pub choicesOf : ℕ → Chart → ℕ → ℕ → ℕ → List ℕ
 choicesOf n c e s r = elim (basic c r) [
   | true ↦ elim (has (stateAt c r .exits) e) [ true ↦ 2 ^ automaton c s ∷ [] | false ↦ [] ]
   | false ↦ choicesFrom n c e r
 ]
 
 module _ (n : ℕ) (c : Chart) (e s : ℕ) where
-  choices-parallel : parallel c s ≡ true → choicesFrom (suc n) c e s ≡ sumsOf (map (choicesFrom n c e) (children c s))
+  pub choices-parallel : parallel c s ≡ true → choicesFrom (suc n) c e s ≡ sumsOf (map (choicesFrom n c e) (children c s))
   unfolding choicesFrom
   choices-parallel h = rw (h, choicesFrom)
 
-  choices-sequential : parallel c s ≡ false → choicesFrom (suc n) c e s ≡ concat (choicesOf n c e s) (children c s)
+  pub choices-sequential : parallel c s ≡ false → choicesFrom (suc n) c e s ≡ concat (choicesOf n c e s) (children c s)
   unfolding choicesFrom choicesOf
   choices-sequential h = rw (h, choicesFrom)
 
-  of-basic : (r : ℕ) → basic c r ≡ true → has (stateAt c r .exits) e ≡ true → choicesOf n c e s r ≡ 2 ^ automaton c s ∷ []
+  pub of-basic : (r : ℕ) → basic c r ≡ true → has (stateAt c r .exits) e ≡ true → choicesOf n c e s r ≡ 2 ^ automaton c s ∷ []
   unfolding choicesOf
   of-basic r b h = rw (b, choicesOf) (rw h)
 
-  of-composite : (r : ℕ) → basic c r ≡ false → choicesOf n c e s r ≡ choicesFrom n c e r
+  pub of-unmarked : (r : ℕ) → basic c r ≡ true → has (stateAt c r .exits) e ≡ false → choicesOf n c e s r ≡ []
+  unfolding choicesOf
+  of-unmarked r b h = rw (b, choicesOf) (rw h)
+
+  pub of-composite : (r : ℕ) → basic c r ≡ false → choicesOf n c e s r ≡ choicesFrom n c e r
   unfolding choicesOf
   of-composite r b = rw (b, choicesOf)
 

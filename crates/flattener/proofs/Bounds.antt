@@ -82,7 +82,7 @@ unfolding carriedBy
 carried-none c s d z = rw (ne-eqb s 0 d, z)
 
 module _ (c : Chart) (tree : Parents c) where
-  enough : (n m s : ℕ) → s < size c → s < n → s < m → carriedFrom n c s ≡ carriedFrom m c s
+  pub enough : (n m s : ℕ) → s < size c → s < n → s < m → carriedFrom n c s ≡ carriedFrom m c s
   unfolding carriedFrom
   enough zero m s h a b = absurd (omega arith)
   enough (suc n) zero s h a b = absurd (omega arith)

@@ -21,8 +21,8 @@ use Rattle.expr.specs.Clocks.{isBound, clock-limit, no-bound, row}
 use Rattle.expr.proofs.Bools.{both, or-l, or-r, or-cases, implies-by}
 use Rattle.expr.proofs.Lists.{concat-length}
 use Rattle.expr.proofs.Answer.{unless-by}
-use Rattle.expr.proofs.Places.{bind-got, such-got}
-use Rattle.expr.proofs.Printed.{byte-front, byte2-front, byte4-front, such-front, end-front, then-got, bytes-front, many-printed, recorded-printed}
+use Rattle.expr.proofs.Places.{bind-got, then-got, such-got}
+use Rattle.expr.proofs.Printed.{byte-front, byte2-front, byte4-front, such-front, end-front, bytes-front, many-printed, recorded-printed}
 use Rattle.expr.proofs.Ranges.{Row, row-printed, LabelRange, label-printed}
 use Rattle.network.specs.Network.{Location, Edge, Network, location, edge, records, numbered, headed, countsAt, inRange, countsOf, readNetwork}
 use Rattle.network.specs.declared.header.Counts.{Counts}

@@ -1,1 +1,24 @@
-// The flattener.
+// The flattener. The operation is in `operation`.
+mod alternative;
+mod automaton;
+mod bear;
+mod below;
+mod body;
+mod bound;
+mod edge;
+mod flag;
+mod head;
+mod hear;
+mod location;
+mod number;
+pub mod operation;
+mod output;
+mod pair;
+mod place;
+mod record;
+mod source;
+mod summary;
+mod tabulate;
+mod transition;
+mod walk;
+mod write;

@@ -1,0 +1,39 @@
+use borrow.Author.Needs.{needs}
+use Rattle.flattener.proofs.Records.{writable-count}
+use Rattle.flattener.proofs.Outputs.{located, network-written}
+use Rattle.flattener.proofs.output.write_network.Statement.{statement}
+use Rattle.flattener.proofs.output.write_network.Tie as tie
+
+put-requires : tie.Need-put-requires
+put-requires c κs = search needs
+
+put-word-requires : tie.Need-put-word-requires
+put-word-requires c κs = search needs
+
+write-counts-requires : tie.Need-write-counts-requires
+write-counts-requires c κs = search needs
+
+write-locations-requires : tie.Need-write-locations-requires
+write-locations-requires c κs = search needs
+
+write-edges-requires : tie.Need-write-edges-requires
+write-edges-requires c κs = search needs
+
+same-length : tie.Need-same-length
+same-length c = search needs
+
+returns : tie.Need-returns
+returns c d S B W e =
+    network-written d _ S e (writable-count W) (c .before .before .before .before .before .before .before .before .before .before .before .before .before .before .before .before .before .before .put .ensures) (c .before .before .before .before .before .before .before .before .before .before .before .before .before .before .put-word .ensures) (c .before .before .before .before .before .before .before .before .before .before .write-counts .ensures) (c .before .before .before .before .before .before .write-locations .ensures d (located d _ S B) (S .clocks)) (c .before .before .write-edges .ensures d _ W)
+
+pub write-network-spec : {M : Type 1} → statement M
+write-network-spec =
+    tie.close
+    (tie.spec
+    put-requires
+    put-word-requires
+    write-counts-requires
+    write-locations-requires
+    write-edges-requires
+    same-length
+    returns)

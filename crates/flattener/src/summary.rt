@@ -1,0 +1,17 @@
+// What is known of a chart when its network is written.
+use crate::place::Places;
+use crate::transition::Transitions;
+use chart::header::Counts;
+use chart::table::Tree;
+
+// The counts, states, transitions and places of the chart, the number of each automaton's initial place, and how many
+// automata and broadcast channels the network has.
+pub struct Summary {
+    pub counts: Counts,
+    pub tree: Tree,
+    pub transitions: Transitions,
+    pub places: Places,
+    pub initials: [u8; 16],
+    pub automata: u8,
+    pub broadcasts: u8,
+}
