@@ -1,0 +1,121 @@
+/*
+ * Charts and networks: check, flatten, and run both machines.
+ *
+ * Link with liblibrary.a (x86-64 Linux), which `rt staticlib library` writes to target/staticlib. It keeps nothing between
+ * calls, allocates nothing, and calls nothing back. A program that only runs networks can link libnetwork.a instead
+ * (figrummy_network.h of the crate `network`), which has no chart in it.
+ *
+ * Everything that a function is given is the caller's before, during and after a call. A file or a list passes as a pointer to
+ * its first element and the number of its elements; it is read, never written, and every call checks a file from its first byte
+ * to its last. What a function writes, it is lent by a pointer: during the call nobody else may read or write it. No two
+ * things given to one call may share memory where one of them is written. A pointer is never null and is aligned; where the
+ * number of elements is 0, any such pointer will do. A bool is 0 or 1.
+ *
+ * Each function answers 0, or the number of the first refusal that applies; no call is forbidden. A refused call changes
+ * nothing that it was lent, not one byte.
+ */
+#ifndef FIGRUMMY_H
+#define FIGRUMMY_H
+
+#include <stddef.h>
+#include <stdint.h>
+#ifndef __cplusplus
+#include <stdbool.h>
+#endif
+
+#ifdef __cplusplus
+extern "C" {
+#endif
+
+/* The numbers of elements of what is lent. What a chart or a network does not declare is 0 (false). */
+#ifndef FIGRUMMY_SIZES
+#define FIGRUMMY_SIZES
+enum {
+    FIGRUMMY_AUTOMATA = 16,
+    FIGRUMMY_VARIABLES = 16,
+    FIGRUMMY_CLOCKS = 8
+};
+#endif
+enum {
+    FIGRUMMY_STATES = 48,
+    FIGRUMMY_CHART_BYTES = 65536 /* a longer chart file is refused */
+};
+
+/*
+ * Refusals of a chart file, all functions of charts, in order:
+ *    1      under 11 or over 65,536 bytes, or a wrong version or length
+ *    2      a count outside its range
+ *    3, 4   by place: a record's length that disagrees with its content or the file; a field out of range
+ *    5..14  a rule of charts is broken, the rule of the smallest number
+ */
+
+/* Whether the file holds a chart. Refusals: 1 to 14. */
+uint8_t figrummy_check_chart(const uint8_t *file, size_t file_length);
+
+/*
+ * The network of the chart in the file is written from out[0] on, and its number of bytes into *size. The bytes of out after
+ * the network, and all of them on a refusal, stay as they were; so does *size on a refusal. Refusals: those of the check, then
+ *   15  the network has over 1,024 edges
+ *   16  the network has over out_length bytes
+ * A network can be far longer than its chart: the labels of a transition are there once for each of its alternatives.
+ */
+uint8_t figrummy_flatten(const uint8_t *file, size_t file_length, uint8_t *out, size_t out_length, size_t *size);
+
+/*
+ * A chart's configuration: which states are active, the variables, the clocks. Refusals of the next three functions: those of
+ * the check, then in order
+ *   17  the configuration is not one of this chart, or breaks a bound (step, wait)
+ *   18  the list is not 1 to 16 numbers of transitions, strictly ascending (step)
+ *   19  a transition of the list is not active (step)
+ *   22  no ticks, or a clock would pass 2,147,483,647 (wait)
+ *   20  the transitions of the list are not an allowed set (step)
+ *   21  the new configuration would break a bound (step, wait)
+ */
+
+/* The configuration in which the chart starts. What is lent need not be a configuration before. */
+uint8_t figrummy_start_chart(const uint8_t *file, size_t file_length, bool active[FIGRUMMY_STATES],
+                             int32_t variables[FIGRUMMY_VARIABLES], uint32_t clocks[FIGRUMMY_CLOCKS]);
+
+/* One step by the transitions whose numbers, from 0 in the order of the file, are in the list. */
+uint8_t figrummy_step_chart(const uint8_t *file, size_t file_length, bool active[FIGRUMMY_STATES],
+                            int32_t variables[FIGRUMMY_VARIABLES], uint32_t clocks[FIGRUMMY_CLOCKS],
+                            const uint16_t *list, size_t list_length);
+
+/* A wait of so many ticks. */
+uint8_t figrummy_wait_chart(const uint8_t *file, size_t file_length, bool active[FIGRUMMY_STATES],
+                            int32_t variables[FIGRUMMY_VARIABLES], uint32_t clocks[FIGRUMMY_CLOCKS], uint32_t ticks);
+
+/*
+ * A network's configuration: the location of each automaton, its eight flags (bit i for exit i), the variables, the clocks.
+ * Refusals of the next three functions, in order:
+ *   24  version, a count or a length of the file is wrong
+ *   25  a field of the file is out of range; of 24 and 25 the first from left to right. Then also: the file breaks a rule
+ *   26  the configuration is not one of this network, or breaks a bound (step, wait)
+ *   18  the list is not 1 to 16 numbers of edges, strictly ascending (step)
+ *   19  an edge of the list is not active (step)
+ *   22  no ticks, or a clock would pass 2,147,483,647 (wait)
+ *   27  an urgent location is occupied: no edge of the list leaves one (step), or a wait
+ *   20  the edges of the list are not an allowed set (step)
+ *   21  the new configuration would break a bound (step, wait)
+ */
+
+/* The configuration in which the network starts. What is lent need not be a configuration before. */
+uint8_t figrummy_start_network(const uint8_t *file, size_t file_length, uint8_t locations[FIGRUMMY_AUTOMATA],
+                               uint8_t flags[FIGRUMMY_AUTOMATA], int32_t variables[FIGRUMMY_VARIABLES],
+                               uint32_t clocks[FIGRUMMY_CLOCKS]);
+
+/* One step along the edges whose numbers, from 0 in the order of the file, are in the list. */
+uint8_t figrummy_step_network(const uint8_t *file, size_t file_length, uint8_t locations[FIGRUMMY_AUTOMATA],
+                              uint8_t flags[FIGRUMMY_AUTOMATA], int32_t variables[FIGRUMMY_VARIABLES],
+                              uint32_t clocks[FIGRUMMY_CLOCKS], const uint16_t *list, size_t list_length);
+
+/* A wait of so many ticks. */
+uint8_t figrummy_wait_network(const uint8_t *file, size_t file_length, uint8_t locations[FIGRUMMY_AUTOMATA],
+                              uint8_t flags[FIGRUMMY_AUTOMATA], int32_t variables[FIGRUMMY_VARIABLES],
+                              uint32_t clocks[FIGRUMMY_CLOCKS], uint32_t ticks);
+
+#ifdef __cplusplus
+}
+#endif
+
+#endif

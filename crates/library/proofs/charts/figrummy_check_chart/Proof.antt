@@ -1,0 +1,17 @@
+use mathlib.Core.Path.{_∙_}
+use Rattle.library.proofs.Outcomes.{checked-number}
+use borrow.Author.Needs.{needs}
+use Rattle.library.proofs.charts.figrummy_check_chart.Statement.{statement}
+use Rattle.library.proofs.charts.figrummy_check_chart.Tie as tie
+
+check-requires : tie.Need-check-requires
+check-requires c κs = search needs
+
+number-requires : tie.Need-number-requires
+number-requires c κs = search needs
+
+returns : tie.Need-returns
+returns c = c .number .ensures ∙ checked-number _ (c .before .check .result) (c .before .check .ensures)
+
+pub figrummy-check-chart-spec : {M : Type 1} → statement M
+figrummy-check-chart-spec = tie.close (tie.spec check-requires number-requires returns)

@@ -1,0 +1,2 @@
+-- What the exported functions answer, and what is lent to them.
+pub mod Numbers

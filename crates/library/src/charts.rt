@@ -1,0 +1,111 @@
+// Charts.
+ghost use mathlib.Core.Path.{_≡_};
+ghost use Rattle.chart.specs.Rules.{chartOf};
+ghost use Rattle.chart.specs.Machine.{startOf, stepOf, waitOf};
+ghost use Rattle.library.specs.Numbers.{numberOf, after, chartParts, checkedNumber};
+use chart::check::check;
+use chart::configuration::Configuration;
+use chart::machine;
+use chart::rule::Checked;
+
+// 0, or the number of the refusal.
+fn number(answer: Checked) -> u8
+    ensures { λ r. ⌜ r ≡ checkedNumber answer ⌝ }
+{
+    match answer {
+        Checked::Passed => 0,
+        Checked::Refused(k) => k,
+    }
+}
+
+// Whether a file holds a chart.
+#[no_mangle]
+pub extern "C" fn figrummy_check_chart(file: &[u8]) -> u8
+    ensures { λ r. ⌜ r ≡ numberOf (chartOf (now (file .entry))) ⌝ }
+{
+    number(check(file))
+}
+
+// The configuration in which a chart starts.
+#[no_mangle]
+pub extern "C" fn figrummy_start_chart(
+    file: &[u8],
+    active: &mut [bool; 48],
+    variables: &mut [i32; 16],
+    clocks: &mut [u32; 8],
+) -> u8
+    ensures number { λ r. ⌜ r ≡ numberOf (startOf (now (file .entry))) ⌝ }
+    ensures after { λ r. ⌜ chartParts (now (active .exit)) (now (variables .exit)) (now (clocks .exit)) ≡ after (chartParts (now (active .entry)) (now (variables .entry)) (now (clocks .entry))) (startOf (now (file .entry))) ⌝ }
+{
+    let o = machine::start(file);
+    let answer = o.answer;
+    let Checked::Passed = answer else {
+        return number(answer);
+    };
+    let c = o.configuration;
+    let states = c.active;
+    let values = c.variables;
+    let times = c.clocks;
+    *active = states;
+    *variables = values;
+    *clocks = times;
+    0
+}
+
+// The transitions of the list are taken.
+#[no_mangle]
+pub extern "C" fn figrummy_step_chart(
+    file: &[u8],
+    active: &mut [bool; 48],
+    variables: &mut [i32; 16],
+    clocks: &mut [u32; 8],
+    list: &[u16],
+) -> u8
+    ensures number { λ r. ⌜ r ≡ numberOf (stepOf (now (file .entry)) (chartParts (now (active .entry)) (now (variables .entry)) (now (clocks .entry))) (now (list .entry))) ⌝ }
+    ensures after { λ r. ⌜ chartParts (now (active .exit)) (now (variables .exit)) (now (clocks .exit)) ≡ after (chartParts (now (active .entry)) (now (variables .entry)) (now (clocks .entry))) (stepOf (now (file .entry)) (chartParts (now (active .entry)) (now (variables .entry)) (now (clocks .entry))) (now (list .entry))) ⌝ }
+{
+    let given = Configuration {
+        active: *active,
+        variables: *variables,
+        clocks: *clocks,
+    };
+    let o = machine::step(file, given, list);
+    let c = o.configuration;
+    let states = c.active;
+    let values = c.variables;
+    let times = c.clocks;
+    *active = states;
+    *variables = values;
+    *clocks = times;
+    let answer = o.answer;
+    number(answer)
+}
+
+// So many ticks later.
+#[no_mangle]
+pub extern "C" fn figrummy_wait_chart(
+    file: &[u8],
+    active: &mut [bool; 48],
+    variables: &mut [i32; 16],
+    clocks: &mut [u32; 8],
+    ticks: u32,
+) -> u8
+    ensures number { λ r. ⌜ r ≡ numberOf (waitOf (now (file .entry)) (chartParts (now (active .entry)) (now (variables .entry)) (now (clocks .entry))) ticks) ⌝ }
+    ensures after { λ r. ⌜ chartParts (now (active .exit)) (now (variables .exit)) (now (clocks .exit)) ≡ after (chartParts (now (active .entry)) (now (variables .entry)) (now (clocks .entry))) (waitOf (now (file .entry)) (chartParts (now (active .entry)) (now (variables .entry)) (now (clocks .entry))) ticks) ⌝ }
+{
+    let given = Configuration {
+        active: *active,
+        variables: *variables,
+        clocks: *clocks,
+    };
+    let o = machine::wait(file, given, ticks);
+    let c = o.configuration;
+    let states = c.active;
+    let values = c.variables;
+    let times = c.clocks;
+    *active = states;
+    *variables = values;
+    *clocks = times;
+    let answer = o.answer;
+    number(answer)
+}

@@ -1,0 +1,101 @@
+// Networks.
+ghost use mathlib.Core.Path.{_≡_};
+ghost use Rattle.network.specs.Machine.{startOf, stepOf, waitOf};
+ghost use Rattle.library.specs.Numbers.{numberOf, after, networkParts};
+use network::configuration::Configuration;
+use network::moved::Verdict;
+use network::moved::number_of;
+use network::operation;
+
+// The configuration in which a network starts.
+#[no_mangle]
+pub extern "C" fn figrummy_start_network(
+    file: &[u8],
+    locations: &mut [u8; 16],
+    flags: &mut [u8; 16],
+    variables: &mut [i32; 16],
+    clocks: &mut [u32; 8],
+) -> u8
+    ensures number { λ r. ⌜ r ≡ numberOf (startOf (now (file .entry))) ⌝ }
+    ensures after { λ r. ⌜ networkParts (now (locations .exit)) (now (flags .exit)) (now (variables .exit)) (now (clocks .exit)) ≡ after (networkParts (now (locations .entry)) (now (flags .entry)) (now (variables .entry)) (now (clocks .entry))) (startOf (now (file .entry))) ⌝ }
+{
+    let m = operation::start(file);
+    let verdict = m.verdict;
+    let Verdict::Done = verdict else {
+        return number_of(m);
+    };
+    let c = m.configuration;
+    let places = c.locations;
+    let marks = c.flags;
+    let values = c.variables;
+    let times = c.clocks;
+    *locations = places;
+    *flags = marks;
+    *variables = values;
+    *clocks = times;
+    0
+}
+
+// Along the edges of the list.
+#[no_mangle]
+pub extern "C" fn figrummy_step_network(
+    file: &[u8],
+    locations: &mut [u8; 16],
+    flags: &mut [u8; 16],
+    variables: &mut [i32; 16],
+    clocks: &mut [u32; 8],
+    list: &[u16],
+) -> u8
+    ensures number { λ r. ⌜ r ≡ numberOf (stepOf (now (file .entry)) (networkParts (now (locations .entry)) (now (flags .entry)) (now (variables .entry)) (now (clocks .entry))) (now (list .entry))) ⌝ }
+    ensures after { λ r. ⌜ networkParts (now (locations .exit)) (now (flags .exit)) (now (variables .exit)) (now (clocks .exit)) ≡ after (networkParts (now (locations .entry)) (now (flags .entry)) (now (variables .entry)) (now (clocks .entry))) (stepOf (now (file .entry)) (networkParts (now (locations .entry)) (now (flags .entry)) (now (variables .entry)) (now (clocks .entry))) (now (list .entry))) ⌝ }
+{
+    let given = Configuration {
+        locations: *locations,
+        flags: *flags,
+        variables: *variables,
+        clocks: *clocks,
+    };
+    let m = operation::step(file, given, list);
+    let c = m.configuration;
+    let places = c.locations;
+    let marks = c.flags;
+    let values = c.variables;
+    let times = c.clocks;
+    *locations = places;
+    *flags = marks;
+    *variables = values;
+    *clocks = times;
+    number_of(m)
+}
+
+// So many ticks later.
+#[no_mangle]
+pub extern "C" fn figrummy_wait_network(
+    file: &[u8],
+    locations: &mut [u8; 16],
+    flags: &mut [u8; 16],
+    variables: &mut [i32; 16],
+    clocks: &mut [u32; 8],
+    ticks: u32,
+) -> u8
+    ensures number { λ r. ⌜ r ≡ numberOf (waitOf (now (file .entry)) (networkParts (now (locations .entry)) (now (flags .entry)) (now (variables .entry)) (now (clocks .entry))) ticks) ⌝ }
+    ensures after { λ r. ⌜ networkParts (now (locations .exit)) (now (flags .exit)) (now (variables .exit)) (now (clocks .exit)) ≡ after (networkParts (now (locations .entry)) (now (flags .entry)) (now (variables .entry)) (now (clocks .entry))) (waitOf (now (file .entry)) (networkParts (now (locations .entry)) (now (flags .entry)) (now (variables .entry)) (now (clocks .entry))) ticks) ⌝ }
+{
+    let given = Configuration {
+        locations: *locations,
+        flags: *flags,
+        variables: *variables,
+        clocks: *clocks,
+    };
+    let m = operation::wait(file, given, ticks);
+    let c = m.configuration;
+    let places = c.locations;
+    let marks = c.flags;
+    let values = c.variables;
+    let times = c.clocks;
+    *locations = places;
+    *flags = marks;
+    *variables = values;
+    *clocks = times;
+    number_of(m)
+}
