@@ -1,0 +1,95 @@
+// Answers, on standard output.
+ghost use mathlib.Core.Path.{_≡_};
+ghost use Rattle.expr.specs.Integer.{signed};
+use crate::checksum::checksum;
+use expr::signed::absolute;
+use expr::signed::is_negative;
+
+pub fn text(s: &[u8]) {
+    io::write_all(1, s);
+}
+
+// A refusal is its number.
+pub fn refusal(k: u8) {
+    io::print_decimal(1, k as u64);
+    text(b"\n");
+}
+
+// The end of a run on input that is not made of whole requests.
+pub fn malformed() {
+    text(b"malformed\n");
+}
+
+// The 32 bits of a signed number.
+fn bits(z: i32) -> u32
+    ensures { λ r. ⌜ signed r ≡ z ⌝ }
+{
+    let n = absolute(z);
+    if is_negative(z) {
+        4294967295 - n + 1
+    } else {
+        n
+    }
+}
+
+// Two hexadecimal digits.
+fn byte(x: u8) {
+    io::print_hex(1, x as u64, 2);
+}
+
+// 1 for what is active.
+fn mark(b: bool) {
+    if b {
+        byte(1);
+    } else {
+        byte(0);
+    }
+}
+
+// Eight hexadecimal digits.
+fn word(x: u32) {
+    io::print_hex(1, x as u64, 8);
+}
+
+fn value(z: i32) {
+    word(bits(z));
+}
+
+// How many bytes there are, and their checksum.
+pub fn summary(t: &[u8]) {
+    io::print_decimal(1, t.len() as u64);
+    text(b" ");
+    word(checksum(t));
+}
+
+pub fn bytes(t: &[u8]) {
+    let mut i = 0;
+    while i < t.len() {
+        byte(t[i]);
+        i += 1;
+    }
+}
+
+pub fn marks(t: &[bool]) {
+    let mut i = 0;
+    while i < t.len() {
+        mark(t[i]);
+        i += 1;
+    }
+}
+
+pub fn words(t: &[u32]) {
+    let mut i = 0;
+    while i < t.len() {
+        word(t[i]);
+        i += 1;
+    }
+}
+
+pub fn values(t: &[i32]) {
+    let mut i = 0;
+    while i < t.len() {
+        value(t[i]);
+        i += 1;
+    }
+}
