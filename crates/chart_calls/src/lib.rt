@@ -1,0 +1,40 @@
+// The calls of a script on a chart, for the programs that run one.
+use chart::configuration::Configuration;
+use chart::machine::Outcome;
+use console::print;
+use console::script;
+use console::script::Call;
+use console::script::Line;
+use expr::field::byte_at;
+
+// The declared part of a configuration. The counts stand in the file's header.
+pub fn show(file: &[u8], c: Configuration) {
+    let active = c.active;
+    let variables = c.variables;
+    let clocks = c.clocks;
+    print::states(&active);
+    print::variables(&variables, byte_at(file, 5));
+    print::clocks(&clocks, byte_at(file, 4));
+}
+
+// What stands for a configuration before the start.
+pub fn no_configuration() -> Configuration {
+    Configuration {
+        active: [false; 48],
+        variables: [0; 16],
+        clocks: [0; 8],
+    }
+}
+
+// What the machine answers to a call. A line without a call is a wait of no ticks, which is refused.
+pub fn answer(file: &[u8], c: Configuration, line: Line) -> Outcome {
+    let call = line.call;
+    let list = line.list;
+    let count = script::at_most_seventeen(line.count);
+    match call {
+        Call::Start => chart::machine::start(file),
+        Call::Step => chart::machine::step(file, c, &list[0..count]),
+        Call::Wait(ticks) => chart::machine::wait(file, c, ticks),
+        _ => chart::machine::wait(file, c, 0),
+    }
+}

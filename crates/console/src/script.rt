@@ -1,0 +1,267 @@
+// Scripts of calls, a line each: start, step 3 7, wait 5. What follows # is a comment.
+
+ghost use Prim.Native.Nat.{_≤_};
+use crate::print;
+use expr::field::byte_at;
+
+pub enum Call {
+    Nothing,
+    Start,
+    Step,
+    Wait(u32),
+    Unknown,
+    Number,
+}
+
+// A call, with the numbers of a step. More than sixteen numbers are kept as seventeen, which no machine takes.
+pub struct Line {
+    pub call: Call,
+    pub list: [u16; 17],
+    pub count: usize,
+}
+
+// The first place of a byte, from a place on, or the end.
+pub fn find(s: &[u8], at: usize, b: u8) -> usize
+    ensures { λ r. ⌜ at ≤ r ⌝ }
+{
+    let mut i = at;
+    while i < s.len() {
+        if s[i] == b {
+            return i;
+        }
+        i += 1;
+    }
+    i
+}
+
+fn is_space(b: u8) -> bool {
+    b == b' ' || b == b'\t' || b == b'\r'
+}
+
+// The end of the run of spaces, or of other bytes, that starts at a place.
+fn run_end(s: &[u8], at: usize, spaces: bool) -> usize
+    ensures { λ r. ⌜ at ≤ r ⌝ }
+{
+    let mut i = at;
+    while i < s.len() {
+        let space = is_space(s[i]);
+        if space != spaces {
+            return i;
+        }
+        i += 1;
+    }
+    i
+}
+
+pub enum NumberRead {
+    Value(u32),
+    Bad,
+}
+
+// One digit more; past the largest number the answer stays there.
+fn with_digit(value: u64, digit: u8) -> u64 {
+    if value > 4294967295 {
+        return value;
+    }
+    value * 10 + (digit as u64)
+}
+
+fn is_digit(b: u8) -> bool {
+    b >= b'0' && b <= b'9'
+}
+
+// The value of a digit.
+fn digit_value(b: u8) -> u8 {
+    if b < b'0' {
+        return 0;
+    }
+    b - b'0'
+}
+
+// The number that a word is.
+pub fn number(word: &[u8]) -> NumberRead {
+    if word.len() == 0 {
+        return NumberRead::Bad;
+    }
+    let mut value = 0;
+    let mut i = 0;
+    while i < word.len() {
+        let b = word[i];
+        if !is_digit(b) {
+            return NumberRead::Bad;
+        }
+        value = with_digit(value, digit_value(b));
+        i += 1;
+    }
+    if value > 4294967295 {
+        return NumberRead::Bad;
+    }
+    NumberRead::Value(value as u32)
+}
+
+// The number that stands from a place up to another.
+fn number_in(s: &[u8], from: usize, to: usize) -> NumberRead {
+    if from > to {
+        return NumberRead::Bad;
+    }
+    if to > s.len() {
+        return NumberRead::Bad;
+    }
+    number(&s[from..to])
+}
+
+// Whether two words are the same.
+fn same(a: &[u8], b: &[u8]) -> bool {
+    if a.len() != b.len() {
+        return false;
+    }
+    let mut i = 0;
+    while i < a.len() {
+        if a[i] != byte_at(b, i) {
+            return false;
+        }
+        i += 1;
+    }
+    true
+}
+
+// A line with a call and no numbers.
+pub fn plain(call: Call) -> Line {
+    Line {
+        call,
+        list: [0; 17],
+        count: 0,
+    }
+}
+
+// A number of a list. One past sixteen bits is as unknown as the largest of sixteen bits.
+fn short(n: u32) -> u16 {
+    if n < 65535 { n as u16 } else { 65535 }
+}
+
+// The list with one number more, if there is room.
+pub fn with_number(line: Line, n: u32) -> Line {
+    let at = line.count;
+    if at >= 17 {
+        return line;
+    }
+    let mut next = line;
+    next.list[at] = short(n);
+    next.count = at + 1;
+    next
+}
+
+// The numbers of a step, from a place of the line on.
+fn step_of(s: &[u8], at: usize) -> Line {
+    let mut line = plain(Call::Step);
+    let mut from = run_end(s, at, true);
+    while from < s.len() {
+        let to = run_end(s, from, false);
+        if to <= from {
+            return plain(Call::Number);
+        }
+        let n = number_in(s, from, to);
+        let NumberRead::Value(value) = n else {
+            return plain(Call::Number);
+        };
+        line = with_number(line, value);
+        from = run_end(s, to, true);
+    }
+    line
+}
+
+// The ticks of a wait: one number, and nothing after it.
+fn wait_of(s: &[u8], at: usize) -> Line {
+    let from = run_end(s, at, true);
+    let to = run_end(s, from, false);
+    let n = number_in(s, from, to);
+    let NumberRead::Value(ticks) = n else {
+        return plain(Call::Number);
+    };
+    if run_end(s, to, true) < s.len() {
+        return plain(Call::Number);
+    }
+    plain(Call::Wait(ticks))
+}
+
+// The call of a line without its comment.
+fn call_of(s: &[u8]) -> Line {
+    let from = run_end(s, 0, true);
+    let to = run_end(s, from, false);
+    if from >= to {
+        return plain(Call::Nothing);
+    }
+    if to > s.len() {
+        return plain(Call::Nothing);
+    }
+    let word = &s[from..to];
+    if same(word, b"step") {
+        return step_of(s, to);
+    }
+    if same(word, b"wait") {
+        return wait_of(s, to);
+    }
+    if !same(word, b"start") {
+        return plain(Call::Unknown);
+    }
+    if run_end(s, to, true) < s.len() {
+        return plain(Call::Unknown);
+    }
+    plain(Call::Start)
+}
+
+// The call of a line.
+pub fn read_line(s: &[u8]) -> Line {
+    let to = find(s, 0, b'#');
+    if to > s.len() {
+        return plain(Call::Nothing);
+    }
+    call_of(&s[0..to])
+}
+
+// How many numbers a list has, as far as there is a place for them.
+pub fn at_most_seventeen(count: usize) -> usize
+    ensures { λ r. ⌜ r ≤ 17 ⌝ }
+{
+    if count < 17 { count } else { 17 }
+}
+
+// The number of the next line.
+pub fn next_number(number: u64) -> u64 {
+    if number < 1000000 { number + 1 } else { number }
+}
+
+fn mistake(number: u64, text: &[u8], what: &[u8]) {
+    print::text(b"line");
+    print::number(number);
+    print::text(b": '");
+    print::text(text);
+    print::text(what);
+    print::line_end();
+}
+
+// Whether a line has a call. It is printed then, and what is wrong with one that should have a call and has none.
+pub fn is_call(call: Call, text: &[u8], number: u64) -> bool {
+    match call {
+        Call::Nothing => return false,
+        Call::Unknown => {
+            mistake(
+                number,
+                text,
+                b"' is no call; calls are start, step and numbers, wait and ticks",
+            );
+            return false;
+        }
+        Call::Number => {
+            mistake(
+                number,
+                text,
+                b"' has a word that is no number, or a number too many",
+            );
+            return false;
+        }
+        _ => print::text(text),
+    }
+    print::line_end();
+    true
+}

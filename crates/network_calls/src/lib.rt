@@ -1,0 +1,44 @@
+// The calls of a script on a network, for the programs that run one.
+use console::print;
+use console::script;
+use console::script::Call;
+use console::script::Line;
+use expr::field::byte_at;
+use network::configuration::Configuration;
+use network::moved::Moved;
+
+// The declared part of a configuration. The counts stand in the file's header.
+pub fn show(file: &[u8], c: Configuration) {
+    let locations = c.locations;
+    let flags = c.flags;
+    let variables = c.variables;
+    let clocks = c.clocks;
+    let automata = byte_at(file, 5);
+    print::automata(b"  locations", &locations, automata);
+    print::automata(b"  flags", &flags, automata);
+    print::variables(&variables, byte_at(file, 10));
+    print::clocks(&clocks, byte_at(file, 9));
+}
+
+// What stands for a configuration before the start.
+pub fn no_configuration() -> Configuration {
+    Configuration {
+        locations: [0; 16],
+        flags: [0; 16],
+        variables: [0; 16],
+        clocks: [0; 8],
+    }
+}
+
+// What the machine answers to a call. A line without a call is a wait of no ticks, which is refused.
+pub fn answer(file: &[u8], c: Configuration, line: Line) -> Moved {
+    let call = line.call;
+    let list = line.list;
+    let count = script::at_most_seventeen(line.count);
+    match call {
+        Call::Start => network::operation::start(file),
+        Call::Step => network::operation::step(file, c, &list[0..count]),
+        Call::Wait(ticks) => network::operation::wait(file, c, ticks),
+        _ => network::operation::wait(file, c, 0),
+    }
+}

@@ -1,0 +1,75 @@
+// Runs a chart, the file that the first argument names, and its network side by side. The script on standard input has
+// calls of the network, and each that is accepted is read as a call of the chart, or as none. After each call both
+// configurations are printed, and how many urgent moves are owed.
+mod carry;
+mod follow;
+mod show;
+
+use console::script;
+use flattener::operation::Flattened;
+use follow::Run;
+
+// One line of the script.
+fn take_line(chart_file: &[u8], network_file: &[u8], r: Run, text: &[u8], number: u64) -> Run {
+    let line = script::read_line(text);
+    let call = line.call;
+    if !script::is_call(call, text, number) {
+        return r;
+    }
+    let moved = network_calls::answer(network_file, r.network, line);
+    let next = follow::after_call(chart_file, network_file, r, moved, line);
+    show::show_chart(chart_file, next.chart, next.owed);
+    next
+}
+
+fn no_run() -> Run {
+    Run {
+        network: network_calls::no_configuration(),
+        chart: chart_calls::no_configuration(),
+        owed: 0,
+    }
+}
+
+// The whole script.
+fn run(chart_file: &[u8], network_file: &[u8], lines: &[u8]) {
+    let mut r = no_run();
+    let mut number = 1;
+    let mut at = 0;
+    while at < lines.len() {
+        let to = script::find(lines, at, b'\n');
+        if to > lines.len() {
+            return;
+        }
+        r = take_line(chart_file, network_file, r, &lines[at..to], number);
+        number = script::next_number(number);
+        at = to + 1;
+    }
+}
+
+// The script on the chart and its network, of so many bytes. A length that flattening answers is never past the buffer.
+fn run_both(file: &[u8], buffer: &[u8], length: usize, lines: &[u8]) {
+    if length <= buffer.len() {
+        run(file, &buffer[0..length], lines);
+    }
+}
+
+// The script on the chart and its network, or why there is no network.
+fn run_flattened(file: &[u8], lines: &[u8]) {
+    let mut buffer = io::large_buffer();
+    let flattened = flattener::operation::flatten(file, &mut buffer);
+    match flattened {
+        Flattened::Length(length) => run_both(file, &buffer, length, lines),
+        Flattened::Refused(k) => console::sentence::refusal(k),
+    }
+}
+
+// One byte more is read than a chart may have, so that a longer file is refused as such.
+fn main() {
+    let mut path = io::buffer();
+    let length = os::arg(1, &mut path);
+    let mut file = [0u8; 65537];
+    let size = console::file::read_file(&path[..length], &mut file);
+    let mut lines = io::large_buffer();
+    let count = io::read_full(0, &mut lines);
+    run_flattened(&file[..size], &lines[..count]);
+}
