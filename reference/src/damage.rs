@@ -299,3 +299,14 @@ fn in_order(list: &mut Vec<u16>) {
     list.sort_unstable();
     list.dedup();
 }
+
+/// The ticks of a wait: in one of `cases` cases 0, in one any number, in one more than a few, and
+/// else a few.
+pub fn random_ticks(cases: usize, random: &mut Random) -> u32 {
+    match random.below(cases) {
+        0 => 0,
+        1 => random.bits() as u32,
+        2 => random.between(5, 40) as u32,
+        _ => random.between(1, 4) as u32,
+    }
+}

@@ -9,8 +9,11 @@ pub mod candidates;
 pub mod chart;
 pub mod chart_machine;
 pub mod check;
+#[cfg(feature = "proved")]
+pub mod compare;
 pub mod coverage;
 pub mod damage;
+pub mod description;
 pub mod expression;
 pub mod flatten;
 pub mod generate;
@@ -22,6 +25,8 @@ pub mod moves;
 pub mod network;
 pub mod network_machine;
 pub mod picture;
+#[cfg(feature = "proved")]
+pub mod proved;
 pub mod random;
 pub mod reader;
 pub mod refusal;

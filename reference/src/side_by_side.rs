@@ -7,7 +7,7 @@
 use crate::candidates::candidates;
 use crate::chart::Chart;
 use crate::chart_machine::{self, ChartConfiguration};
-use crate::damage::damage_list;
+use crate::damage::{damage_list, random_ticks};
 use crate::layout::Layout;
 use crate::moves::Member;
 use crate::network::Network;
@@ -425,7 +425,7 @@ impl<'a> Moment<'a> {
 
     fn random_network_call(&self, random: &mut Random) -> Call {
         if random.chance(20) {
-            return Call::Wait(random_ticks(random));
+            return Call::Wait(random_ticks(10, random));
         }
         let allowed = self.allowed_network_moves(random);
         let known = self.machines.network.edges.len();
@@ -434,7 +434,7 @@ impl<'a> Moment<'a> {
 
     fn random_chart_call(&self, random: &mut Random) -> Call {
         if random.chance(20) {
-            return Call::Wait(random_ticks(random));
+            return Call::Wait(random_ticks(10, random));
         }
         let fitting = self.chart_candidates(random);
         let known = self.machines.chart.transitions.len();
@@ -466,15 +466,6 @@ fn random_step(
     }
     let active: Vec<u16> = active.iter().map(|&(number, _)| number).collect();
     Call::Step(damage_list(&list, &active, known, random))
-}
-
-fn random_ticks(random: &mut Random) -> u32 {
-    match random.below(10) {
-        0 => 0,
-        1 => random.bits() as u32,
-        2 => random.between(5, 40) as u32,
-        _ => random.between(1, 4) as u32,
-    }
 }
 
 fn demand(holds: bool, clause: &str) -> Result<(), Failure> {

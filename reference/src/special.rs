@@ -68,14 +68,18 @@ pub fn broadcast_of_self_loops() -> Chart {
     Chart::new(Declared { broadcast: 1, ..Declared::default() }, 1, 1, states, transitions)
 }
 
-/// A chart whose network has this many edges, from 1,001 to 1,061. Its state 2 completes by one
-/// exit in 3^5 ways and is left by four transitions; other transitions make up the number.
-pub fn chart_with_edges(edges: usize) -> Chart {
-    let mut states = vec![
+/// A sequential root with a basic state and, entered first, a parallel state without children.
+fn parallel_beside_basic() -> Vec<State> {
+    vec![
         state(NONE, Kind::Sequential, 1, 0),
         state(0, Kind::Basic, 0, 0),
         state(0, Kind::Parallel, 1, 0),
-    ];
+    ]
+}
+
+/// States of which number 2 completes by one exit in 3^5 ways.
+fn states_with_243_alternatives() -> Vec<State> {
+    let mut states = parallel_beside_basic();
     for _ in 0..5 {
         let region = states.len() as u8;
         states.push(state(2, Kind::Sequential, 1, 0));
@@ -86,21 +90,39 @@ pub fn chart_with_edges(edges: usize) -> Chart {
             states.push(state(inner, Kind::Basic, 0, 1));
         }
     }
+    states
+}
+
+/// A chart whose network has this many edges, from 1,001 to 1,061. Its state 2 completes by one
+/// exit in 3^5 ways and is left by four transitions; other transitions make up the number.
+pub fn chart_with_edges(edges: usize) -> Chart {
     // Four transitions have 243 edges to post and one from it each; 25 edges hear the exit.
     let mut transitions = vec![transition(2, 1, Some(0), None, Signal::None); 4];
     let others = edges.saturating_sub(4 * (243 + 1) + 25).min(TRANSITIONS - 4);
     transitions.extend(vec![transition(1, 1, None, None, Signal::None); others]);
-    Chart::new(Declared::default(), 1, 1, states, transitions)
+    Chart::new(Declared::default(), 1, 1, states_with_243_alternatives(), transitions)
+}
+
+/// As many transitions as there may be, each with 243 alternatives: over 15,000 edges, which is
+/// refused.
+pub fn most_alternatives() -> Chart {
+    let transitions = vec![transition(2, 1, Some(0), None, Signal::None); TRANSITIONS];
+    Chart::new(Declared::default(), 1, 1, states_with_243_alternatives(), transitions)
+}
+
+/// A chart with a network of some 16 million bytes: nearly all of its 65,536 bytes are labels of
+/// the four transitions that have 243 edges each.
+pub fn longest_network() -> Chart {
+    let mut chart = chart_with_edges(1001);
+    chart.declared.variables = 16;
+    fill_with_guards(&mut chart, &[0, 1, 2, 3]);
+    chart
 }
 
 /// Fifteen sequential states in parallel, each with two marked basic children: the 2^15 choices of
 /// children are one alternative.
 pub fn many_equal_choices() -> Chart {
-    let mut states = vec![
-        state(NONE, Kind::Sequential, 1, 0),
-        state(0, Kind::Basic, 0, 0),
-        state(0, Kind::Parallel, 1, 0),
-    ];
+    let mut states = parallel_beside_basic();
     for _ in 0..15 {
         let region = states.len() as u8;
         states.push(state(2, Kind::Sequential, 1, 0));
@@ -182,16 +204,20 @@ pub fn largest() -> Chart {
     let mut chart = Chart::new(chart.declared, 1, 1, states, transitions);
     let sequential = chart.states.iter().filter(|state| state.kind == Kind::Sequential).count();
     assert_eq!(sequential, AUTOMATA);
-    // As many guards more as the file has room for.
+    fill_with_guards(&mut chart, &plain);
+    chart
+}
+
+/// As many guards more as the file has room for, by turns on these transitions.
+fn fill_with_guards(chart: &mut Chart, numbers: &[usize]) {
     let mut next = 0;
     while chart.write().len() + long_guard_length() <= CHART_BYTES {
-        let number = plain[next % plain.len()];
+        let number = numbers[next % numbers.len()];
         let mut label = (*chart.transitions[number].label).clone();
         label.guards.push(long_guard());
         chart.transitions[number].label = Rc::new(label);
         next += 1;
     }
-    chart
 }
 
 fn long_label() -> Label {

@@ -3,7 +3,9 @@
 use crate::candidates::candidates;
 use crate::chart::Chart;
 use crate::chart_machine;
-use crate::damage::{damage_chart_configuration, damage_list, damage_network_configuration};
+use crate::damage::{
+    damage_chart_configuration, damage_list, damage_network_configuration, random_ticks,
+};
 use crate::moves::Member;
 use crate::network::Network;
 use crate::network_machine;
@@ -25,7 +27,7 @@ pub fn chart_requests(chart: &Chart, count: usize, random: &mut Random) -> Vec<R
             damage_chart_configuration(&configuration, random)
         };
         let request = if random.chance(30) {
-            Request::ChartWait(file.clone(), given, random_ticks(random))
+            Request::ChartWait(file.clone(), given, random_ticks(8, random))
         } else {
             let active: Vec<(u16, Member)> = (0..chart.transitions.len())
                 .filter(|&number| chart_machine::is_active(chart, &configuration, number))
@@ -55,7 +57,7 @@ pub fn network_requests(network: &Network, count: usize, random: &mut Random) ->
             damage_network_configuration(&configuration, random)
         };
         let request = if random.chance(30) {
-            Request::NetworkWait(file.clone(), given, random_ticks(random))
+            Request::NetworkWait(file.clone(), given, random_ticks(8, random))
         } else {
             let active: Vec<(u16, Member)> = network
                 .edges
@@ -92,13 +94,4 @@ fn random_list(
     }
     let numbers: Vec<u16> = active.iter().map(|&(number, _)| number).collect();
     damage_list(&list, &numbers, known, random)
-}
-
-fn random_ticks(random: &mut Random) -> u32 {
-    match random.below(8) {
-        0 => 0,
-        1 => random.bits() as u32,
-        2 => random.between(5, 40) as u32,
-        _ => random.between(1, 4) as u32,
-    }
 }

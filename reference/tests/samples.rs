@@ -14,7 +14,7 @@ use reference::network_machine;
 use reference::refusal::Refusal;
 use reference::special::{
     broadcast_of_self_loops, chart_with_edges, chart_with_sequential_children, largest,
-    many_equal_choices, sample_1, sample_3, state, transition,
+    longest_network, many_equal_choices, most_alternatives, sample_1, sample_3, state, transition,
 };
 
 const S1_CHART: [u8; 40] = [
@@ -165,6 +165,7 @@ fn sizes() {
 fn alternatives_are_counted_before_they_are_listed() {
     assert_eq!(network_of(&chart_with_edges(1024)).unwrap().edges.len(), 1024);
     assert_eq!(network_of(&chart_with_edges(1025)), Err(Refusal::EdgeCount));
+    assert_eq!(network_of(&most_alternatives()), Err(Refusal::EdgeCount));
     // 2^15 choices that are one alternative: one edge to post, one from it, 30 that hear the exit.
     assert_eq!(network_of(&many_equal_choices()).unwrap().edges.len(), 32);
 }
@@ -200,29 +201,11 @@ fn the_largest_chart_passes() {
 /// Every alternative has the whole label, so a network can be far longer than its chart.
 #[test]
 fn a_long_network() {
-    let mut chart = chart_with_edges(1001);
-    let guard = Guard::Data {
-        relation: Relation::Equal,
-        left: full_sum(8),
-        right: Expression::Constant(0),
-    };
-    let label = Label { guards: vec![guard; 20], ..Label::of_signal(Signal::None) };
-    for transition in &mut chart.transitions[..4] {
-        transition.label = Rc::new(label.clone());
-    }
-    let file = chart.write();
+    let file = longest_network().write();
     let mut buffer = vec![0; 16_000_000];
     let length = flatten(&file, &mut buffer).unwrap();
-    assert!(length > 15_000_000, "{length}");
+    assert!(length > 15_500_000, "{length}");
     assert_eq!(flatten(&file, &mut buffer[..length - 1]), Err(Refusal::BufferLength));
     // The length in the header is that of the file.
     assert_eq!(buffer[1..5], ((length - 5) as u32).to_be_bytes());
-}
-
-/// A sum of this many levels with constants only.
-fn full_sum(levels: usize) -> Expression {
-    if levels == 1 {
-        return Expression::Constant(0);
-    }
-    Expression::Sum(Box::new(full_sum(levels - 1)), Box::new(full_sum(levels - 1)))
 }

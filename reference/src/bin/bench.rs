@@ -1,8 +1,9 @@
-//! Times every operation on a small, an ordinary and the largest input and prints a table.
+//! Times every operation on a small, an ordinary and the largest input, and flattening on more,
+//! and prints two tables.
 //!
 //! Each operation reads its file anew, as its description says. Implementations are compared in
-//! one run over the same inputs: the first of the list is this one; others are added to
-//! `IMPLEMENTATIONS` when there is something to link, and the table then gives their ratio to it.
+//! one run over the same inputs: the first of the list is this one; with the feature `proved` the
+//! other is the proved one, and the tables give the ratio of its times to the first.
 
 use std::hint::black_box;
 use std::time::{Duration, Instant};
@@ -10,7 +11,7 @@ use std::time::{Duration, Instant};
 use reference::chart::Chart;
 use reference::check::check;
 use reference::coverage::operation_name;
-use reference::flatten::network_of;
+use reference::flatten::{flatten, network_of};
 use reference::generate::{chart_from_wish, Wish};
 use reference::random::Random;
 use reference::refusal::Refusal;
@@ -18,65 +19,117 @@ use reference::request::{Request, Success};
 use reference::special;
 use reference::walk::{chart_requests, network_requests};
 
-/// Something that answers requests.
+/// Something that answers requests, and flattens into a buffer.
 struct Implementation {
     name: &'static str,
     answer: fn(&Request) -> Result<Success, Refusal>,
+    flatten: fn(&[u8], &mut [u8]) -> Result<usize, Refusal>,
 }
 
-const IMPLEMENTATIONS: [Implementation; 1] =
-    [Implementation { name: "reference", answer: Request::answer }];
+const IMPLEMENTATIONS: &[Implementation] = &[
+    Implementation { name: "reference", answer: Request::answer, flatten },
+    #[cfg(feature = "proved")]
+    Implementation {
+        name: "proved",
+        answer: reference::proved::answer,
+        flatten: reference::proved::flatten,
+    },
+];
 
-/// How long one measurement takes at least, and how many there are; the shortest counts.
-const LEAST_TIME: Duration = Duration::from_millis(15);
-const MEASUREMENTS: usize = 5;
+/// About how long one measurement takes at least, and how many there are. The shortest counts: a
+/// short one is seldom interrupted by other programs.
+const LEAST_TIME: Duration = Duration::from_millis(1);
+const MEASUREMENTS: usize = 50;
 
 fn main() {
-    print!("{:<15}{:<10}{:>8}", "operation", "size", "bytes");
-    for (number, implementation) in IMPLEMENTATIONS.iter().enumerate() {
-        print!("{:>15}", format!("{} ns", implementation.name));
-        if number > 0 {
-            print!("{:>8}", "ratio");
-        }
-    }
+    let charts =
+        [("small", special::sample_3()), ("ordinary", ordinary()), ("largest", special::largest())];
+    time_operations(&charts);
     println!();
-    let sizes = [
-        ("small", inputs(&special::sample_3())),
-        ("ordinary", inputs(&ordinary())),
-        ("largest", inputs(&special::largest())),
-    ];
+    time_flattening(charts.into_iter().chain([
+        ("1,024 edges", special::chart_with_edges(1024)),
+        ("refused", special::most_alternatives()),
+        ("longest", special::longest_network()),
+    ]));
+}
+
+/// Every operation but flattening.
+fn time_operations(charts: &[(&str, Chart)]) {
+    println!("{:<15}{:<10}{:>8}{}", "operation", "size", "bytes", heading());
+    let sizes: Vec<(&str, Vec<Request>)> =
+        charts.iter().map(|(size, chart)| (*size, inputs(chart))).collect();
     for operation in 0..sizes[0].1.len() {
         for (size, requests) in &sizes {
             let request = &requests[operation];
             print!("{:<15}{size:<10}{:>8}", operation_name(request), request.file().len());
-            let mut first = None;
-            for implementation in &IMPLEMENTATIONS {
-                let nanoseconds = time(implementation, request);
-                print!("{nanoseconds:>15.0}");
-                match first {
-                    None => first = Some(nanoseconds),
-                    Some(first) => print!("{:>8.2}", nanoseconds / first),
-                }
-            }
+            let times = IMPLEMENTATIONS.iter().map(|implementation| {
+                time(|| {
+                    let _ = black_box((implementation.answer)(black_box(request)));
+                })
+            });
+            print_times(times.collect());
             println!();
         }
     }
 }
 
-/// The shortest mean time of one answer, in nanoseconds.
-fn time(implementation: &Implementation, request: &Request) -> f64 {
+/// Flattening into a buffer that just fits, beside a copy of as many bytes.
+fn time_flattening<'a>(charts: impl Iterator<Item = (&'a str, Chart)>) {
+    let columns = format!("{:<15}{:>8}{:>10}", "flatten", "bytes", "network");
+    println!("{columns}{}{:>15}{:>8}", heading(), "copy ns", "ratio");
+    for (size, chart) in charts {
+        let file = chart.write();
+        let network = network_of(&chart).map_or(Vec::new(), |network| network.write());
+        let mut buffer = vec![0; network.len()];
+        print!("{size:<15}{:>8}{:>10}", file.len(), network.len());
+        let flatten_times: Vec<f64> = IMPLEMENTATIONS
+            .iter()
+            .map(|implementation| {
+                time(|| {
+                    let _ = (implementation.flatten)(black_box(&file), black_box(&mut buffer));
+                })
+            })
+            .collect();
+        let last = flatten_times[flatten_times.len() - 1];
+        print_times(flatten_times);
+        if network.is_empty() {
+            println!("{:>15}{:>8}", "-", "-");
+            continue;
+        }
+        let copy = time(|| black_box(&mut buffer).copy_from_slice(black_box(&network)));
+        println!("{copy:>15.0}{:>8.1}", last / copy);
+    }
+}
+
+/// The headings of the columns with the implementations' times.
+fn heading() -> String {
+    let columns = IMPLEMENTATIONS.iter().enumerate().map(|(number, implementation)| {
+        let ratio = if number > 0 { format!("{:>8}", "ratio") } else { String::new() };
+        format!("{:>15}{ratio}", format!("{} ns", implementation.name))
+    });
+    columns.collect()
+}
+
+/// The implementations' times, each but the first with its ratio to the first.
+fn print_times(times: Vec<f64>) {
+    print!("{:>15.0}", times[0]);
+    for time in &times[1..] {
+        print!("{time:>15.0}{:>8.2}", time / times[0]);
+    }
+}
+
+/// The shortest mean time of one call, in nanoseconds.
+fn time(mut call: impl FnMut()) -> f64 {
+    let mut time_of = |calls: u32| {
+        let start = Instant::now();
+        for _ in 0..calls {
+            call();
+        }
+        start.elapsed()
+    };
+    let calls = (LEAST_TIME.as_nanos() / time_of(1).as_nanos().max(1)).max(1) as u32;
     (0..MEASUREMENTS)
-        .map(|_| {
-            let mut calls = 0;
-            let start = Instant::now();
-            while start.elapsed() < LEAST_TIME {
-                for _ in 0..8 {
-                    let _ = black_box((implementation.answer)(black_box(request)));
-                }
-                calls += 8;
-            }
-            start.elapsed().as_nanos() as f64 / f64::from(calls)
-        })
+        .map(|_| time_of(calls).as_nanos() as f64 / f64::from(calls))
         .fold(f64::INFINITY, f64::min)
 }
 
@@ -96,19 +149,18 @@ fn ordinary() -> Chart {
         .expect("some seed gives one")
 }
 
-/// One accepted request of every operation.
+/// One accepted request of every operation but flattening.
 fn inputs(chart: &Chart) -> Vec<Request> {
     accepted(chart).expect("both machines can step and wait")
 }
 
-/// One accepted request of every operation, where both machines can step and wait.
+/// One accepted request of every operation but flattening, where both machines can step and wait.
 fn accepted(chart: &Chart) -> Option<Vec<Request>> {
     let file = chart.write();
     check(&file).ok()?;
     let network = network_of(chart).ok()?;
-    let room = network.write().len() as u32;
     let mut random = Random::new(1);
-    let mut requests = vec![Request::Check(file.clone()), Request::Flatten(file, room)];
+    let mut requests = vec![Request::Check(file)];
     let mut runs = chart_requests(chart, 60, &mut random);
     runs.extend(network_requests(&network, 60, &mut random));
     for wanted in

@@ -1,0 +1,102 @@
+//! Requests answered by this implementation and by the proved one. The first on which they differ
+//! stops the program.
+
+use std::collections::BTreeMap;
+use std::fmt;
+
+use crate::chart::Chart;
+use crate::check::check;
+use crate::coverage::operation_name;
+use crate::damage::{damage_chart, damage_file, Form};
+use crate::flatten::network_of;
+use crate::generate::chart_from_seed;
+use crate::network::Network;
+use crate::proved;
+use crate::random::Random;
+use crate::request::Request;
+use crate::text_form::request_to_text;
+use crate::walk::{chart_requests, network_requests};
+
+/// How many answers agreed, for each operation.
+#[derive(Default)]
+pub struct Agreed {
+    accepted: BTreeMap<&'static str, u64>,
+    refused: BTreeMap<&'static str, u64>,
+}
+
+impl Agreed {
+    pub fn total(&self) -> u64 {
+        self.accepted.values().chain(self.refused.values()).sum()
+    }
+
+    pub fn compare(&mut self, request: &Request) {
+        let answer = proved::answer(request);
+        if answer != request.answer() {
+            panic!("{answer:?} to\n{}", request_to_text(request));
+        }
+        let counts = if answer.is_ok() { &mut self.accepted } else { &mut self.refused };
+        *counts.entry(operation_name(request)).or_insert(0) += 1;
+    }
+
+    /// A chart, runs of it and of its network, and damaged files: some 11 times `count` requests.
+    pub fn compare_chart(&mut self, chart: &Chart, count: usize, random: &mut Random) {
+        let file = chart.write();
+        self.compare(&Request::Check(file.clone()));
+        for request in chart_requests(chart, count, random) {
+            self.compare(&request);
+        }
+        self.compare_flattening(&file, random);
+        for _ in 0..count {
+            let damaged = damage_file(Form::Chart, &file, random);
+            self.compare(&Request::Check(damaged.clone()));
+            self.compare(&Request::ChartStart(damaged.clone()));
+            self.compare(&Request::Flatten(damaged, random.below(6_000) as u32));
+            let damaged = damage_chart(chart, random).write();
+            self.compare(&Request::Check(damaged.clone()));
+            self.compare_flattening(&damaged, random);
+        }
+        if let Ok(network) = network_of(chart) {
+            self.compare_network(&network, count, random);
+        }
+    }
+
+    /// Flattening of a file into buffers that just fit, are too short, and are longer.
+    fn compare_flattening(&mut self, file: &[u8], random: &mut Random) {
+        let length = match check(file).and_then(|chart| network_of(&chart)) {
+            Ok(network) => network.write().len(),
+            Err(_) => 0,
+        };
+        let shorter = random.below(length + 1);
+        let longer = length + random.below(300);
+        for room in [length, length.saturating_sub(1), shorter, longer] {
+            self.compare(&Request::Flatten(file.to_vec(), room as u32));
+        }
+    }
+
+    fn compare_network(&mut self, network: &Network, count: usize, random: &mut Random) {
+        let file = network.write();
+        for request in network_requests(network, count, random) {
+            self.compare(&request);
+        }
+        for _ in 0..count {
+            let damaged = damage_file(Form::Network, &file, random);
+            self.compare(&Request::NetworkStart(damaged));
+        }
+    }
+
+    /// The chart of a seed with what `compare_chart` makes of it.
+    pub fn compare_seed(&mut self, seed: u64, count: usize) {
+        self.compare_chart(&chart_from_seed(seed), count, &mut Random::new(seed));
+    }
+}
+
+impl fmt::Display for Agreed {
+    fn fmt(&self, formatter: &mut fmt::Formatter) -> fmt::Result {
+        writeln!(formatter, "{:<15}{:>12}{:>12}", "operation", "accepted", "refused")?;
+        for (name, accepted) in &self.accepted {
+            let refused = self.refused.get(name).unwrap_or(&0);
+            writeln!(formatter, "{name:<15}{accepted:>12}{refused:>12}")?;
+        }
+        write!(formatter, "{} calls agreed", self.total())
+    }
+}

@@ -1,0 +1,233 @@
+//! The proved implementation, called through its C functions (`crates/library`).
+//!
+//! A slice is a pointer and a number of elements; an array that is lent is a pointer. A function
+//! answers 0, or the number of the refusal, and then leaves what was lent as it was.
+
+use crate::chart_machine::ChartConfiguration;
+use crate::limits::{AUTOMATA, CLOCKS, STATES, VARIABLES};
+use crate::network_machine::NetworkConfiguration;
+use crate::refusal::Refusal;
+use crate::request::{Request, Success};
+use crate::values::Values;
+
+extern "C" {
+    fn figrummy_check_chart(file: *const u8, length: usize) -> u8;
+    fn figrummy_flatten(
+        file: *const u8,
+        length: usize,
+        out: *mut u8,
+        room: usize,
+        size: &mut usize,
+    ) -> u8;
+    fn figrummy_start_chart(
+        file: *const u8,
+        length: usize,
+        active: &mut [bool; STATES],
+        variables: &mut [i32; VARIABLES],
+        clocks: &mut [u32; CLOCKS],
+    ) -> u8;
+    fn figrummy_step_chart(
+        file: *const u8,
+        length: usize,
+        active: &mut [bool; STATES],
+        variables: &mut [i32; VARIABLES],
+        clocks: &mut [u32; CLOCKS],
+        list: *const u16,
+        count: usize,
+    ) -> u8;
+    fn figrummy_wait_chart(
+        file: *const u8,
+        length: usize,
+        active: &mut [bool; STATES],
+        variables: &mut [i32; VARIABLES],
+        clocks: &mut [u32; CLOCKS],
+        ticks: u32,
+    ) -> u8;
+    fn figrummy_start_network(
+        file: *const u8,
+        length: usize,
+        locations: &mut [u8; AUTOMATA],
+        flags: &mut [u8; AUTOMATA],
+        variables: &mut [i32; VARIABLES],
+        clocks: &mut [u32; CLOCKS],
+    ) -> u8;
+    fn figrummy_step_network(
+        file: *const u8,
+        length: usize,
+        locations: &mut [u8; AUTOMATA],
+        flags: &mut [u8; AUTOMATA],
+        variables: &mut [i32; VARIABLES],
+        clocks: &mut [u32; CLOCKS],
+        list: *const u16,
+        count: usize,
+    ) -> u8;
+    fn figrummy_wait_network(
+        file: *const u8,
+        length: usize,
+        locations: &mut [u8; AUTOMATA],
+        flags: &mut [u8; AUTOMATA],
+        variables: &mut [i32; VARIABLES],
+        clocks: &mut [u32; CLOCKS],
+        ticks: u32,
+    ) -> u8;
+}
+
+/// The answer. A refused call changes nothing that was lent, which is tested here.
+pub fn answer(request: &Request) -> Result<Success, Refusal> {
+    match request {
+        Request::Check(file) => {
+            let number = unsafe { figrummy_check_chart(file.as_ptr(), file.len()) };
+            refusal(number).map_or(Ok(Success::Passed), Err)
+        }
+        Request::ChartStart(file) => on_chart(LENT_CHART, |active, variables, clocks| unsafe {
+            figrummy_start_chart(file.as_ptr(), file.len(), active, variables, clocks)
+        }),
+        Request::ChartStep(file, given, list) => {
+            on_chart(*given, |active, variables, clocks| unsafe {
+                figrummy_step_chart(
+                    file.as_ptr(),
+                    file.len(),
+                    active,
+                    variables,
+                    clocks,
+                    list.as_ptr(),
+                    list.len(),
+                )
+            })
+        }
+        Request::ChartWait(file, given, ticks) => {
+            on_chart(*given, |active, variables, clocks| unsafe {
+                figrummy_wait_chart(file.as_ptr(), file.len(), active, variables, clocks, *ticks)
+            })
+        }
+        Request::NetworkStart(file) => {
+            on_network(LENT_NETWORK, |locations, flags, variables, clocks| unsafe {
+                figrummy_start_network(
+                    file.as_ptr(),
+                    file.len(),
+                    locations,
+                    flags,
+                    variables,
+                    clocks,
+                )
+            })
+        }
+        Request::NetworkStep(file, given, list) => {
+            on_network(*given, |locations, flags, variables, clocks| unsafe {
+                figrummy_step_network(
+                    file.as_ptr(),
+                    file.len(),
+                    locations,
+                    flags,
+                    variables,
+                    clocks,
+                    list.as_ptr(),
+                    list.len(),
+                )
+            })
+        }
+        Request::NetworkWait(file, given, ticks) => {
+            on_network(*given, |locations, flags, variables, clocks| unsafe {
+                figrummy_wait_network(
+                    file.as_ptr(),
+                    file.len(),
+                    locations,
+                    flags,
+                    variables,
+                    clocks,
+                    *ticks,
+                )
+            })
+        }
+        Request::Flatten(file, room) => on_buffer(file, *room as usize),
+    }
+}
+
+/// What is lent to a start: no value that a start gives.
+const LENT_VALUES: Values = Values { variables: [-7; VARIABLES], clocks: [7; CLOCKS] };
+const LENT_CHART: ChartConfiguration =
+    ChartConfiguration { active: [true; STATES], values: LENT_VALUES };
+const LENT_NETWORK: NetworkConfiguration =
+    NetworkConfiguration { locations: [77; AUTOMATA], flags: [77; AUTOMATA], values: LENT_VALUES };
+
+/// The length that is lent to a flattening: that of no network.
+const LENT_SIZE: usize = usize::MAX;
+
+/// Flattens a chart file into a lent buffer and returns the length of the network file.
+pub fn flatten(file: &[u8], buffer: &mut [u8]) -> Result<usize, Refusal> {
+    let mut size = LENT_SIZE;
+    let out = buffer.as_mut_ptr();
+    let number =
+        unsafe { figrummy_flatten(file.as_ptr(), file.len(), out, buffer.len(), &mut size) };
+    match refusal(number) {
+        None => Ok(size),
+        Some(refusal) => {
+            assert_eq!(size, LENT_SIZE, "a refused call changed the length");
+            Err(refusal)
+        }
+    }
+}
+
+/// A flattening into a buffer of this length. What it leaves after the network, or everywhere if
+/// it is refused, is compared with what was lent.
+fn on_buffer(file: &[u8], room: usize) -> Result<Success, Refusal> {
+    let lent_byte = |place: usize| place as u8 ^ 0x5A;
+    let mut buffer: Vec<u8> = (0..room).map(lent_byte).collect();
+    let flattened = flatten(file, &mut buffer);
+    let kept = *flattened.as_ref().unwrap_or(&0);
+    let unchanged = (kept..room).all(|place| buffer[place] == lent_byte(place));
+    assert!(unchanged, "bytes that are not the network's were changed");
+    buffer.truncate(flattened?);
+    Ok(Success::Flattened(buffer))
+}
+
+/// A call that is lent the parts of a chart's configuration.
+fn on_chart(
+    given: ChartConfiguration,
+    call: impl FnOnce(&mut [bool; STATES], &mut [i32; VARIABLES], &mut [u32; CLOCKS]) -> u8,
+) -> Result<Success, Refusal> {
+    let mut lent = given;
+    let number = call(&mut lent.active, &mut lent.values.variables, &mut lent.values.clocks);
+    match refusal(number) {
+        None => Ok(Success::Chart(lent)),
+        Some(refusal) => {
+            assert_eq!(lent, given, "a refused call changed what was lent");
+            Err(refusal)
+        }
+    }
+}
+
+/// A call that is lent the parts of a network's configuration.
+fn on_network(
+    given: NetworkConfiguration,
+    call: impl FnOnce(
+        &mut [u8; AUTOMATA],
+        &mut [u8; AUTOMATA],
+        &mut [i32; VARIABLES],
+        &mut [u32; CLOCKS],
+    ) -> u8,
+) -> Result<Success, Refusal> {
+    let mut lent = given;
+    let number = call(
+        &mut lent.locations,
+        &mut lent.flags,
+        &mut lent.values.variables,
+        &mut lent.values.clocks,
+    );
+    match refusal(number) {
+        None => Ok(Success::Network(lent)),
+        Some(refusal) => {
+            assert_eq!(lent, given, "a refused call changed what was lent");
+            Err(refusal)
+        }
+    }
+}
+
+/// The refusal that a number stands for; none for 0.
+fn refusal(number: u8) -> Option<Refusal> {
+    if number == 0 {
+        return None;
+    }
+    let found = Refusal::ALL.into_iter().find(|refusal| refusal.number() == number);
+    Some(found.expect("the number of a refusal"))
+}

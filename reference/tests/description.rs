@@ -1,0 +1,110 @@
+//! Charts and networks as text: what is written is read back to the same bytes, and mistakes are
+//! named with their line.
+
+use reference::chart::Chart;
+use reference::check::check;
+use reference::description::{assemble, disassemble};
+use reference::flatten::network_of;
+use reference::generate::chart_from_seed;
+use reference::network::Network;
+use reference::text_form::request_from_text;
+
+const REQUESTS: &str = include_str!("../vectors/text.requests");
+
+#[test]
+fn every_file_of_the_vectors_that_reads_comes_back() {
+    let (mut charts, mut networks) = (0, 0);
+    for line in REQUESTS.lines() {
+        let request = request_from_text(line).expect("a request");
+        let file = request.file();
+        charts += usize::from(Chart::read(file).is_ok());
+        networks += usize::from(Network::read(file).is_ok());
+        if let Some(text) = disassemble(file) {
+            assert_eq!(assemble(&text).as_deref(), Ok(file), "{text}");
+        }
+    }
+    assert!(charts > 100 && networks > 30, "{charts} {networks}");
+}
+
+#[test]
+fn generated_charts_and_their_networks_come_back() {
+    for seed in 0..300 {
+        let chart = chart_from_seed(seed);
+        let file = chart.write();
+        let text = disassemble(&file).expect("a chart");
+        assert_eq!(assemble(&text), Ok(file), "{text}");
+        if let Ok(network) = network_of(&chart) {
+            let file = network.write();
+            let text = disassemble(&file).expect("a network");
+            assert_eq!(assemble(&text), Ok(file), "{text}");
+        }
+    }
+}
+
+#[test]
+fn the_samples_are_what_their_texts_say_and_pass() {
+    let samples: [(&str, &[u8]); 4] = [
+        (
+            include_str!("../../samples/one_step.txt"),
+            include_bytes!("../../samples/one_step.chart"),
+        ),
+        (include_str!("../../samples/nested.txt"), include_bytes!("../../samples/nested.chart")),
+        (include_str!("../../samples/take_up.txt"), include_bytes!("../../samples/take_up.chart")),
+        (include_str!("../../samples/regions.txt"), include_bytes!("../../samples/regions.chart")),
+    ];
+    for (text, file) in samples {
+        assert_eq!(assemble(text).as_deref(), Ok(file), "{text}");
+        assert!(check(file).is_ok_and(|chart| network_of(&chart).is_ok()), "{text}");
+    }
+}
+
+#[test]
+fn comments_and_empty_lines_are_left_out() {
+    let plain = "chart clocks 0 variables 0 rendezvous 0 broadcast 0 entries 1 exits 0\n\
+                 state 0 sequential in none entries 0\n\
+                 state 1 basic in 0 entries 0\n";
+    let commented = plain
+        .replace("state 1", "\n# the only child\n  state  1")
+        .replace("exits 0", "exits 0 # none");
+    assert_eq!(assemble(&commented), assemble(plain));
+    assert!(assemble(plain).is_ok_and(|file| Chart::read(&file).is_ok()));
+}
+
+#[test]
+fn a_mistake_is_named_with_its_line() {
+    let first = "chart clocks 1 variables 1 rendezvous 0 broadcast 0 entries 1 exits 0\n";
+    let cases = [
+        ("", "line 1: the text ends too early"),
+        ("loom", "line 1: 'loom' is neither 'chart' nor 'network'"),
+        ("chart clocks 256", "line 1: '256' is not a number from 0 to 255"),
+        ("state 1 basic in 0", "line 2: the number here is 0, not 1"),
+        ("state 0 round in 0", "line 2: 'round' is neither basic, sequential nor parallel"),
+        ("state 0 basic under 0", "line 2: 'in' is expected, not 'under'"),
+        ("state 0 basic in 0 bounds c8 <= 1", "line 2: 'c8' is not a number from 0 to 7"),
+        ("transition 0 from 0 to 1 when v0 ~ 1", "line 2: '~' is no relation"),
+        ("transition 0 from 0 to 1 when (v0 / 1) < 1", "line 2: '/' is no operation"),
+        ("transition 0 from 0 to 1 do v0 := x", "line 2: 'x' is no signed 32-bit constant"),
+        ("transition 0 from 0 to 1 do v0 := 1 2", "line 2: '2' is not expected"),
+        ("transition 0 from 0 to", "line 2: a word is missing"),
+        ("transition 0 from +0 to 1", "line 2: '+0' is not a number from 0 to 254"),
+    ];
+    for (text, mistake) in cases {
+        let starts = text.starts_with("state") || text.starts_with("transition");
+        let whole = if starts { format!("{first}{text}") } else { text.to_string() };
+        let found = assemble(&whole).expect_err("a mistake").to_string();
+        assert_eq!(found, mistake, "{text}");
+    }
+}
+
+#[test]
+fn what_its_counts_cannot_say_is_a_mistake() {
+    let mut text =
+        "chart clocks 0 variables 0 rendezvous 0 broadcast 0 entries 1 exits 0\n".to_string();
+    for number in 0..256 {
+        text += &format!("state {number} basic in 0\n");
+    }
+    assert_eq!(
+        assemble(&text).expect_err("a mistake").to_string(),
+        "line 257: more than 255 states"
+    );
+}

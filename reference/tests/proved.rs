@@ -1,0 +1,55 @@
+//! The proved implementation gives the same answers. A refused call changes nothing that was
+//! lent, and flattening nothing after the network, which `proved::answer` tests.
+
+use reference::binary_form::requests_from_bytes;
+use reference::compare::Agreed;
+use reference::random::Random;
+use reference::special;
+use reference::text_form::request_from_text;
+
+#[test]
+fn every_vector_agrees() {
+    let mut agreed = Agreed::default();
+    for line in include_str!("../vectors/text.requests").lines() {
+        agreed.compare(&request_from_text(line).expect("a request"));
+    }
+    let files: [&[u8]; 3] = [
+        include_bytes!("../vectors/chart.stdin"),
+        include_bytes!("../vectors/flatten.stdin"),
+        include_bytes!("../vectors/network.stdin"),
+    ];
+    for file in files {
+        for request in requests_from_bytes(file).expect("whole requests") {
+            agreed.compare(&request);
+        }
+    }
+    println!("{agreed}");
+}
+
+#[test]
+fn runs_and_damaged_files_agree() {
+    let mut agreed = Agreed::default();
+    for seed in 0..400 {
+        agreed.compare_seed(seed, 20);
+    }
+    println!("{agreed}");
+}
+
+#[test]
+fn charts_at_the_limits_agree() {
+    let mut agreed = Agreed::default();
+    let mut random = Random::new(1);
+    let charts = [
+        special::largest(),
+        special::dense(),
+        special::many_equal_choices(),
+        special::chart_with_edges(1024),
+        special::chart_with_edges(1025),
+        special::most_alternatives(),
+    ];
+    for chart in charts {
+        agreed.compare_chart(&chart, 40, &mut random);
+    }
+    agreed.compare_chart(&special::longest_network(), 1, &mut random);
+    println!("{agreed}");
+}
