@@ -23,7 +23,7 @@ use Rattle.flattener.specs.Sourcing.{fromState, Sourced, Least}
 use Rattle.flattener.specs.declared.walk.Tables.{Tables}
 use Rattle.flattener.proofs.Numbers.{IsPlace, all-places-at, same-place-at, same-place-by, number-injective, number-of-place}
 use Rattle.flattener.proofs.Arrivals.{departure-place}
-use Rattle.flattener.proofs.Gathers.{adds-skip, walk-none, walk-more, walk-all, concat-kept, concat-append}
+use Rattle.flattener.proofs.Gathers.{adds-skip, walk-none, walk-more, walk-all, walk-past, concat-kept, concat-append}
 use Rattle.flattener.proofs.Joining.{passed-of, ranges-of}
 
 keep-append : {A : Type 0} (p : A → Bool) (xs ys : List A) → keep p (xs ++ ys) ≡ keep p xs ++ keep p ys
@@ -160,11 +160,20 @@ module _ (c : Chart) (t : Tables) (T : Tabulated c t) (s : ℕ) (items : List �
   pub source-none : (b : List ℕ) (n j : ℕ) → Least (t .departures) items size 0 j → Adds b n b n (concat (bearingAll c s) (take j (allPlaces c)))
   source-none b n j L = subst (Adds b n b n) (sym (skip-to 0 j L)) (walk-none (bearingAll c s) (allPlaces c) b n)
 
+  source-next : (places j : ℕ) {b l g : List ℕ} {n m k : ℕ} → Adds b n l m (concat (bearingAll c s) (take j (allPlaces c))) → places ≡ length (allPlaces c) → j < places
+      → ((q : Place) → j ≡ number c q → Mem q (allPlaces c) → Adds l m g k (bearingAll c s q)) → Adds b n g k (concat (bearingAll c s) (take (j + 1) (allPlaces c)))
+  source-next places j W e h A =
+      let known : j < length (allPlaces c) = omega arith in
+      walk-more (bearingAll c s) (allPlaces c) j (idle 0) W known (A _ (sym (number-of-place c (idle 0) j known)) (getD-mem (allPlaces c) j (idle 0) known))
+
   pub source-more : (places j i : ℕ) {b l g : List ℕ} {n m k : ℕ} → Adds b n l m (concat (bearingAll c s) (take j (allPlaces c))) → places ≡ length (allPlaces c) → j < places → Least (t .departures) items size (j + 1) i
       → ((q : Place) → j ≡ number c q → Mem q (allPlaces c) → Adds l m g k (bearingAll c s q)) → Adds b n g k (concat (bearingAll c s) (take i (allPlaces c)))
-  source-more places j i {b} {g = g} {n = n} {k = k} W e h L A =
-      let known : j < length (allPlaces c) = omega arith in
-      subst (Adds b n g k) (sym (skip-to (j + 1) i L)) (walk-more (bearingAll c s) (allPlaces c) j (idle 0) W known (A _ (sym (number-of-place c (idle 0) j known)) (getD-mem (allPlaces c) j (idle 0) known)))
+  source-more places j i {b} {g = g} {n = n} {k = k} W e h L A = subst (Adds b n g k) (sym (skip-to (j + 1) i L)) (source-next places j W e h A)
+
+  -- too many before the last departure
+  pub source-past : (places j : ℕ) {b l g : List ℕ} {n m k : ℕ} → Adds b n l m (concat (bearingAll c s) (take j (allPlaces c))) → places ≡ length (allPlaces c) → j < places
+      → ((q : Place) → j ≡ number c q → Mem q (allPlaces c) → Adds l m g k (bearingAll c s q)) → 1024 < k → Adds b n g 1025 (concat (bearingAll c s) (allPlaces c))
+  source-past places j W e h A past = walk-past (bearingAll c s) (allPlaces c) (j + 1) (source-next places j W e h A) past
 
   pub source-all : (places j : ℕ) {b l : List ℕ} {n m : ℕ} → Adds b n l m (concat (bearingAll c s) (take j (allPlaces c))) → places ≡ length (allPlaces c) → places ≤ j → Adds b n l m (concat (bearingAll c s) (allPlaces c))
   source-all places j W e h = walk-all (bearingAll c s) (allPlaces c) j W (omega arith)

@@ -5,7 +5,7 @@ use mathlib.Core.List.{List, [], _∷_, _++_, map, append-assoc, append-nil}
 use Prim.Native.Nat.{ℕ, suc, _+_, _*_, _≤_, _<_}
 use native.Mathlib.Omega.{arith}
 use native.Mathlib.Numerals.{add-one}
-use lib.ListN.{length, getD, take, set, length-set, length-append}
+use lib.ListN.{length, getD, take, drop, set, length-set, length-append, take-append-drop}
 use lib.Seq.{take-all, take-suc, take-suc-set}
 use Rattle.expr.specs.Lists.{concat, keep}
 use Rattle.network.specs.Network.{Edge}
@@ -90,6 +90,20 @@ adds-full s n e full = record { long = λ i. i; after = λ i es G. gathered-full
 pub adds-skip : (s : List ℕ) (n : ℕ) {new : List Edge} → new ≡ [] → Adds s n s n new
 adds-skip s n e = subst (Adds s n s n) (sym e) (adds-none s n)
 
+-- more edges than there is room for
+pub adds-over : (s : List ℕ) (n : ℕ) (new : List Edge) → 1024 < length new → Adds s n s 1025 new
+adds-over s n new h = record {
+  long = λ i. i;
+  after = λ i es G. let long : length (es ++ new) ≡ length es + length new = length-append es new in record { counted = omega (arith, long); stand = λ k. absurd (omega (arith, long)) };
+}
+
+-- after more edges than there is room for
+pub adds-past : (s : List ℕ) (n : ℕ) (new : List Edge) → 1024 < n → Adds s n s 1025 new
+adds-past s n new h = record {
+  long = λ i. i;
+  after = λ i es G. let long : length (es ++ new) ≡ length es + length new = length-append es new in record { counted = omega (arith, G .counted, long); stand = λ k. absurd (omega (arith, G .counted, long)) };
+}
+
 -- a loop over a list that adds some edges for each element
 module _ {A : Type 0} (g : A → List Edge) (xs : List A) where
   pub walk-none : (s : List ℕ) (n : ℕ) → Adds s n s n (concat g (take 0 xs))
@@ -101,6 +115,10 @@ module _ {A : Type 0} (g : A → List Edge) (xs : List A) where
 
   pub walk-all : (k : ℕ) {s l : List ℕ} {n m : ℕ} → Adds s n l m (concat g (take k xs)) → length xs ≤ k → Adds s n l m (concat g xs)
   walk-all k {s} {l} {n} {m} W h = subst (λ (y : List A). Adds s n l m (concat g y)) (take-all k xs h) W
+
+  -- it may end once there are too many
+  pub walk-past : (k : ℕ) {s l : List ℕ} {n m : ℕ} → Adds s n l m (concat g (take k xs)) → 1024 < m → Adds s n l 1025 (concat g xs)
+  walk-past k {s} {l} {n} {m} W h = subst (Adds s n l 1025) (sym (concat-append g (take k xs) (drop k xs)) ∙ ap (concat g) (take-append-drop k xs)) (adds-then W (adds-past l m (concat g (drop k xs)) h))
 
 -- the edges of the elements that pass a test
 pub map-kept : {A B : Type 0} (p : A → Bool) (f : A → B) (xs : List A) → concat (λ x. cond (p x) (f x ∷ []) []) xs ≡ map f (keep p xs)
@@ -120,10 +138,3 @@ concat-kept p f (x ∷ xs) = go (p x) (concat-kept p f xs)
     go : (b : Bool) → concat (λ x. cond (p x) (f x) []) xs ≡ concat f (keep p xs) → cond b (f x) [] ++ concat (λ x. cond (p x) (f x) []) xs ≡ concat f (cond b (x ∷ keep p xs) (keep p xs))
     go true e = ap (λ l. f x ++ l) e
     go false e = e
-
--- more edges than there is room for
-pub adds-over : (s : List ℕ) (n : ℕ) (new : List Edge) → 1024 < length new → Adds s n s 1025 new
-adds-over s n new h = record {
-  long = λ i. i;
-  after = λ i es G. let long : length (es ++ new) ≡ length es + length new = length-append es new in record { counted = omega (arith, long); stand = λ k. absurd (omega (arith, long)) };
-}

@@ -14,7 +14,7 @@ use Rattle.flattener.specs.Adding.{Adds}
 use Rattle.flattener.specs.Walking.{Spread}
 use Rattle.flattener.specs.declared.place.Places.{Places}
 use Rattle.flattener.proofs.Numbers.{number-of-place}
-use Rattle.flattener.proofs.Gathers.{walk-more, walk-all}
+use Rattle.flattener.proofs.Gathers.{walk-more, walk-all, walk-past}
 use Rattle.flattener.proofs.Joining.{column-at}
 
 -- a place by its kind and its numbers
@@ -64,3 +64,11 @@ module _ (c : Chart) (places : Places) (L : Listed c (allPlaces c) places) where
   pub edges-all : (i : ℕ) {b l : List ℕ} {m : ℕ} → Adds b 0 l m (concat (fromPlace c) (take i (allPlaces c))) → places .count ≤ i → length b ≡ 13312 → Gathered l m (flatten c .edges)
   unfolding flatten concat
   edges-all i {b} {l} {m} W h e = walk-all (fromPlace c) (allPlaces c) i W (omega (arith, L .count)) .after e [] (record { counted = refl; stand = λ k. refl })
+
+  -- too many of them before the last place
+  pub place-past : (i kind value mark : ℕ) {b l g : List ℕ} {m j : ℕ} → Adds b 0 l m (concat (fromPlace c) (take i (allPlaces c))) → i < places .count
+      → kind ≡ getD (places .kinds) i 0 → value ≡ getD (places .values) i 0 → mark ≡ getD (places .marks) i 0
+      → ((p : Place) → Mem p (allPlaces c) → i ≡ number c p → kind ≡ kindOf p → value ≡ valueOf p → mark ≡ markOf p → Adds l m g j (fromPlace c p))
+      → 1024 < j → length b ≡ 13312 → Gathered g 1025 (flatten c .edges)
+  unfolding flatten concat
+  place-past i kind value mark W h k v e A past z = walk-past (fromPlace c) (allPlaces c) (i + 1) (place-more i kind value mark W h k v e A) past .after z [] (record { counted = refl; stand = λ k. refl })

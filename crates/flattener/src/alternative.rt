@@ -29,12 +29,24 @@ impl Sets {
     pub const COUNT: usize = 1024;
 }
 
-// A place in ascending sets before which all are smaller than x.
+// A place in ascending sets before which all are smaller than x, by the last of them: the end or the start.
+fn end_or_start(items: &[u16; 1024], count: usize, x: u16) -> usize
+    requires { ⌜ count ≤ 1024 ⌝ }
+    ensures { λ r. ⌜ (r ≤ count) × ((r ≡ 0) ⊎ (getD (now (items .entry)) (r - 1) 0 < x)) ⌝ }
+{
+    if count == 0 {
+        return 0;
+    }
+    let last = items[count - 1];
+    if last < x { count } else { 0 }
+}
+
+// The last such place. Most sets come in ascending order, so the end is tried first.
 fn place_of(items: &[u16; 1024], count: usize, x: u16) -> usize
     requires { ⌜ count ≤ 1024 ⌝ }
     ensures { λ r. ⌜ (r ≤ count) × ((r ≡ 0) ⊎ (getD (now (items .entry)) (r - 1) 0 < x)) ⌝ }
 {
-    let mut low = 0;
+    let mut low = end_or_start(items, count, x);
     let mut high = count;
     while low < high {
         let middle = low + (high - low) / 2;

@@ -65,7 +65,8 @@ fn bear_each(
     n
 }
 
-// The edges that bear the transition u: from its source, whose number is i, to the place with the number j.
+// The edges that bear the transition u: from its source, whose number is i, to the place with the number j. Where there
+// are too many edges already, no set is looked for.
 pub fn bear(
     heads: &mut [u8; 13312],
     count: u16,
@@ -80,6 +81,9 @@ pub fn bear(
 ) -> u16
     ensures { λ r. ⌜ ((c : Chart) (n : Counts) (q : Place) → Tabulated c t → Spread c (now (exits .entry)) (now (homes .entry)) → Laid (now (rest .entry)) n (now (offsets .entry)) c → u < length (c .transitions) → i ≡ number c (child (transitionAt c u .source)) → j ≡ number c q → Mem q (allPlaces c) → Adds (now (heads .entry)) count (now (heads .exit)) r (bearing c q u)) ⌝ }
 {
+    if count > 1024 {
+        return 1025;
+    }
     let transitions = t.transitions;
     let sources = transitions.sources;
     let left_by = transitions.exits;

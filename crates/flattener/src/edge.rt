@@ -288,6 +288,9 @@ pub fn all_edges(
             value,
             mark,
         );
+        if n > 1024 {
+            return 1025;
+        }
         i += 1;
     }
     n

@@ -122,6 +122,9 @@ pub fn from_source(
     let mut j = next_departure(&departures, &items, size, 0);
     while j < places {
         n = to_place(heads, n, t, exits, homes, rest, offsets, &items, size, i, j);
+        if n > 1024 {
+            return 1025;
+        }
         j = next_departure(&departures, &items, size, j + 1);
     }
     n

@@ -3,6 +3,7 @@ use mathlib.Core.Logic.{_⊎_, inl, inr}
 use Prim.Native.Nat.{_+_, _-_, _/_, _≤_, _<_}
 use native.Mathlib.Omega.{arith}
 use lib.ListN.{getD}
+use borrow.Author.Needs.{needs}
 use Rattle.flattener.proofs.Keeping.{before-next}
 use Rattle.flattener.proofs.alternative.place_of.Statement.{statement}
 use Rattle.flattener.proofs.alternative.place_of.Tie as tie
@@ -13,8 +14,11 @@ Inv-loop items count x low₀ high₀ low high = (low ≤ high) × (high ≤ cou
 abbrev μ-loop : tie.MeasureT-loop
 μ-loop items count x low₀ high₀ low high = high - low
 
+end-or-start-requires : tie.Need-end-or-start-requires Inv-loop μ-loop
+end-or-start-requires c κs = search needs
+
 loop-holds : tie.Need-loop-holds Inv-loop μ-loop
-loop-holds c = (omega arith, omega arith, omega arith, inl refl)
+loop-holds c = (omega arith, omega arith, omega arith, c .end-or-start .ensures .1)
 
 sub-middle : tie.Need-sub-middle Inv-loop μ-loop
 sub-middle c = omega arith
@@ -37,7 +41,7 @@ loop-less c = omega arith
 loop-again : tie.Need-loop-again Inv-loop μ-loop
 loop-again c =
     let l = c .before .before .before in
-    (omega arith, omega arith, omega arith, inr (before-next (l .before .args .items .now) (l .loop .low + (l .loop .high - l .loop .low) / 2) _ (c .if1 .taken)))
+    (omega arith, omega arith, omega arith, inr (before-next (l .before .before .args .items .now) (l .loop .low + (l .loop .high - l .loop .low) / 2) _ (c .if1 .taken)))
 
 loop-less-2 : tie.Need-loop-less-2 Inv-loop μ-loop
 loop-less-2 c = omega arith
@@ -54,6 +58,7 @@ place-of-spec =
     (tie.spec
     Inv-loop
     μ-loop
+    end-or-start-requires
     loop-holds
     sub-middle
     add-middle

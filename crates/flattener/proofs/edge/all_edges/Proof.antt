@@ -1,4 +1,4 @@
-use Rattle.flattener.proofs.Visits.{spread-of, place-more, edges-all}
+use Rattle.flattener.proofs.Visits.{spread-of, place-more, edges-all, place-past}
 use Rattle.flattener.proofs.Gathers.{walk-none}
 use Rattle.flattener.specs.Walking.{Tabulated}
 use Rattle.flattener.specs.Adding.{Adds}
@@ -36,6 +36,11 @@ of-place-requires-3 c κs = search needs
 from-place-requires : tie.Need-from-place-requires Inv-loop μ-loop
 from-place-requires c κs = search needs
 
+returns : tie.Need-returns Inv-loop μ-loop
+returns c = λ d r T P L e.
+    place-past d _ P _ _ _ _ (c .before .before .before .before .before .before .before .before .before .before .before .before .before .loop .inv d r T P L) (c .before .before .before .before .before .before .before .before .before .before .before .if1 .taken) (c .before .before .before .before .before .before .before .before .before .of-place .ensures) (c .before .before .before .before .before .before .before .of-place2 .ensures) (c .before .before .before .before .before .of-place3 .ensures)
+    (λ p m f k v a. c .before .from-place .ensures d r p T (spread-of d _ P) L (P .count) m f k v a) (c .if2 .taken) e
+
 add-i : tie.Need-add-i Inv-loop μ-loop
 add-i c = omega arith
 
@@ -44,11 +49,11 @@ loop-less c = omega arith
 
 loop-again : tie.Need-loop-again Inv-loop μ-loop
 loop-again c = λ d r T P L.
-    place-more d _ P _ _ _ _ (c .before .before .before .before .before .before .before .before .before .before .before .before .loop .inv d r T P L) (c .before .before .before .before .before .before .before .before .before .before .if1 .taken) (c .before .before .before .before .before .before .before .before .of-place .ensures) (c .before .before .before .before .before .before .of-place2 .ensures) (c .before .before .before .before .of-place3 .ensures)
-    (λ p m f k v a. c .from-place .ensures d r p T (spread-of d _ P) L (P .count) m f k v a)
+    place-more d _ P _ _ _ _ (c .before .before .before .before .before .before .before .before .before .before .before .before .before .loop .inv d r T P L) (c .before .before .before .before .before .before .before .before .before .before .before .if1 .taken) (c .before .before .before .before .before .before .before .before .before .of-place .ensures) (c .before .before .before .before .before .before .before .of-place2 .ensures) (c .before .before .before .before .before .of-place3 .ensures)
+    (λ p m f k v a. c .before .from-place .ensures d r p T (spread-of d _ P) L (P .count) m f k v a)
 
-returns : tie.Need-returns Inv-loop μ-loop
-returns c = λ d r T P L e. edges-all d _ P _ (c .before .before .loop .inv d r T P L) (c .if1 .left) e
+returns-2 : tie.Need-returns-2 Inv-loop μ-loop
+returns-2 c = λ d r T P L e. edges-all d _ P _ (c .before .before .loop .inv d r T P L) (c .if1 .left) e
 
 pub all-edges-spec : {M : Type 1} → statement M
 all-edges-spec =
@@ -61,7 +66,8 @@ all-edges-spec =
     of-place-requires-2
     of-place-requires-3
     from-place-requires
+    returns
     add-i
     loop-less
     loop-again
-    returns)
+    returns-2)

@@ -1,4 +1,4 @@
-use Rattle.flattener.proofs.Departs.{source-none, source-more, source-all}
+use Rattle.flattener.proofs.Departs.{source-none, source-more, source-past, source-all}
 use Rattle.flattener.specs.Walking.{Tabulated, Spread}
 use Rattle.flattener.specs.Adding.{Adds}
 use Rattle.flattener.specs.Flatten.{child, allPlaces, number, bearingAll}
@@ -32,8 +32,11 @@ loop-holds c = λ d r T P L e f. source-none d _ T _ _ _ (c .before .before .bef
 to-place-requires : tie.Need-to-place-requires Inv-loop μ-loop
 to-place-requires c κs = search needs
 
+returns : tie.Need-returns Inv-loop μ-loop
+returns c = λ d r T P L e f. source-past d _ T _ _ _ (c .before .before .before .before .before .before .before .before .before .before .transitions-from .ensures d (T .transitions .source) (T .transitions .count) (T .transitions .few)) _ _ (c .before .before .before .before .before .loop .inv d r T P L e f) e (c .before .before .before .before .loop-test .taken) (λ q g m. c .before .to-place .ensures d r _ q T P L (c .before .before .before .before .before .before .before .before .before .before .transitions-from .ensures d (T .transitions .source) (T .transitions .count) (T .transitions .few)) f g m) (c .if1 .taken)
+
 add-next-departure : tie.Need-add-next-departure Inv-loop μ-loop
-add-next-departure c = omega (arith, c .before .before .before .before .before .before .before .before .before .before .before .before .before .before .before .before .before .before .fits .places)
+add-next-departure c = omega (arith, c .before .before .before .before .before .before .before .before .before .before .before .before .before .before .before .before .before .before .before .fits .places)
 
 next-departure-requires-2 : tie.Need-next-departure-requires-2 Inv-loop μ-loop
 next-departure-requires-2 c κs = search needs
@@ -42,10 +45,10 @@ loop-less : tie.Need-loop-less Inv-loop μ-loop
 loop-less c = omega (arith, c .next-departure2 .ensures .after)
 
 loop-again : tie.Need-loop-again Inv-loop μ-loop
-loop-again c = λ d r T P L e f. source-more d _ T _ _ _ (c .before .before .before .before .before .before .before .before .before .before .before .before .transitions-from .ensures d (T .transitions .source) (T .transitions .count) (T .transitions .few)) _ _ _ (c .before .before .before .before .before .before .before .loop .inv d r T P L e f) e (c .before .before .before .before .before .before .loop-test .taken) (c .next-departure2 .ensures) (λ q g m. c .before .before .before .to-place .ensures d r _ q T P L (c .before .before .before .before .before .before .before .before .before .before .before .before .transitions-from .ensures d (T .transitions .source) (T .transitions .count) (T .transitions .few)) f g m)
+loop-again c = λ d r T P L e f. source-more d _ T _ _ _ (c .before .before .before .before .before .before .before .before .before .before .before .before .before .transitions-from .ensures d (T .transitions .source) (T .transitions .count) (T .transitions .few)) _ _ _ (c .before .before .before .before .before .before .before .before .loop .inv d r T P L e f) e (c .before .before .before .before .before .before .before .loop-test .taken) (c .next-departure2 .ensures) (λ q g m. c .before .before .before .before .to-place .ensures d r _ q T P L (c .before .before .before .before .before .before .before .before .before .before .before .before .before .transitions-from .ensures d (T .transitions .source) (T .transitions .count) (T .transitions .few)) f g m)
 
-returns : tie.Need-returns Inv-loop μ-loop
-returns c = λ d r T P L e f. source-all d _ T _ _ _ (c .before .before .before .before .before .before .transitions-from .ensures d (T .transitions .source) (T .transitions .count) (T .transitions .few)) _ _ (c .before .loop .inv d r T P L e f) e (c .loop-test .left)
+returns-2 : tie.Need-returns-2 Inv-loop μ-loop
+returns-2 c = λ d r T P L e f. source-all d _ T _ _ _ (c .before .before .before .before .before .before .transitions-from .ensures d (T .transitions .source) (T .transitions .count) (T .transitions .few)) _ _ (c .before .loop .inv d r T P L e f) e (c .loop-test .left)
 
 pub from-source-spec : {M : Type 1} → statement M
 from-source-spec =
@@ -57,8 +60,9 @@ from-source-spec =
     next-departure-requires
     loop-holds
     to-place-requires
+    returns
     add-next-departure
     next-departure-requires-2
     loop-less
     loop-again
-    returns)
+    returns-2)
