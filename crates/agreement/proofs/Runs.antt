@@ -24,7 +24,7 @@ use Rattle.agreement.proofs.Relation.{Related, standing}
 use Rattle.agreement.proofs.Claims.{AllClaims}
 
 -- where two are alike and one is no refusal, nor is the other
-alike-accepts : {A B : Type 0} (a : Answer A) (b : Answer B) → Alike a b → Accepts a → Accepts b
+pub alike-accepts : {A B : Type 0} (a : Answer A) (b : Answer B) → Alike a b → Accepts a → Accepts b
 unfolding Alike Accepts
 alike-accepts (done a) (done b) h k = (b, refl)
 alike-accepts (done a) (refused j) h k = absurd h
@@ -58,7 +58,12 @@ abbrev paying : Run → NetworkConfiguration → Run
 paying r ν = record { network = ν; chart = r .chart; reading = r .reading; owed = r .owed - 1 }
 
 module _ (c : Chart) (n : Network) (r : Run) where
-  -- by a move that carries transitions, which the chart accepts
+  -- by a move
+  pub extended-moving : {ν : NetworkConfiguration} (ms : List ℕ) → network.step n (r .network) ms ≡ done ν → extended c n r (step ms) ≡ moved c ν r (carried n ms)
+  unfolding extended moved
+  extended-moving ms h = rw (h, extended)
+
+  -- by one that carries transitions, which the chart accepts
   extended-adding : {ν : NetworkConfiguration} {τ : ChartConfiguration} (ms : List ℕ) → network.step n (r .network) ms ≡ done ν → (carried n ms ≡ [] → ⊥) → chart.step c (r .chart) (carried n ms) ≡ done τ
       → extended c n r (step ms) ≡ adding r ν τ (step (carried n ms)) (r .owed + named c (carried n ms))
   unfolding extended moved left
@@ -74,16 +79,16 @@ module _ (c : Chart) (n : Network) (r : Run) where
   extended-paying {ν} ms h e = rw (h, extended) (ap (moved c ν r) e)
 
   -- by a wait that both accept
-  extended-waiting : {ν : NetworkConfiguration} {τ : ChartConfiguration} (d : ℕ) → network.wait n (r .network) d ≡ done ν → chart.wait c (r .chart) d ≡ done τ → extended c n r (wait d) ≡ adding r ν τ (wait d) (r .owed)
+  pub extended-waiting : {ν : NetworkConfiguration} {τ : ChartConfiguration} (d : ℕ) → network.wait n (r .network) d ≡ done ν → chart.wait c (r .chart) d ≡ done τ → extended c n r (wait d) ≡ adding r ν τ (wait d) (r .owed)
   unfolding extended left
   extended-waiting {ν} d h e = rw (h, extended) (ap (λ (a : Answer ChartConfiguration). adding r ν (left (r .chart) a) (wait d) (r .owed)) e)
 
   -- a refused call adds nothing
-  extended-step-refused : {k : ℕ} (ms : List ℕ) → network.step n (r .network) ms ≡ refused k → extended c n r (step ms) ≡ r
+  pub extended-step-refused : {k : ℕ} (ms : List ℕ) → network.step n (r .network) ms ≡ refused k → extended c n r (step ms) ≡ r
   unfolding extended
   extended-step-refused ms h = rw (h, extended)
 
-  extended-wait-refused : {k : ℕ} (d : ℕ) → network.wait n (r .network) d ≡ refused k → extended c n r (wait d) ≡ r
+  pub extended-wait-refused : {k : ℕ} (d : ℕ) → network.wait n (r .network) d ≡ refused k → extended c n r (wait d) ≡ r
   unfolding extended
   extended-wait-refused d h = rw (h, extended)
 
@@ -92,6 +97,11 @@ pub run-append : (c : Chart) (n : Network) (r : Run) (xs ys : List Call) → run
 unfolding runFrom
 run-append c n r [] ys = refl
 run-append c n r (x ∷ xs) ys = run-append c n (extended c n r x) xs ys
+
+-- one call more
+pub run-more : (c : Chart) (n : Network) (calls : List Call) (x : Call) → run c n (calls ++ (x ∷ [])) ≡ extended c n (run c n calls) x
+unfolding run runFrom
+run-more c n calls x = run-append c n _ calls (x ∷ [])
 
 module _ (claims : AllClaims) (c : Chart) (passed : Passed c) (ranges : Ranges c) where
   abbrev n : Network

@@ -1,9 +1,8 @@
 // The alternatives of an exit: sets of automata, as bits.
 ghost use mathlib.Core.Path.{_≡_};
 ghost use mathlib.Core.Bool.{true, false, cond};
-ghost use mathlib.Core.Logic.{_⊎_};
-ghost use mathlib.Core.List.{List, [], _∷_, _++_, map, List·Memᴰ as Mem};
-ghost use Prim.Native.Nat.{ℕ, _+_, _-_, _^_, _≤_, _<_};
+ghost use mathlib.Core.List.{List, [], _++_, map, List·Memᴰ as Mem};
+ghost use Prim.Native.Nat.{ℕ, _+_, _^_, _<_};
 ghost use lib.ListN.{getD, length};
 ghost use lib.Bits.{bitOr};
 ghost use Rattle.expr.specs.Lists.{has};
@@ -12,6 +11,7 @@ ghost use Rattle.chart.specs.Table.{Tabled};
 ghost use Rattle.flattener.specs.Flatten.{sums, choicesFrom, automaton};
 ghost use Rattle.flattener.specs.Tables.{Chartered, Automated};
 ghost use Rattle.flattener.specs.Choosing.{choices, Kept, Held, Clear, Choosing};
+use crate::ascending::with_number;
 use crate::automaton::Automata;
 use chart::table::Tree;
 use chart::table::is_child;
@@ -29,64 +29,6 @@ impl Sets {
     pub const COUNT: usize = 1024;
 }
 
-// A place in ascending sets before which all are smaller than x, by the last of them: the end or the start.
-fn end_or_start(items: &[u16; 1024], count: usize, x: u16) -> usize
-    requires { ⌜ count ≤ 1024 ⌝ }
-    ensures { λ r. ⌜ (r ≤ count) × ((r ≡ 0) ⊎ (getD (now (items .entry)) (r - 1) 0 < x)) ⌝ }
-{
-    if count == 0 {
-        return 0;
-    }
-    let last = items[count - 1];
-    if last < x { count } else { 0 }
-}
-
-// The last such place. Most sets come in ascending order, so the end is tried first.
-fn place_of(items: &[u16; 1024], count: usize, x: u16) -> usize
-    requires { ⌜ count ≤ 1024 ⌝ }
-    ensures { λ r. ⌜ (r ≤ count) × ((r ≡ 0) ⊎ (getD (now (items .entry)) (r - 1) 0 < x)) ⌝ }
-{
-    let mut low = end_or_start(items, count, x);
-    let mut high = count;
-    while low < high {
-        let middle = low + (high - low) / 2;
-        let y = items[middle];
-        if y < x {
-            low = middle + 1;
-        } else {
-            high = middle;
-        }
-    }
-    low
-}
-
-// The sets with one more; 1,025 of them if there are too many.
-fn with_set(items: &mut [u16; 1024], count: usize, x: u16) -> usize
-    ensures { λ r. ⌜ ((xs : List ℕ) → Kept (now (items .entry)) count xs → Kept (now (items .exit)) r (x ∷ xs)) ⌝ }
-{
-    if count > 1024 {
-        return count;
-    }
-    let mut value = x;
-    let mut i = place_of(items, count, x);
-    while i < count {
-        let y = items[i];
-        if value == y {
-            return count;
-        }
-        if value < y {
-            items[i] = value;
-            value = y;
-        }
-        i += 1;
-    }
-    if count == 1024 {
-        return 1025;
-    }
-    items[count] = value;
-    count + 1
-}
-
 // The sets of one table with each set of another, joined with a set that it has nothing of.
 fn with_each(from: &[u16; 1024], size: usize, set: u16, to: &mut [u16; 1024], count: usize) -> usize
     ensures { λ r. ⌜ ((xs ys : List ℕ) → Kept (now (from .entry)) size xs → Kept (now (to .entry)) count ys → ((x : ℕ) → Mem x xs → bitOr x set ≡ x + set) → Kept (now (to .exit)) r (map (λ x. x + set) xs ++ ys)) ⌝ }
@@ -98,7 +40,7 @@ fn with_each(from: &[u16; 1024], size: usize, set: u16, to: &mut [u16; 1024], co
     let mut i = 0;
     while i < size {
         let x = from[i];
-        total = with_set(to, total, x | set);
+        total = with_number(to, total, x | set);
         i += 1;
     }
     total

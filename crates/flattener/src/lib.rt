@@ -1,5 +1,6 @@
-// The flattener. The operation is in `operation`.
+// The flattener. The operation is in `operation`. `ascending` is also what reads a chart's step from a network's.
 mod alternative;
+pub mod ascending;
 mod automaton;
 mod bear;
 mod below;

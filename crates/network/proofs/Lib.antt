@@ -13,3 +13,4 @@ pub mod Choosing
 pub mod Stepping
 pub mod InPlace
 pub mod Verdicts
+pub mod Borne

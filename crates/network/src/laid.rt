@@ -69,7 +69,7 @@ pub struct Key {
 }
 
 // The same of edge i of a checked file. Its bytes stand at fixed places of the record.
-fn key_of(rest: &[u8], offsets: &[u32; 1024], i: u16) -> Key
+pub fn key_of(rest: &[u8], offsets: &[u32; 1024], i: u16) -> Key
     ensures { λ r. ⌜ ((k : _) (n : Network) → Laid (now (rest .entry)) k (now (offsets .entry)) n → i < k .edges → keyOf r ≡ key (edgeAt n i)) ⌝ }
 {
     let at = offset_of(offsets, i) as usize;

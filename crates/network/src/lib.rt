@@ -1,8 +1,9 @@
 // The network machine. The operations are in `operation`, and in place in `in_place`; what they answer with is in
-// `moved`, `configuration`, `check` and `header`.
+// `moved` and `configuration`. `bearing` answers which transitions of a chart the edges of a step bear.
 mod active;
 mod after;
-pub mod check;
+pub mod bearing;
+mod check;
 mod choice;
 pub mod configuration;
 mod edge;

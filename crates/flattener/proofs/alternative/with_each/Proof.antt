@@ -27,8 +27,8 @@ mul-x c = omega arith
 element-copy-out-x : tie.Need-element-copy-out-x Inv-loop μ-loop
 element-copy-out-x c = omega arith
 
-with-set-requires : tie.Need-with-set-requires Inv-loop μ-loop
-with-set-requires c κs = tt
+with-number-requires : tie.Need-with-number-requires Inv-loop μ-loop
+with-number-requires c κs = tt
 
 add-i : tie.Need-add-i Inv-loop μ-loop
 add-i c = omega arith
@@ -39,7 +39,7 @@ loop-less c = omega arith
 loop-again : tie.Need-loop-again Inv-loop μ-loop
 loop-again c =
     let l = c .before .before .before .before in
-    (omega arith, omega arith, λ xs ys k m a. each-next _ _ _ xs ys k (omega arith) a _ _ _ (omega arith) (c .with-set .ensures _ (l .loop .inv .2 xs ys k m a)))
+    (omega arith, omega arith, λ xs ys k m a. each-next _ _ _ xs ys k (omega arith) a _ _ _ (omega arith) (c .with-number .ensures _ (l .loop .inv .2 xs ys k m a)))
 
 returns-2 : tie.Need-returns-2 Inv-loop μ-loop
 returns-2 c xs ys k m a = each-last _ _ _ xs ys k _ _ _ (omega arith) (c .loop-test .left) (c .before .loop .inv .2 xs ys k m a)
@@ -54,7 +54,7 @@ with-each-spec =
     loop-holds
     mul-x
     element-copy-out-x
-    with-set-requires
+    with-number-requires
     add-i
     loop-less
     loop-again

@@ -5,8 +5,8 @@ use native.Mathlib.Omega.{arith}
 use Rattle.flattener.specs.Flatten.{sorted}
 use Rattle.flattener.specs.Choosing.{Kept}
 use Rattle.flattener.proofs.Keeping.{Walking, walking-first, walking-pass, walking-swap, kept-still, kept-equal, kept-full, kept-more}
-use Rattle.flattener.proofs.alternative.with_set.Statement.{statement}
-use Rattle.flattener.proofs.alternative.with_set.Tie as tie
+use Rattle.flattener.proofs.ascending.with_number.Statement.{statement}
+use Rattle.flattener.proofs.ascending.with_number.Tie as tie
 
 abbrev Inv-loop : tie.InvT-loop
 Inv-loop items₀ count x value₀ i₀ items value i = (i ≤ count) × (count ≤ 1024) × ((xs : List ℕ) → Kept items₀ count xs → Walking x (sorted xs) items count i value)
@@ -73,8 +73,8 @@ returns-4 c xs k =
     let l = c .before .before in
     kept-more _ xs _ _ (omega arith) _ _ (l .loop .inv .2 xs k) (omega arith) (omega arith) (c .if4 .left)
 
-pub with-set-spec : {M : Type 1} → statement M
-with-set-spec =
+pub with-number-spec : {M : Type 1} → statement M
+with-number-spec =
     tie.close
     (tie.spec
     Inv-loop

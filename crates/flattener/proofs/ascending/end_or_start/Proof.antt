@@ -2,8 +2,8 @@ use mathlib.Core.Path.{refl}
 use mathlib.Core.Logic.{inl, inr}
 use native.Mathlib.Omega.{arith}
 use borrow.Author.Needs.{needs}
-use Rattle.flattener.proofs.alternative.end_or_start.Statement.{statement}
-use Rattle.flattener.proofs.alternative.end_or_start.Tie as tie
+use Rattle.flattener.proofs.ascending.end_or_start.Statement.{statement}
+use Rattle.flattener.proofs.ascending.end_or_start.Tie as tie
 
 returns : tie.Need-returns
 returns c = (omega arith, inl refl)

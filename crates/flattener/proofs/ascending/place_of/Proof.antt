@@ -5,8 +5,8 @@ use native.Mathlib.Omega.{arith}
 use lib.ListN.{getD}
 use borrow.Author.Needs.{needs}
 use Rattle.flattener.proofs.Keeping.{before-next}
-use Rattle.flattener.proofs.alternative.place_of.Statement.{statement}
-use Rattle.flattener.proofs.alternative.place_of.Tie as tie
+use Rattle.flattener.proofs.ascending.place_of.Statement.{statement}
+use Rattle.flattener.proofs.ascending.place_of.Tie as tie
 
 abbrev Inv-loop : tie.InvT-loop
 Inv-loop items count x low₀ high₀ low high = (low ≤ high) × (high ≤ count) × (count ≤ 1024) × ((low ≡ 0) ⊎ (getD items (low - 1) 0 < x))

@@ -1,0 +1,15 @@
+-- The transitions that edges bear.
+use Prim.Native.Nat.{ℕ}
+use mathlib.Core.List.{List, map}
+use lib.ListN.{take}
+use Rattle.expr.specs.Lists.{padded}
+use Rattle.network.specs.Network.{Network}
+use Rattle.network.specs.Machine.{edgeAt}
+
+-- the transition that the edge of a number bears, 255 for none
+abbrev pub transitionOf : Network → ℕ → ℕ
+transitionOf n m = edgeAt n m .transition
+
+-- those of a list of edges as an array of sixteen holds them: 255 past the list's end
+unfoldable pub transitionsOf : Network → List ℕ → List ℕ
+transitionsOf n ms = padded 16 255 (map (transitionOf n) (take 16 ms))

@@ -1,0 +1,66 @@
+use mathlib.Core.Path.{_≡_, sym, _∙_, subst}
+use mathlib.Core.Bool.{true}
+use mathlib.Core.List.{List}
+use Prim.Native.Nat.{ℕ, _≤_}
+use native.Mathlib.Omega.{arith}
+use lib.ListN.{length}
+use Rattle.expr.specs.Moves.{known}
+use Rattle.expr.proofs.Answer.{refused-not}
+use Rattle.expr.proofs.Places.{answered, part-onward}
+use Rattle.chart.specs.Laid.{Laid}
+use Rattle.chart.specs.Answers.{checkedOf}
+use Rattle.chart.proofs.Waits.{verdict-refused-at, verdict-done-at, chart-long}
+use borrow.Author.Needs.{needs}
+use Rattle.paired_run.proofs.owe.named.Statement.{statement}
+use Rattle.paired_run.proofs.owe.named.Tie as tie
+
+long : (c : tie.After-enum-told) → 11 ≤ length (c .before .before .before .before .before .args .file .now)
+long c = chart-long _ (verdict-done-at _ (answered checkedOf (c .before .before .checked .ensures .0) (c .enum-told .given .1)) .1)
+
+checked-requires : tie.Need-checked-requires
+checked-requires c κs = search needs
+
+enum-told : tie.Need-enum-told
+enum-told c = search needs
+
+enum-told-2 : tie.Need-enum-told-2
+enum-told-2 c = search needs
+
+returns : tie.Need-returns
+returns c = λ d h right. refused-not (sym (verdict-refused-at _ (answered checkedOf (c .before .before .checked .ensures .0) (c .enum-told2 .given .1))) ∙ h)
+
+sub-named-in : tie.Need-sub-named-in
+sub-named-in c = omega (arith, long (c .before))
+
+part-named-in-start : tie.Need-part-named-in-start
+part-named-in-start c = omega (arith, long (c .before))
+
+part-named-in-end : tie.Need-part-named-in-end
+part-named-in-end c = search needs
+
+slice-aggregate-named-in : tie.Need-slice-aggregate-named-in
+slice-aggregate-named-in c = search needs
+
+named-in-requires : tie.Need-named-in-requires
+named-in-requires c κs = search needs
+
+returns-2 : tie.Need-returns-2
+returns-2 c = λ d h right. let f = c .before .before .before .before .before .before .checked in
+    let laid = f .ensures .1 d h .laid in
+    let file = c .before .before .before .before .before .before .before .before .before .args .file .now in
+    c .named-in .ensures d (f .result .counts) (subst (λ (l : List ℕ). Laid l (f .result .counts) (f .result .offsets) d) (sym (part-onward file 3)) laid) (subst (λ (k : ℕ). known k (c .before .before .before .before .before .before .before .before .before .args .list .now) ≡ true) (laid .transitions) right)
+
+pub named-spec : {M : Type 1} → statement M
+named-spec =
+    tie.close
+    (tie.spec
+    checked-requires
+    enum-told
+    enum-told-2
+    returns
+    sub-named-in
+    part-named-in-start
+    part-named-in-end
+    slice-aggregate-named-in
+    named-in-requires
+    returns-2)

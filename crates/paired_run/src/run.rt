@@ -1,0 +1,164 @@
+// Both machines at one moment of a run: of the chart in a file, and of the network whose bytes flattening wrote of it. Each
+// accepted call of the network is read as a call of the chart, or as none.
+ghost use mathlib.Core.Path.{_≡_};
+ghost use mathlib.Core.List.{List, []};
+ghost use Prim.Native.Nat.{_-_, _≤_};
+ghost use Rattle.expr.specs.Answer.{done};
+ghost use Rattle.chart.specs.Chart.{Chart};
+ghost use Rattle.chart.specs.Rules.{chartOf};
+ghost use Rattle.network.specs.Network.{Network};
+ghost use Rattle.agreement.specs.Agreement as agreed;
+ghost use Rattle.paired_run.specs.Paired.{listOf, Flattening, Stands, Safe, Follows, FollowsCall, accepted};
+use crate::carry::Transitions;
+use crate::carry::carried;
+use crate::owe::named;
+use chart::rule::Checked;
+use network::moved::Verdict;
+
+// Both machines, and how many urgent moves are owed.
+pub struct Run {
+    pub network: network::configuration::Configuration,
+    pub chart: chart::configuration::Configuration,
+    pub owed: u64,
+}
+
+// The call of the chart that is read from one of the network.
+pub enum Reading {
+    Nothing,
+    Step,
+    Wait(u32),
+}
+
+// What follows a call of the network: its verdict, the call that is read and the chart's answer to it, and the run. A
+// step is read with the transitions that the move carries.
+pub struct Followed {
+    pub verdict: Verdict,
+    pub reading: Reading,
+    pub carried: Transitions,
+    pub answer: Checked,
+    pub run: Run,
+}
+
+// Both machines start.
+pub fn start(file: &[u8], bytes: &[u8]) -> Run
+    ensures { λ r. ⌜ ((c : Chart) (n : Network) → Flattening (now (file .entry)) (now (bytes .entry)) c n → Stands r (agreed.run c n [])) ⌝ }
+{
+    let moved = network::operation::start(bytes);
+    let network = moved.configuration;
+    let outcome = chart::machine::start(file);
+    let chart = outcome.configuration;
+    Run {
+        network,
+        chart,
+        owed: 0,
+    }
+}
+
+fn no_transitions() -> Transitions {
+    Transitions {
+        list: [0; 16],
+        count: 0,
+    }
+}
+
+// A refused call of the network adds nothing.
+fn refused(verdict: Verdict, run: Run) -> Followed
+    ensures { λ r. ⌜ ((x : agreed.Run) → Stands run x → Follows x x verdict r) ⌝ }
+{
+    Followed {
+        verdict,
+        reading: Reading::Nothing,
+        carried: no_transitions(),
+        answer: Checked::Passed,
+        run,
+    }
+}
+
+fn one_less(n: u64) -> u64
+    ensures { λ r. ⌜ r ≡ n - 1 ⌝ }
+{
+    if n == 0 { 0 } else { n - 1 }
+}
+
+// After a move of the network to the next configuration. One that carries transitions adds the chart's step with them, and
+// owes an urgent move for each exit and entry that they name. One that carries none adds nothing, and one less is owed.
+fn after_move(
+    file: &[u8],
+    run: Run,
+    next: network::configuration::Configuration,
+    carried: Transitions,
+) -> Followed
+    requires { ⌜ carried .count ≤ 16 ⌝ }
+    ensures { λ r. ⌜ ((c : Chart) (x : agreed.Run) → chartOf (now (file .entry)) ≡ done c → Stands run x → Safe c x (listOf carried) → Follows x (agreed.moved c next x (listOf carried)) accepted r) ⌝ }
+{
+    let chart = run.chart;
+    let list = carried.list;
+    let count = carried.count;
+    if count == 0 {
+        return Followed {
+            verdict: Verdict::Done,
+            reading: Reading::Nothing,
+            carried,
+            answer: Checked::Passed,
+            run: Run {
+                network: next,
+                chart,
+                owed: one_less(run.owed),
+            },
+        };
+    }
+    let outcome = chart::machine::step(file, chart, &list[0..count]);
+    let answer = outcome.answer;
+    let after = outcome.configuration;
+    let owed = std::num::wrapping_add_u64(run.owed, named(file, &list[0..count]));
+    Followed {
+        verdict: Verdict::Done,
+        reading: Reading::Step,
+        carried,
+        answer,
+        run: Run {
+            network: next,
+            chart: after,
+            owed,
+        },
+    }
+}
+
+// After a step of the network along a list of edges.
+pub fn after_step(file: &[u8], bytes: &[u8], run: Run, list: &[u16]) -> Followed
+    ensures { λ r. ⌜ ((c : Chart) (n : Network) (calls : List agreed.Call) → Flattening (now (file .entry)) (now (bytes .entry)) c n → Stands run (agreed.run c n calls) → FollowsCall c n calls (agreed.step (now (list .entry))) r) ⌝ }
+{
+    let moved = network::operation::step(bytes, run.network, list);
+    let verdict = moved.verdict;
+    let next = moved.configuration;
+    let Verdict::Done = verdict else {
+        return refused(verdict, run);
+    };
+    after_move(file, run, next, carried(bytes, list))
+}
+
+// After a wait of the network: the chart waits with it.
+pub fn after_wait(file: &[u8], bytes: &[u8], run: Run, ticks: u32) -> Followed
+    ensures { λ r. ⌜ ((c : Chart) (n : Network) (calls : List agreed.Call) → Flattening (now (file .entry)) (now (bytes .entry)) c n → Stands run (agreed.run c n calls) → FollowsCall c n calls (agreed.wait ticks) r) ⌝ }
+{
+    let moved = network::operation::wait(bytes, run.network, ticks);
+    let verdict = moved.verdict;
+    let next = moved.configuration;
+    let Verdict::Done = verdict else {
+        return refused(verdict, run);
+    };
+    let outcome = chart::machine::wait(file, run.chart, ticks);
+    let answer = outcome.answer;
+    let after = outcome.configuration;
+    Followed {
+        verdict: Verdict::Done,
+        reading: Reading::Wait(ticks),
+        carried: no_transitions(),
+        answer,
+        run: Run {
+            network: next,
+            chart: after,
+            owed: run.owed,
+        },
+    }
+}
