@@ -7,14 +7,17 @@ use crate::network_machine::NetworkConfiguration;
 use crate::reader::{Fault, Reader};
 use crate::refusal::Refusal;
 use crate::request::{Request, Success};
-use crate::text_form::hexadecimal;
+use crate::run_request::{Read, RunAnswer, RunRequest, View};
+use crate::side_by_side::Call;
+use crate::text_form::{hexadecimal, with_commas};
 use crate::values::Values;
+
+/// The operation that runs a chart and its network side by side.
+const RUN: u8 = 8;
 
 /// The bytes of one request.
 pub fn request_to_bytes(request: &Request) -> Vec<u8> {
-    let mut bytes = vec![operation(request)];
-    bytes.extend((request.file().len() as u32).to_be_bytes());
-    bytes.extend(request.file());
+    let mut bytes = head_to_bytes(operation(request), request.file());
     match request {
         Request::Check(_) | Request::ChartStart(_) | Request::NetworkStart(_) => {}
         Request::Flatten(_, room) => bytes.extend(room.to_be_bytes()),
@@ -38,6 +41,33 @@ pub fn request_to_bytes(request: &Request) -> Vec<u8> {
     bytes
 }
 
+/// The bytes of a request to run both machines.
+pub fn run_request_to_bytes(request: &RunRequest) -> Vec<u8> {
+    let mut bytes = head_to_bytes(RUN, &request.file);
+    bytes.extend((request.calls.len() as u16).to_be_bytes());
+    for call in &request.calls {
+        match call {
+            Call::Step(list) => {
+                bytes.push(0);
+                list_to_bytes(list, &mut bytes);
+            }
+            Call::Wait(ticks) => {
+                bytes.push(1);
+                bytes.extend(ticks.to_be_bytes());
+            }
+        }
+    }
+    bytes
+}
+
+/// What every request starts with: the operation, and the file with its length.
+fn head_to_bytes(operation: u8, file: &[u8]) -> Vec<u8> {
+    let mut bytes = vec![operation];
+    bytes.extend((file.len() as u32).to_be_bytes());
+    bytes.extend(file);
+    bytes
+}
+
 /// The number of a request's operation.
 pub fn operation(request: &Request) -> u8 {
     match request {
@@ -54,18 +84,34 @@ pub fn operation(request: &Request) -> u8 {
 
 /// All requests of an input, or none if the input is not made of whole requests.
 pub fn requests_from_bytes(input: &[u8]) -> Option<Vec<Request>> {
+    all_from_bytes(input, request_from_reader)
+}
+
+/// The same of requests to run both machines.
+pub fn run_requests_from_bytes(input: &[u8]) -> Option<Vec<RunRequest>> {
+    all_from_bytes(input, run_request_from_reader)
+}
+
+fn all_from_bytes<T>(
+    input: &[u8],
+    from_reader: impl Fn(&mut Reader) -> Result<T, Fault>,
+) -> Option<Vec<T>> {
     let mut reader = Reader::new(input);
     let mut requests = Vec::new();
     while reader.end().is_err() {
-        requests.push(request_from_reader(&mut reader).ok()?);
+        requests.push(from_reader(&mut reader).ok()?);
     }
     Some(requests)
 }
 
-fn request_from_reader(reader: &mut Reader) -> Result<Request, Fault> {
+fn head_from_reader(reader: &mut Reader) -> Result<(u8, Vec<u8>), Fault> {
     let operation = reader.byte()?;
     let length = reader.four_bytes()?;
-    let file = reader.take(length as usize)?.to_vec();
+    Ok((operation, reader.take(length as usize)?.to_vec()))
+}
+
+fn request_from_reader(reader: &mut Reader) -> Result<Request, Fault> {
+    let (operation, file) = head_from_reader(reader)?;
     Ok(match operation {
         0 => Request::Check(file),
         1 => Request::Flatten(file, reader.four_bytes()?),
@@ -75,6 +121,24 @@ fn request_from_reader(reader: &mut Reader) -> Result<Request, Fault> {
         5 => Request::NetworkStart(file),
         6 => Request::NetworkStep(file, network_configuration(reader)?, list_from_reader(reader)?),
         7 => Request::NetworkWait(file, network_configuration(reader)?, reader.four_bytes()?),
+        _ => return Err(Fault::Field),
+    })
+}
+
+fn run_request_from_reader(reader: &mut Reader) -> Result<RunRequest, Fault> {
+    let (operation, file) = head_from_reader(reader)?;
+    if operation != RUN {
+        return Err(Fault::Field);
+    }
+    let count = reader.two_bytes()?;
+    let calls = (0..count).map(|_| call_from_reader(reader)).collect::<Result<_, Fault>>()?;
+    Ok(RunRequest { file, calls })
+}
+
+fn call_from_reader(reader: &mut Reader) -> Result<Call, Fault> {
+    Ok(match reader.byte()? {
+        0 => Call::Step(list_from_reader(reader)?),
+        1 => Call::Wait(reader.four_bytes()?),
         _ => return Err(Fault::Field),
     })
 }
@@ -94,6 +158,29 @@ pub fn answer_to_line(answer: &Result<Success, Refusal>) -> String {
         }
         Err(refusal) => refusal.number().to_string(),
     }
+}
+
+/// The lines that answer a request to run both machines, each with its line feed.
+pub fn run_answer_to_lines(answer: &RunAnswer) -> String {
+    let views = answer.views.iter().map(view_to_line);
+    let lines = std::iter::once(answer_to_line(&answer.flattened)).chain(views);
+    lines.map(|line| line + "\n").collect()
+}
+
+fn view_to_line(view: &View) -> String {
+    let answer = match view.refusal {
+        None => "ok".to_string(),
+        Some(refusal) => refusal.number().to_string(),
+    };
+    let network = hexadecimal(&network_configuration_to_bytes(&view.network));
+    let read = match &view.read {
+        Read::Nothing => "none".to_string(),
+        Read::Start => "start".to_string(),
+        Read::Call(Call::Step(list)) => format!("step {}", with_commas(list)),
+        Read::Call(Call::Wait(ticks)) => format!("wait {ticks}"),
+    };
+    let chart = hexadecimal(&chart_configuration_to_bytes(&view.chart));
+    format!("{answer} {network} {read} {chart} {}", view.owed)
 }
 
 /// FNV-1a with 32 bits.

@@ -10,10 +10,13 @@ use crate::flatten::network_of;
 use crate::guard::Guard;
 use crate::label::{Label, Signal};
 use crate::layout::{Layout, Place};
+use crate::limits::{EDGES, LIST};
 use crate::network::{Edge, Network};
 use crate::network_machine;
 use crate::refusal::Refusal;
 use crate::request::{Request, Success};
+use crate::run_request::{Read, RunRequest, View};
+use crate::side_by_side::{Call, Machines};
 use crate::values::Values;
 
 /// A set of features, each in words.
@@ -90,6 +93,61 @@ pub fn features(request: &Request, layout: Option<&Layout>) -> Features {
     }
     let name = operation_name(request);
     found.into_iter().map(|feature| format!("{name}: {feature}")).collect()
+}
+
+/// The features of a request to run a chart and its network side by side.
+pub fn run_features(request: &RunRequest) -> Features {
+    let answer = request.answer();
+    let mut found = Features::new();
+    found.insert(match &answer.flattened {
+        Ok(_) => "flattened".to_string(),
+        Err(refusal) => format!("refusal {}", refusal.number()),
+    });
+    if let Ok(machines) = request.machines() {
+        if machines.network.edges.len() == EDGES {
+            found.insert("most edges".to_string());
+        }
+        for (call, view) in request.calls.iter().zip(answer.views.iter().skip(1)) {
+            add_call_features(&machines, call, view, &mut found);
+        }
+        let is_call = |view: &&View| matches!(view.read, Read::Call(_));
+        let read = answer.views.iter().filter(is_call).count();
+        found.insert(format!("{} chart calls read", at_most(read, 10)));
+    }
+    found.into_iter().map(|feature| format!("side by side: {feature}")).collect()
+}
+
+/// What a call of the network did, and what is read from it.
+fn add_call_features(machines: &Machines, call: &Call, view: &View, found: &mut Features) {
+    let name = match call {
+        Call::Step(list) if list.is_empty() => "step without a number",
+        Call::Step(list) if list.len() > LIST => "step of too many numbers",
+        Call::Step(_) => "step",
+        Call::Wait(_) => "wait",
+    };
+    found.insert(match view.refusal {
+        None => format!("{name} ok"),
+        Some(refusal) => format!("{name} refused {}", refusal.number()),
+    });
+    let (Call::Step(list), None) = (call, view.refusal) else {
+        return;
+    };
+    let edges = at_most(list.len(), 3);
+    let owed = at_most(view.owed, 3);
+    match &view.read {
+        Read::Call(Call::Step(carried)) => {
+            let transitions = at_most(carried.len(), 3);
+            found.insert(format!("move of {edges} edges with {transitions} transitions"));
+            found.insert(format!("move, {owed} owed"));
+            if *carried != machines.borne(list) {
+                found.insert("transitions in another order than their edges".to_string());
+            }
+        }
+        _ => {
+            found.insert(format!("urgent move of {edges} edges"));
+            found.insert(format!("urgent move, {owed} still owed"));
+        }
+    }
 }
 
 fn add_chart_step_features(

@@ -31,6 +31,7 @@ pub mod random;
 pub mod reader;
 pub mod refusal;
 pub mod request;
+pub mod run_request;
 pub mod side_by_side;
 pub mod special;
 pub mod text_form;

@@ -8,6 +8,7 @@ use crate::candidates::candidates;
 use crate::chart::Chart;
 use crate::chart_machine::{self, ChartConfiguration};
 use crate::damage::{damage_list, random_ticks};
+use crate::flatten::network_of;
 use crate::layout::Layout;
 use crate::moves::Member;
 use crate::network::Network;
@@ -24,6 +25,22 @@ pub struct Machines {
     pub chart: Chart,
     pub layout: Layout,
     pub network: Network,
+}
+
+impl Machines {
+    /// The network is the one that flattening gives, if it accepts the chart.
+    pub fn of(chart: Chart) -> Result<Machines, Refusal> {
+        let network = network_of(&chart)?;
+        Ok(Machines { layout: Layout::of(&chart), chart, network })
+    }
+
+    /// The transition numbers on the edges of a move, in the order of the edges and without 255.
+    pub fn borne(&self, list: &[u16]) -> Vec<u16> {
+        list.iter()
+            .filter_map(|&edge| self.network.edges[usize::from(edge)].transition)
+            .map(|number| number as u16)
+            .collect()
+    }
 }
 
 /// One call of either machine.
@@ -75,16 +92,16 @@ impl Tally {
 pub type Failure = String;
 
 /// Both machines at one moment of a run.
-struct Moment<'a> {
+pub struct Moment<'a> {
     machines: &'a Machines,
-    chart: ChartConfiguration,
-    network: NetworkConfiguration,
+    pub chart: ChartConfiguration,
+    pub network: NetworkConfiguration,
     /// The active edges of the network.
     active_edges: Vec<(u16, Member)>,
     /// How many urgent moves are owed.
-    owed: usize,
+    pub owed: usize,
     /// The chart list so far.
-    chart_list: Vec<Call>,
+    pub chart_list: Vec<Call>,
     tally: Tally,
 }
 
@@ -96,9 +113,25 @@ pub fn run_network_list(
 ) -> Result<Tally, Failure> {
     run_list(machines, calls, random, |moment, random| {
         let call = moment.random_network_call(random);
-        let outcome = moment.call_network(&call);
+        let outcome = moment.call_network(&call).map(|_| ());
         (call, outcome)
     })
+}
+
+/// A random network list of this length, most of it accepted.
+pub fn random_network_list(machines: &Machines, calls: usize, random: &mut Random) -> Vec<Call> {
+    let mut moment = Moment::start(machines);
+    let mut list = Vec::new();
+    while list.len() < calls {
+        let call = if random.chance(85) {
+            moment.random_network_call(random)
+        } else {
+            moment.random_network_step(&moment.network_candidates(random), random)
+        };
+        moment.call_network(&call).expect("every clause of the demand holds");
+        list.push(call);
+    }
+    list
 }
 
 /// Runs a random chart list of this length, realising each accepted call on the network.
@@ -133,7 +166,7 @@ fn run_list(
 }
 
 impl<'a> Moment<'a> {
-    fn start(machines: &'a Machines) -> Moment<'a> {
+    pub fn start(machines: &'a Machines) -> Moment<'a> {
         let network = network_machine::start(&machines.network);
         Moment {
             machines,
@@ -149,7 +182,8 @@ impl<'a> Moment<'a> {
     // The calls.
 
     /// Calls the network and adds to the chart list what the demand says, calling it at once.
-    fn call_network(&mut self, call: &Call) -> Result<(), Failure> {
+    /// Gives the refusal of a call that the network refuses.
+    pub fn call_network(&mut self, call: &Call) -> Result<Option<Refusal>, Failure> {
         self.tally.network_calls += 1;
         let answer = match call {
             Call::Step(list) => self.network_step(list),
@@ -160,7 +194,7 @@ impl<'a> Moment<'a> {
             Err(refusal) => {
                 // A refused call adds nothing, and what it was given stays as it is.
                 self.tally.network_refusals[usize::from(refusal.number())] += 1;
-                return Ok(());
+                return Ok(Some(refusal));
             }
         };
         match call {
@@ -173,7 +207,7 @@ impl<'a> Moment<'a> {
         }
         self.network = new;
         self.active_edges = active_edges(&self.machines.network, &new);
-        Ok(())
+        Ok(None)
     }
 
     /// Counts what an accepted move pays or owes, and adds its chart step.
@@ -221,7 +255,9 @@ impl<'a> Moment<'a> {
             return self.test_chart_call(call);
         }
         match call {
-            Call::Wait(_) => self.call_network(call)?,
+            Call::Wait(_) => {
+                self.call_network(call)?;
+            }
             Call::Step(list) => {
                 let found = self.network_moves_carrying(list);
                 demand(found.len() == 1, "not exactly one network move carries an accepted list")?;
@@ -353,11 +389,7 @@ impl<'a> Moment<'a> {
 
     /// The transition numbers on the edges of a move, ascending and without 255.
     fn carried(&self, list: &[u16]) -> Vec<u16> {
-        let mut numbers: Vec<u16> = list
-            .iter()
-            .filter_map(|&edge| self.machines.network.edges[usize::from(edge)].transition)
-            .map(|number| number as u16)
-            .collect();
+        let mut numbers = self.machines.borne(list);
         numbers.sort_unstable();
         numbers
     }
@@ -381,11 +413,15 @@ impl<'a> Moment<'a> {
 
     /// The network moves allowed now, not all of them if there are very many.
     fn allowed_network_moves(&self, random: &mut Random) -> Vec<Vec<u16>> {
+        let mut moves = self.network_candidates(random);
+        moves.retain(|list| self.network_step(list).is_ok());
+        moves
+    }
+
+    /// Network lists that fit one of the three cases; some may break bounds or leave nothing urgent.
+    fn network_candidates(&self, random: &mut Random) -> Vec<Vec<u16>> {
         let rendezvous = self.machines.network.declared.rendezvous;
         candidates(&self.active_edges, rendezvous, MOST_BROADCAST_SETS, random)
-            .into_iter()
-            .filter(|list| self.network_step(list).is_ok())
-            .collect()
     }
 
     /// Chart lists that fit one of the three cases; some may break bounds.
@@ -428,8 +464,12 @@ impl<'a> Moment<'a> {
             return Call::Wait(random_ticks(10, random));
         }
         let allowed = self.allowed_network_moves(random);
+        self.random_network_step(&allowed, random)
+    }
+
+    fn random_network_step(&self, fitting: &[Vec<u16>], random: &mut Random) -> Call {
         let known = self.machines.network.edges.len();
-        random_step(&allowed, &self.active_edges, known, random)
+        random_step(fitting, &self.active_edges, known, random)
     }
 
     fn random_chart_call(&self, random: &mut Random) -> Call {

@@ -190,6 +190,6 @@ fn numbers_from_text<T: std::str::FromStr, const N: usize>(text: &str) -> Option
     numbers?.try_into().ok()
 }
 
-fn with_commas<T: std::fmt::Display>(numbers: &[T]) -> String {
+pub fn with_commas<T: std::fmt::Display>(numbers: &[T]) -> String {
     numbers.iter().map(|number| number.to_string()).collect::<Vec<_>>().join(",")
 }

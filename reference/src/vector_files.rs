@@ -1,25 +1,33 @@
 //! The vector files for programs: requests as bytes, and the lines that are the right output.
 
-use crate::binary_form::{answer_to_line, request_to_bytes};
+use crate::binary_form::{
+    answer_to_line, request_to_bytes, run_answer_to_lines, run_request_to_bytes,
+};
 use crate::chart::Chart;
 use crate::chart_machine::{self, ChartConfiguration};
 use crate::check::check;
-use crate::coverage::{features, Counts, Features};
+use crate::coverage::{features, run_features, Counts, Features};
 use crate::damage::{damage_chart, damage_file, Form};
 use crate::expression::Expression;
 use crate::flatten::network_of;
 use crate::generate::{chart_from_wish, Wish};
 use crate::guard::{Guard, Relation};
 use crate::layout::Layout;
+use crate::limits::LIST;
 use crate::network_machine::{self, NetworkConfiguration};
 use crate::random::Random;
 use crate::request::Request;
+use crate::run_request::RunRequest;
+use crate::side_by_side::{random_network_list, Call, Machines};
 use crate::special;
 use crate::values::Values;
 use crate::walk::{chart_requests, network_requests};
 
 /// Most bytes of one input.
 pub const MOST_INPUT_BYTES: usize = 60_000;
+
+/// Most bytes of one output.
+pub const MOST_OUTPUT_BYTES: usize = 300_000;
 
 /// How many requests with one feature are wanted.
 const WANTED_OF_EACH: usize = 3;
@@ -40,21 +48,41 @@ pub struct VectorFile {
     pub counts: Counts,
 }
 
-/// A request that may be chosen, with its features.
+/// A request that may be chosen, the lines that answer it, and its features.
 struct Candidate {
-    request: Request,
+    input: Vec<u8>,
+    output: String,
     features: Features,
     taken: bool,
 }
 
 impl Candidate {
     fn new(request: Request) -> Candidate {
-        Candidate { features: features(&request, None), request, taken: false }
+        Candidate::of(&request, None)
     }
 
     /// With the layout of the network, which came from a chart.
     fn with_layout(request: Request, layout: &Layout) -> Candidate {
-        Candidate { features: features(&request, Some(layout)), request, taken: false }
+        Candidate::of(&request, Some(layout))
+    }
+
+    fn of(request: &Request, layout: Option<&Layout>) -> Candidate {
+        Candidate {
+            input: request_to_bytes(request),
+            output: answer_to_line(&request.answer()) + "\n",
+            features: features(request, layout),
+            taken: false,
+        }
+    }
+
+    fn of_run(file: Vec<u8>, calls: Vec<Call>) -> Candidate {
+        let request = RunRequest { file, calls };
+        Candidate {
+            input: run_request_to_bytes(&request),
+            output: run_answer_to_lines(&request.answer()),
+            features: run_features(&request),
+            taken: false,
+        }
     }
 }
 
@@ -71,6 +99,11 @@ pub fn vector_files() -> Vec<VectorFile> {
         add_flatten_candidates(one, &mut flatten, &mut random);
         add_network_candidates(one, &mut network, &mut random);
     }
+    let mut runs = Vec::new();
+    let mut run_random = Random::new(0x5349_4445);
+    for one in &charts {
+        add_run_candidates(one, &mut runs, &mut run_random);
+    }
     for guard in all_guards() {
         add_guard_candidates(guard, &mut chart, &mut network);
     }
@@ -86,6 +119,7 @@ pub fn vector_files() -> Vec<VectorFile> {
         choose("chart", checks, chart),
         choose("flatten", flattens, flatten),
         choose("network", starts, network),
+        choose("side_by_side", Vec::new(), runs),
     ]
 }
 
@@ -185,6 +219,27 @@ fn add_network_candidates(chart: &Chart, list: &mut Vec<Candidate>, random: &mut
     }
 }
 
+/// Runs of a chart and its network, and of charts that are refused.
+fn add_run_candidates(chart: &Chart, list: &mut Vec<Candidate>, random: &mut Random) {
+    let file = chart.write();
+    let Ok(machines) = check(&file).and_then(Machines::of) else {
+        list.push(Candidate::of_run(file, vec![Call::Wait(1)]));
+        return;
+    };
+    list.push(Candidate::of_run(file.clone(), Vec::new()));
+    let too_many = (0..=LIST as u16).collect();
+    list.push(Candidate::of_run(file.clone(), vec![Call::Step(too_many)]));
+    for calls in [6, 12, 24] {
+        let calls = random_network_list(&machines, calls, random);
+        list.push(Candidate::of_run(file.clone(), calls));
+    }
+    let calls = random_network_list(&machines, 2, random);
+    for _ in 0..4 {
+        list.push(Candidate::of_run(damage_chart(chart, random).write(), calls.clone()));
+        list.push(Candidate::of_run(damage_file(Form::Chart, &file, random), calls.clone()));
+    }
+}
+
 /// Every kind of guard with every relation, each against 2.
 fn all_guards() -> Vec<Guard> {
     let of_relation = |relation: Relation| {
@@ -250,7 +305,7 @@ fn choose(name: &'static str, fixed: Vec<Request>, mut candidates: Vec<Candidate
     for request in fixed {
         take(&mut file, &mut Candidate::new(request));
     }
-    candidates.sort_by_cached_key(|candidate| request_to_bytes(&candidate.request).len());
+    candidates.sort_by_key(|candidate| candidate.input.len());
     for enough in 1..=WANTED_OF_EACH {
         for candidate in candidates.iter_mut().filter(|candidate| !candidate.taken) {
             let too_few = |feature| file.counts.get(feature).is_none_or(|&count| count < enough);
@@ -264,13 +319,13 @@ fn choose(name: &'static str, fixed: Vec<Request>, mut candidates: Vec<Candidate
 
 /// Adds a request to a file if it has room.
 fn take(file: &mut VectorFile, candidate: &mut Candidate) {
-    let bytes = request_to_bytes(&candidate.request);
-    if file.input.len() + bytes.len() > MOST_INPUT_BYTES {
+    let input_fits = file.input.len() + candidate.input.len() <= MOST_INPUT_BYTES;
+    let output_fits = file.output.len() + candidate.output.len() <= MOST_OUTPUT_BYTES;
+    if !input_fits || !output_fits {
         return;
     }
-    file.input.extend(bytes);
-    file.output.push_str(&answer_to_line(&candidate.request.answer()));
-    file.output.push('\n');
+    file.input.extend(&candidate.input);
+    file.output.push_str(&candidate.output);
     file.requests += 1;
     candidate.taken = true;
     for feature in &candidate.features {

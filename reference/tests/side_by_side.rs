@@ -5,10 +5,9 @@ use std::rc::Rc;
 use reference::chart::{Chart, Kind};
 use reference::check::check;
 use reference::damage::damage_chart;
-use reference::flatten::network_of;
 use reference::generate::chart_from_seed;
 use reference::label::Signal;
-use reference::layout::{Layout, Place};
+use reference::layout::Place;
 use reference::limits::NONE;
 use reference::random::Random;
 use reference::side_by_side::{run_chart_list, run_network_list, Failure, Machines, Tally};
@@ -18,9 +17,7 @@ const CHARTS: u64 = 2_000;
 const CALLS: usize = 40;
 
 fn machines(chart: Chart) -> Machines {
-    let network = network_of(&chart).expect("flattening accepts the chart");
-    let layout = Layout::of(&chart);
-    Machines { chart, layout, network }
+    Machines::of(chart).expect("flattening accepts the chart")
 }
 
 /// One network list and one chart list.

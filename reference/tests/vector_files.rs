@@ -5,9 +5,12 @@ use std::fs;
 use std::path::Path;
 use std::sync::OnceLock;
 
-use reference::binary_form::{answer_to_line, request_to_bytes, requests_from_bytes};
+use reference::binary_form::{
+    answer_to_line, request_to_bytes, requests_from_bytes, run_answer_to_lines,
+    run_request_to_bytes, run_requests_from_bytes,
+};
 use reference::coverage::Counts;
-use reference::vector_files::{vector_files, VectorFile, MOST_INPUT_BYTES};
+use reference::vector_files::{vector_files, VectorFile, MOST_INPUT_BYTES, MOST_OUTPUT_BYTES};
 
 /// The files, written once for all tests.
 fn files() -> &'static [VectorFile] {
@@ -87,14 +90,32 @@ fn the_repository_has_the_files_as_written() {
 
 #[test]
 fn the_files_can_be_read_and_answered() {
-    for file in files() {
-        assert!(file.input.len() <= MOST_INPUT_BYTES);
+    for file in ["chart", "flatten", "network"].map(file) {
         let requests = requests_from_bytes(&file.input).expect("whole requests");
         assert_eq!(requests.len(), file.requests);
         let again: Vec<u8> = requests.iter().flat_map(request_to_bytes).collect();
         assert!(again == file.input);
         let lines = requests.iter().map(|request| answer_to_line(&request.answer()) + "\n");
         assert!(lines.collect::<String>() == file.output);
+    }
+}
+
+#[test]
+fn the_file_of_runs_can_be_read_and_answered() {
+    let file = file("side_by_side");
+    let requests = run_requests_from_bytes(&file.input).expect("whole requests");
+    assert_eq!(requests.len(), file.requests);
+    let again: Vec<u8> = requests.iter().flat_map(run_request_to_bytes).collect();
+    assert!(again == file.input);
+    let lines = requests.iter().map(|request| run_answer_to_lines(&request.answer()));
+    assert!(lines.collect::<String>() == file.output);
+}
+
+#[test]
+fn the_files_are_short_enough() {
+    for file in files() {
+        assert!(file.input.len() <= MOST_INPUT_BYTES);
+        assert!(file.output.len() <= MOST_OUTPUT_BYTES);
     }
 }
 
@@ -167,4 +188,36 @@ fn the_network_file_covers_everything() {
         "flag written 1",
     ];
     assert_covered(counts, parts("network step", &flags));
+}
+
+#[test]
+fn the_file_of_runs_covers_everything() {
+    let counts = &file("side_by_side").counts;
+    assert_covered(counts, refusals("side by side", 1..=15));
+    let refused = |call, numbers: &[u8]| -> Vec<String> {
+        numbers.iter().map(|number| format!("side by side: {call} refused {number}")).collect()
+    };
+    assert_covered(counts, refused("step", &[18, 19, 20, 21, 27]));
+    assert_covered(counts, refused("step without a number", &[18]));
+    assert_covered(counts, refused("step of too many numbers", &[18]));
+    assert_covered(counts, refused("wait", &[21, 22, 27]));
+    let moves = [
+        "flattened",
+        "most edges",
+        "step ok",
+        "wait ok",
+        "move of 1 edges with 1 transitions",
+        "move of 2 edges with 2 transitions",
+        "move of 3 or more edges with 3 or more transitions",
+        "transitions in another order than their edges",
+        "urgent move of 2 edges",
+        "urgent move of 3 or more edges",
+        "0 chart calls read",
+        "10 or more chart calls read",
+    ];
+    assert_covered(counts, parts("side by side", &moves));
+    for owed in ["0", "1", "2", "3 or more"] {
+        assert_covered(counts, [format!("side by side: move, {owed} owed")]);
+        assert_covered(counts, [format!("side by side: urgent move, {owed} still owed")]);
+    }
 }

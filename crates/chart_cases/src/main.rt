@@ -28,9 +28,7 @@ fn show_configuration(c: Configuration) {
     let variables = c.variables;
     let clocks = c.clocks;
     output::text(b"ok ");
-    output::marks(&active);
-    output::values(&variables);
-    output::words(&clocks);
+    output::chart(&active, &variables, &clocks);
     output::text(b"\n");
 }
 

@@ -13,9 +13,7 @@ use requests::output;
 // A network's length, and the checksum of its bytes.
 fn show_network(buffer: &[u8], size: usize) {
     if size <= buffer.len() {
-        output::text(b"ok ");
-        output::summary(&buffer[0..size]);
-        output::text(b"\n");
+        output::flattened(&buffer[0..size]);
     }
 }
 

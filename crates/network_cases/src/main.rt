@@ -30,10 +30,7 @@ fn show_configuration(c: Configuration) {
     let variables = c.variables;
     let clocks = c.clocks;
     output::text(b"ok ");
-    output::bytes(&locations);
-    output::bytes(&flags);
-    output::values(&variables);
-    output::words(&clocks);
+    output::network(&locations, &flags, &variables, &clocks);
     output::text(b"\n");
 }
 

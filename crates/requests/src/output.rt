@@ -9,9 +9,13 @@ pub fn text(s: &[u8]) {
     io::write_all(1, s);
 }
 
+pub fn number(n: u64) {
+    io::print_decimal(1, n);
+}
+
 // A refusal is its number.
 pub fn refusal(k: u8) {
-    io::print_decimal(1, k as u64);
+    number(k as u64);
     text(b"\n");
 }
 
@@ -55,14 +59,16 @@ fn value(z: i32) {
     word(bits(z));
 }
 
-// How many bytes there are, and their checksum.
-pub fn summary(t: &[u8]) {
-    io::print_decimal(1, t.len() as u64);
+// A network that was written: how many bytes it has, and their checksum.
+pub fn flattened(t: &[u8]) {
+    text(b"ok ");
+    number(t.len() as u64);
     text(b" ");
     word(checksum(t));
+    text(b"\n");
 }
 
-pub fn bytes(t: &[u8]) {
+fn bytes(t: &[u8]) {
     let mut i = 0;
     while i < t.len() {
         byte(t[i]);
@@ -70,7 +76,7 @@ pub fn bytes(t: &[u8]) {
     }
 }
 
-pub fn marks(t: &[bool]) {
+fn marks(t: &[bool]) {
     let mut i = 0;
     while i < t.len() {
         mark(t[i]);
@@ -78,7 +84,7 @@ pub fn marks(t: &[bool]) {
     }
 }
 
-pub fn words(t: &[u32]) {
+fn words(t: &[u32]) {
     let mut i = 0;
     while i < t.len() {
         word(t[i]);
@@ -86,10 +92,42 @@ pub fn words(t: &[u32]) {
     }
 }
 
-pub fn values(t: &[i32]) {
+fn values(t: &[i32]) {
     let mut i = 0;
     while i < t.len() {
         value(t[i]);
+        i += 1;
+    }
+}
+
+// The configuration of a chart.
+pub fn chart(active: &[bool; 48], variables: &[i32; 16], clocks: &[u32; 8]) {
+    marks(active);
+    values(variables);
+    words(clocks);
+}
+
+// The configuration of a network.
+pub fn network(locations: &[u8; 16], flags: &[u8; 16], variables: &[i32; 16], clocks: &[u32; 8]) {
+    bytes(locations);
+    bytes(flags);
+    values(variables);
+    words(clocks);
+}
+
+// A number after a comma, or as the first without one.
+fn listed(first: bool, n: u16) {
+    if !first {
+        text(b",");
+    }
+    number(n as u64);
+}
+
+// Numbers with commas.
+pub fn numbers(t: &[u16]) {
+    let mut i = 0;
+    while i < t.len() {
+        listed(i == 0, t[i]);
         i += 1;
     }
 }
