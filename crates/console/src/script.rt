@@ -1,6 +1,10 @@
 // Scripts of calls, a line each: start, step 3 7, wait 5. What follows # is a comment.
-
-ghost use Prim.Native.Nat.{_≤_};
+ghost use mathlib.Core.Path.{_≡_};
+ghost use Prim.Native.Nat.{_-_, min};
+ghost use lib.Dec.{eqb};
+ghost use Rattle.expr.specs.Places.{onward};
+ghost use Rattle.console.specs.Script.{isSpace, words, sameWord, isDigit, numberOf, plainLine, shortened, stepLine, waitLine, startLine, callLine, lineOf, isCall, nextNumber};
+ghost use Rattle.console.specs.Places.{placeOf, endsRun, withDigit, withNumber, wordsFound, WordFits};
 use crate::print;
 use expr::field::byte_at;
 
@@ -22,7 +26,7 @@ pub struct Line {
 
 // The first place of a byte, from a place on, or the end.
 pub fn find(s: &[u8], at: usize, b: u8) -> usize
-    ensures { λ r. ⌜ at ≤ r ⌝ }
+    ensures { λ r. ⌜ r ≡ placeOf (λ x. eqb x b) (now (s .entry)) at ⌝ }
 {
     let mut i = at;
     while i < s.len() {
@@ -34,23 +38,52 @@ pub fn find(s: &[u8], at: usize, b: u8) -> usize
     i
 }
 
-fn is_space(b: u8) -> bool {
+fn is_space(b: u8) -> bool
+    ensures { λ r. ⌜ r ≡ isSpace b ⌝ }
+{
     b == b' ' || b == b'\t' || b == b'\r'
+}
+
+// Whether a byte ends a run of spaces, or one of other bytes.
+fn ends_run(spaces: bool, b: u8) -> bool
+    ensures { λ r. ⌜ r ≡ endsRun spaces b ⌝ }
+{
+    let space = is_space(b);
+    if spaces { !space } else { space }
 }
 
 // The end of the run of spaces, or of other bytes, that starts at a place.
 fn run_end(s: &[u8], at: usize, spaces: bool) -> usize
-    ensures { λ r. ⌜ at ≤ r ⌝ }
+    ensures { λ r. ⌜ r ≡ placeOf (endsRun spaces) (now (s .entry)) at ⌝ }
 {
     let mut i = at;
     while i < s.len() {
-        let space = is_space(s[i]);
-        if space != spaces {
+        if ends_run(spaces, s[i]) {
             return i;
         }
         i += 1;
     }
     i
+}
+
+// Where a word begins and ends.
+pub enum Word {
+    Part(usize, usize),
+    None,
+}
+
+// The next word from a place on.
+fn next_word(s: &[u8], at: usize) -> Word
+    ensures means { λ r. ⌜ wordsFound (now (s .entry)) r ≡ words (onward (now (s .entry)) at) ⌝ }
+    ensures within { λ r. ⌜ WordFits (now (s .entry)) at r ⌝ }
+{
+    let from = run_end(s, at, true);
+    let to = run_end(s, from, false);
+    if from < to {
+        Word::Part(from, to)
+    } else {
+        Word::None
+    }
 }
 
 pub enum NumberRead {
@@ -59,19 +92,25 @@ pub enum NumberRead {
 }
 
 // One digit more; past the largest number the answer stays there.
-fn with_digit(value: u64, digit: u8) -> u64 {
+fn with_digit(value: u64, digit: u8) -> u64
+    ensures { λ r. ⌜ r ≡ withDigit value digit ⌝ }
+{
     if value > 4294967295 {
         return value;
     }
     value * 10 + (digit as u64)
 }
 
-fn is_digit(b: u8) -> bool {
+fn is_digit(b: u8) -> bool
+    ensures { λ r. ⌜ r ≡ isDigit b ⌝ }
+{
     b >= b'0' && b <= b'9'
 }
 
 // The value of a digit.
-fn digit_value(b: u8) -> u8 {
+fn digit_value(b: u8) -> u8
+    ensures { λ r. ⌜ r ≡ b - 48 ⌝ }
+{
     if b < b'0' {
         return 0;
     }
@@ -79,7 +118,9 @@ fn digit_value(b: u8) -> u8 {
 }
 
 // The number that a word is.
-pub fn number(word: &[u8]) -> NumberRead {
+pub fn number(word: &[u8]) -> NumberRead
+    ensures { λ r. ⌜ r ≡ numberOf (now (word .entry)) ⌝ }
+{
     if word.len() == 0 {
         return NumberRead::Bad;
     }
@@ -99,19 +140,10 @@ pub fn number(word: &[u8]) -> NumberRead {
     NumberRead::Value(value as u32)
 }
 
-// The number that stands from a place up to another.
-fn number_in(s: &[u8], from: usize, to: usize) -> NumberRead {
-    if from > to {
-        return NumberRead::Bad;
-    }
-    if to > s.len() {
-        return NumberRead::Bad;
-    }
-    number(&s[from..to])
-}
-
 // Whether two words are the same.
-fn same(a: &[u8], b: &[u8]) -> bool {
+fn same(a: &[u8], b: &[u8]) -> bool
+    ensures { λ r. ⌜ r ≡ sameWord (now (a .entry)) (now (b .entry)) ⌝ }
+{
     if a.len() != b.len() {
         return false;
     }
@@ -126,7 +158,9 @@ fn same(a: &[u8], b: &[u8]) -> bool {
 }
 
 // A line with a call and no numbers.
-pub fn plain(call: Call) -> Line {
+pub fn plain(call: Call) -> Line
+    ensures { λ r. ⌜ r ≡ plainLine call ⌝ }
+{
     Line {
         call,
         list: [0; 17],
@@ -135,12 +169,16 @@ pub fn plain(call: Call) -> Line {
 }
 
 // A number of a list. One past sixteen bits is as unknown as the largest of sixteen bits.
-fn short(n: u32) -> u16 {
+fn short(n: u32) -> u16
+    ensures { λ r. ⌜ r ≡ shortened n ⌝ }
+{
     if n < 65535 { n as u16 } else { 65535 }
 }
 
 // The list with one number more, if there is room.
-pub fn with_number(line: Line, n: u32) -> Line {
+pub fn with_number(line: Line, n: u32) -> Line
+    ensures { λ r. ⌜ r ≡ withNumber line n ⌝ }
+{
     let at = line.count;
     if at >= 17 {
         return line;
@@ -152,48 +190,63 @@ pub fn with_number(line: Line, n: u32) -> Line {
 }
 
 // The numbers of a step, from a place of the line on.
-fn step_of(s: &[u8], at: usize) -> Line {
+fn step_of(s: &[u8], at: usize) -> Line
+    ensures { λ r. ⌜ r ≡ stepLine (words (onward (now (s .entry)) at)) ⌝ }
+{
     let mut line = plain(Call::Step);
-    let mut from = run_end(s, at, true);
-    while from < s.len() {
-        let to = run_end(s, from, false);
-        if to <= from {
-            return plain(Call::Number);
-        }
-        let n = number_in(s, from, to);
+    let mut place = at;
+    loop {
+        let w = next_word(s, place);
+        let Word::Part(from, to) = w else {
+            return line;
+        };
+        let n = number(&s[from..to]);
         let NumberRead::Value(value) = n else {
             return plain(Call::Number);
         };
         line = with_number(line, value);
-        from = run_end(s, to, true);
+        place = to;
     }
-    line
 }
 
 // The ticks of a wait: one number, and nothing after it.
-fn wait_of(s: &[u8], at: usize) -> Line {
-    let from = run_end(s, at, true);
-    let to = run_end(s, from, false);
-    let n = number_in(s, from, to);
+fn wait_of(s: &[u8], at: usize) -> Line
+    ensures { λ r. ⌜ r ≡ waitLine (words (onward (now (s .entry)) at)) ⌝ }
+{
+    let w = next_word(s, at);
+    let Word::Part(from, to) = w else {
+        return plain(Call::Number);
+    };
+    let n = number(&s[from..to]);
     let NumberRead::Value(ticks) = n else {
         return plain(Call::Number);
     };
-    if run_end(s, to, true) < s.len() {
+    let more = next_word(s, to);
+    let Word::None = more else {
         return plain(Call::Number);
-    }
+    };
     plain(Call::Wait(ticks))
 }
 
+// A start: nothing stands after it.
+fn start_of(s: &[u8], at: usize) -> Line
+    ensures { λ r. ⌜ r ≡ startLine (words (onward (now (s .entry)) at)) ⌝ }
+{
+    let more = next_word(s, at);
+    let Word::None = more else {
+        return plain(Call::Unknown);
+    };
+    plain(Call::Start)
+}
+
 // The call of a line without its comment.
-fn call_of(s: &[u8]) -> Line {
-    let from = run_end(s, 0, true);
-    let to = run_end(s, from, false);
-    if from >= to {
+fn call_of(s: &[u8]) -> Line
+    ensures { λ r. ⌜ r ≡ callLine (words (now (s .entry))) ⌝ }
+{
+    let w = next_word(s, 0);
+    let Word::Part(from, to) = w else {
         return plain(Call::Nothing);
-    }
-    if to > s.len() {
-        return plain(Call::Nothing);
-    }
+    };
     let word = &s[from..to];
     if same(word, b"step") {
         return step_of(s, to);
@@ -201,33 +254,31 @@ fn call_of(s: &[u8]) -> Line {
     if same(word, b"wait") {
         return wait_of(s, to);
     }
-    if !same(word, b"start") {
-        return plain(Call::Unknown);
+    if same(word, b"start") {
+        return start_of(s, to);
     }
-    if run_end(s, to, true) < s.len() {
-        return plain(Call::Unknown);
-    }
-    plain(Call::Start)
+    plain(Call::Unknown)
 }
 
 // The call of a line.
-pub fn read_line(s: &[u8]) -> Line {
+pub fn read_line(s: &[u8]) -> Line
+    ensures { λ r. ⌜ r ≡ lineOf (now (s .entry)) ⌝ }
+{
     let to = find(s, 0, b'#');
-    if to > s.len() {
-        return plain(Call::Nothing);
-    }
     call_of(&s[0..to])
 }
 
 // How many numbers a list has, as far as there is a place for them.
 pub fn at_most_seventeen(count: usize) -> usize
-    ensures { λ r. ⌜ r ≤ 17 ⌝ }
+    ensures { λ r. ⌜ r ≡ min count 17 ⌝ }
 {
     if count < 17 { count } else { 17 }
 }
 
 // The number of the next line.
-pub fn next_number(number: u64) -> u64 {
+pub fn next_number(number: u64) -> u64
+    ensures { λ r. ⌜ r ≡ nextNumber number ⌝ }
+{
     if number < 1000000 { number + 1 } else { number }
 }
 
@@ -241,7 +292,9 @@ fn mistake(number: u64, text: &[u8], what: &[u8]) {
 }
 
 // Whether a line has a call. It is printed then, and what is wrong with one that should have a call and has none.
-pub fn is_call(call: Call, text: &[u8], number: u64) -> bool {
+pub fn is_call(call: Call, text: &[u8], number: u64) -> bool
+    ensures { λ r. ⌜ r ≡ isCall call ⌝ }
+{
     match call {
         Call::Nothing => return false,
         Call::Unknown => {

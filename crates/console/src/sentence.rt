@@ -4,7 +4,7 @@ use crate::print::number;
 use crate::print::text;
 
 // Refusals 1 to 9: a chart file and its states.
-fn of_states(k: u8) -> bool {
+fn of_states(k: u8) {
     match k {
         1 => text(b"the chart has under 11 or over 65,536 bytes, or a wrong version or length"),
         2 => text(b"a count is outside its range"),
@@ -15,13 +15,12 @@ fn of_states(k: u8) -> bool {
         7 => text(b"a parallel state has a basic child"),
         8 => text(b"entry marks do not fit together"),
         9 => text(b"a composite has exit marks"),
-        _ => return false,
+        _ => {}
     }
-    true
 }
 
 // Refusals 10 to 16: transitions, and flattening.
-fn of_transitions(k: u8) -> bool {
+fn of_transitions(k: u8) {
     match k {
         10 => text(b"source and destination are not children of one sequential state"),
         11 => text(b"a basic source has an exit, or a composite one has none"),
@@ -30,13 +29,12 @@ fn of_transitions(k: u8) -> bool {
         14 => text(b"two transitions of one channel have parents that lie one below the other"),
         15 => text(b"the network has over 1,024 edges"),
         16 => text(b"the lent buffer is shorter than the network"),
-        _ => return false,
+        _ => {}
     }
-    true
 }
 
 // Refusals 17 to 27: calls of the machines, and network files.
-fn of_calls(k: u8) -> bool {
+fn of_calls(k: u8) {
     match k {
         17 => text(b"this is not a configuration of the chart, or bounds are broken"),
         18 => text(b"the list is not one to sixteen known numbers, strictly ascending"),
@@ -48,9 +46,8 @@ fn of_calls(k: u8) -> bool {
         25 => text(b"a field is out of range, or the network is not sound"),
         26 => text(b"this is not a configuration of the network, or bounds are broken"),
         27 => text(b"an urgent location is occupied and has to be left first"),
-        _ => return false,
+        _ => {}
     }
-    true
 }
 
 // A line with the number of a refusal and its sentence.
@@ -58,10 +55,12 @@ pub fn refusal(k: u8) {
     text(b"  refused");
     number(k as u64);
     text(b": ");
-    if !of_states(k) {
-        if !of_transitions(k) {
-            of_calls(k);
-        }
+    if k <= 9 {
+        of_states(k);
+    } else if k <= 16 {
+        of_transitions(k);
+    } else {
+        of_calls(k);
     }
     line_end();
 }

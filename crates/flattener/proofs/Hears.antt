@@ -3,7 +3,7 @@ use mathlib.Core.Path.{_≡_, refl, sym, ap, ap₂, _∙_, subst}
 use mathlib.Core.Bool.{Bool, true, false, cond, _&&_}
 use mathlib.Core.Logic.{_≢_}
 use mathlib.Core.List.{List, [], _∷_, map}
-use Prim.Native.Nat.{ℕ, suc, _+_, _≤_, _<_}
+use Prim.Native.Nat.{ℕ, _+_, _≤_, _<_}
 use native.Mathlib.Omega.{arith}
 use native.Mathlib.Decide.{ℕ-discrete}
 use borrow.Author.Tests.{eqb-true, eq-eqb}
@@ -12,7 +12,7 @@ use lib.ListN.{length, getD, take, drop, drop-of-length-le}
 use Rattle.expr.specs.Lists.{has, concat, position}
 use mathlib.Core.Bool.{and-true}
 use Rattle.expr.proofs.Bools.{and-l, and-r, both, same}
-use Rattle.expr.proofs.Lists.{index-of, getD-mem, drop-next}
+use Rattle.expr.proofs.Lists.{index-of, getD-mem, drop-next, position-next, position-stop, position-end}
 use Rattle.chart.specs.Chart.{Chart, stateAt, parentOf}
 use Rattle.chart.specs.Tree.{under, entered}
 use Rattle.chart.proofs.Tree.{size, Parents, parents-at, under-refl, under-up, under-down, under-le}
@@ -178,18 +178,6 @@ module _ (c : Chart) (s : ℕ) (e : Ends) (parents : List ℕ) (below q : ℕ) (
   exit-all k {f} {l} {n} {m} W i = subst (Adds f n l m) (map-kept (λ p. under c (p .state) (parentOf c s) && marksBelow c (p .mark) s) (λ p. ownEdge c (child s) (idle q) (signalling 2 (exitChannel c p))) (exitPairs c)) (walk-all (exitEdge c q s) (exitPairs c) k W (omega (arith, H .columns .count)))
 
 -- a pair's position, as a search along the columns finds it
-position-next : {A : Type 0} (p : A → Bool) {x : A} {xs rest : List A} → rest ≡ x ∷ xs → p x ≡ false → position p rest ≡ suc (position p xs)
-unfolding position
-position-next p e h = rw (e, h)
-
-position-stop : {A : Type 0} (p : A → Bool) {x : A} {xs rest : List A} → rest ≡ x ∷ xs → p x ≡ true → position p rest ≡ 0
-unfolding position
-position-stop p e h = rw (e, h)
-
-position-end : {A : Type 0} (p : A → Bool) {rest : List A} → rest ≡ [] → position p rest ≡ 0
-unfolding position
-position-end p e = rw e
-
 pub search-start : (ps : List Pair) (p : Pair) → position (samePair p) ps ≡ 0 + position (samePair p) (drop 0 ps)
 search-start ps p = omega arith
 

@@ -1,27 +1,30 @@
-use Prim.Native.Nat.{_-_, _≤_}
+use mathlib.Core.Path.{_≡_, refl, sym, _∙_}
+use Prim.Native.Nat.{_-_}
+use native.Mathlib.Omega.{arith}
 use lib.ListN.{length}
 use borrow.Author.Needs.{needs}
-use native.Mathlib.Omega.{arith}
+use Rattle.console.specs.Places.{placeOf, endsRun}
+use Rattle.console.proofs.Search.{place-more, place-found, place-none}
 use Rattle.console.proofs.script.run_end.Statement.{statement}
 use Rattle.console.proofs.script.run_end.Tie as tie
 
 abbrev Inv-loop : tie.InvT-loop
-Inv-loop s at spaces i₀ i = at ≤ i
+Inv-loop s at spaces i₀ i = placeOf (endsRun spaces) s at ≡ placeOf (endsRun spaces) s i
 
 abbrev μ-loop : tie.MeasureT-loop
 μ-loop s at spaces i₀ i = length s - i
 
 loop-holds : tie.Need-loop-holds Inv-loop μ-loop
-loop-holds c = omega arith
+loop-holds c = refl
 
-shared-slice-read-is-space : tie.Need-shared-slice-read-is-space Inv-loop μ-loop
-shared-slice-read-is-space c = search needs
+shared-slice-read-ends-run : tie.Need-shared-slice-read-ends-run Inv-loop μ-loop
+shared-slice-read-ends-run c = search needs
 
-is-space-requires : tie.Need-is-space-requires Inv-loop μ-loop
-is-space-requires c κs = search needs
+ends-run-requires : tie.Need-ends-run-requires Inv-loop μ-loop
+ends-run-requires c κs = search needs
 
 returns : tie.Need-returns Inv-loop μ-loop
-returns c = omega arith
+returns c = place-found _ _ _ _ (c .before .before .before .before .loop .inv) (c .before .before .before .loop-test .taken) (sym (c .before .ends-run .ensures) ∙ c .if1 .taken)
 
 add-i : tie.Need-add-i Inv-loop μ-loop
 add-i c = omega arith
@@ -30,10 +33,10 @@ loop-less : tie.Need-loop-less Inv-loop μ-loop
 loop-less c = omega arith
 
 loop-again : tie.Need-loop-again Inv-loop μ-loop
-loop-again c = omega arith
+loop-again c = place-more _ _ _ _ (c .before .before .before .before .loop .inv) (c .before .before .before .loop-test .taken) (sym (c .before .ends-run .ensures) ∙ c .if1 .left)
 
 returns-2 : tie.Need-returns-2 Inv-loop μ-loop
-returns-2 c = omega arith
+returns-2 c = place-none _ _ _ _ (c .before .loop .inv) (c .loop-test .left)
 
 pub run-end-spec : {M : Type 1} → statement M
 run-end-spec =
@@ -42,8 +45,8 @@ run-end-spec =
     Inv-loop
     μ-loop
     loop-holds
-    shared-slice-read-is-space
-    is-space-requires
+    shared-slice-read-ends-run
+    ends-run-requires
     returns
     add-i
     loop-less

@@ -1,21 +1,25 @@
+use mathlib.Core.Path.{_≡_, refl, sym, _∙_}
 use Prim.Native.Nat.{_-_}
-use lib.ListN.{length}
-use borrow.Author.Needs.{needs}
 use native.Mathlib.Omega.{arith}
+use lib.ListN.{length, drop}
+use borrow.Author.Tests.{eq-eqb, ne-eqb}
+use borrow.Author.Needs.{needs}
+use Rattle.console.specs.Script.{sameWord}
+use Rattle.console.proofs.Words.{same-not, same-more, same-differ, same-all}
 use Rattle.console.proofs.script.same.Statement.{statement}
 use Rattle.console.proofs.script.same.Tie as tie
 
 abbrev Inv-loop : tie.InvT-loop
-Inv-loop a b i₀ i = Unit {0}
+Inv-loop a b i₀ i = sameWord a b ≡ sameWord (drop i a) (drop i b)
 
 abbrev μ-loop : tie.MeasureT-loop
 μ-loop a b i₀ i = length a - i
 
 returns : tie.Need-returns Inv-loop μ-loop
-returns c = search needs
+returns c = same-not _ _ (c .if1 .taken)
 
 loop-holds : tie.Need-loop-holds Inv-loop μ-loop
-loop-holds c = tt
+loop-holds c = refl
 
 shared-slice-read-if2 : tie.Need-shared-slice-read-if2 Inv-loop μ-loop
 shared-slice-read-if2 c = search needs
@@ -24,7 +28,7 @@ byte-at-requires : tie.Need-byte-at-requires Inv-loop μ-loop
 byte-at-requires c κs = search needs
 
 returns-2 : tie.Need-returns-2 Inv-loop μ-loop
-returns-2 c = search needs
+returns-2 c = same-differ _ _ (c .before .before .before .before .before .if1 .left) _ (c .before .before .before .before .loop .inv) (c .before .before .before .loop-test .taken) (ne-eqb _ _ (λ e. c .if2 .taken (e ∙ sym (c .before .byte-at .ensures))))
 
 add-i : tie.Need-add-i Inv-loop μ-loop
 add-i c = omega arith
@@ -33,10 +37,10 @@ loop-less : tie.Need-loop-less Inv-loop μ-loop
 loop-less c = omega arith
 
 loop-again : tie.Need-loop-again Inv-loop μ-loop
-loop-again c = tt
+loop-again c = same-more _ _ (c .before .before .before .before .before .if1 .left) _ (c .before .before .before .before .loop .inv) (c .before .before .before .loop-test .taken) (eq-eqb _ _ (c .if2 .left ∙ c .before .byte-at .ensures))
 
 returns-3 : tie.Need-returns-3 Inv-loop μ-loop
-returns-3 c = search needs
+returns-3 c = same-all _ _ (c .before .before .if1 .left) _ (c .before .loop .inv) (c .loop-test .left)
 
 pub same-spec : {M : Type 1} → statement M
 same-spec =

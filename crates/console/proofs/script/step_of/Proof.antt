@@ -1,63 +1,80 @@
-use Prim.Native.Nat.{_-_}
-use lib.ListN.{length}
-use borrow.Author.Needs.{needs}
+use mathlib.Core.Path.{_≡_, _∙_}
+use mathlib.Core.List.{_∷_}
+use Prim.Native.Nat.{_-_, _≤_, _<_}
 use native.Mathlib.Omega.{arith}
+use lib.ListN.{length, take, drop}
+use borrow.Author.Needs.{needs}
+use Rattle.expr.specs.Places.{onward}
+use Rattle.console.specs.Script.{words}
+use Rattle.console.proofs.Words.{words-part, words-none, part-within}
+use Rattle.console.proofs.Decimals.{number-value, number-bad}
+use Rattle.console.proofs.Steps.{Stepping, step-none, step-more, step-bad, step-end}
 use Rattle.console.proofs.script.step_of.Statement.{statement}
 use Rattle.console.proofs.script.step_of.Tie as tie
 
 abbrev Inv-loop : tie.InvT-loop
-Inv-loop s at line₀ from₀ line from = Unit {0}
+Inv-loop s at line₀ place₀ line place = Stepping line (words (onward s place)) (words (onward s at))
 
 abbrev μ-loop : tie.MeasureT-loop
-μ-loop s at line₀ from₀ line from = length s - from
+μ-loop s at line₀ place₀ line place = length s - place
 
 plain-requires : tie.Need-plain-requires Inv-loop μ-loop
 plain-requires c κs = search needs
 
-run-end-requires : tie.Need-run-end-requires Inv-loop μ-loop
-run-end-requires c κs = search needs
-
 loop-holds : tie.Need-loop-holds Inv-loop μ-loop
-loop-holds c = tt
+loop-holds c = step-none _ (c .plain .ensures)
 
-run-end-requires-2 : tie.Need-run-end-requires-2 Inv-loop μ-loop
-run-end-requires-2 c κs = search needs
+next-word-requires : tie.Need-next-word-requires Inv-loop μ-loop
+next-word-requires c κs = search needs
 
-plain-requires-2 : tie.Need-plain-requires-2 Inv-loop μ-loop
-plain-requires-2 c κs = search needs
-
-returns : tie.Need-returns Inv-loop μ-loop
-returns c = search needs
-
-number-in-requires : tie.Need-number-in-requires Inv-loop μ-loop
-number-in-requires c κs = search needs
-
-enum-known-n : tie.Need-enum-known-n Inv-loop μ-loop
-enum-known-n c = search needs
+enum-known-w : tie.Need-enum-known-w Inv-loop μ-loop
+enum-known-w c = search needs
 
 enum-told : tie.Need-enum-told Inv-loop μ-loop
 enum-told c = search needs
 
-plain-requires-3 : tie.Need-plain-requires-3 Inv-loop μ-loop
-plain-requires-3 c κs = search needs
+-- the word that was found, and that it lies in the line
+found : (c : tie.After-known-told Inv-loop μ-loop) → words (onward (c .before .before .before .before .before .before .before .args .s .now) (c .before .before .before .before .loop .place)) ≡ take (c .before .w .given .0 .1 .0 - c .before .w .given .0 .0) (drop (c .before .w .given .0 .0) (c .before .before .before .before .before .before .before .args .s .now)) ∷ words (onward (c .before .before .before .before .before .before .before .args .s .now) (c .before .w .given .0 .1 .0))
+found c = words-part _ _ (c .before .before .before .next-word .result) (c .before .before .before .next-word .ensures .0) (c .before .w .given .1)
+
+within : (c : tie.After-known-told Inv-loop μ-loop) → (c .before .before .before .before .loop .place ≤ c .before .w .given .0 .0) × (c .before .w .given .0 .0 < c .before .w .given .0 .1 .0) × (c .before .w .given .0 .1 .0 ≤ length (c .before .before .before .before .before .before .before .args .s .now))
+within c = part-within _ _ (c .before .before .before .next-word .result) (c .before .before .before .next-word .ensures .1) (c .before .w .given .1)
+
+returns : tie.Need-returns Inv-loop μ-loop
+returns c = step-end _ (c .before .before .before .loop .inv) (words-none _ _ (c .before .before .next-word .result) (c .before .before .next-word .ensures .0) (c .enum-told .given .1))
+
+sub-number : tie.Need-sub-number Inv-loop μ-loop
+sub-number c = omega (arith, within c)
+
+part-number-start : tie.Need-part-number-start Inv-loop μ-loop
+part-number-start c = omega (arith, within c)
+
+part-number-end : tie.Need-part-number-end Inv-loop μ-loop
+part-number-end c = omega (arith, within c)
+
+number-requires : tie.Need-number-requires Inv-loop μ-loop
+number-requires c κs = search needs
+
+enum-known-n : tie.Need-enum-known-n Inv-loop μ-loop
+enum-known-n c = search needs
+
+enum-told-2 : tie.Need-enum-told-2 Inv-loop μ-loop
+enum-told-2 c = search needs
+
+plain-requires-2 : tie.Need-plain-requires-2 Inv-loop μ-loop
+plain-requires-2 c κs = search needs
 
 returns-2 : tie.Need-returns-2 Inv-loop μ-loop
-returns-2 c = search needs
+returns-2 c = c .plain2 .ensures ∙ step-bad _ _ _ (c .before .before .before .before .before .before .before .before .before .loop .inv) (found (c .before .before .before .before .before)) (number-bad _ (c .before .before .before .number .ensures) (c .before .enum-told2 .given .1))
 
 with-number-requires : tie.Need-with-number-requires Inv-loop μ-loop
 with-number-requires c κs = search needs
 
-run-end-requires-3 : tie.Need-run-end-requires-3 Inv-loop μ-loop
-run-end-requires-3 c κs = search needs
-
 loop-less : tie.Need-loop-less Inv-loop μ-loop
-loop-less c = omega arith
+loop-less c = omega (arith, within (c .before .before .before .before .before .before))
 
 loop-again : tie.Need-loop-again Inv-loop μ-loop
-loop-again c = tt
-
-returns-3 : tie.Need-returns-3 Inv-loop μ-loop
-returns-3 c = search needs
+loop-again c = step-more _ _ _ (c .before .before .before .before .before .before .before .before .before .before .loop .inv) (found (c .before .before .before .before .before .before)) (number-value _ (c .before .before .before .before .number .ensures) (c .before .before .n .given .1)) (c .with-number .ensures)
 
 pub step-of-spec : {M : Type 1} → statement M
 step-of-spec =
@@ -66,18 +83,19 @@ step-of-spec =
     Inv-loop
     μ-loop
     plain-requires
-    run-end-requires
     loop-holds
-    run-end-requires-2
-    plain-requires-2
-    returns
-    number-in-requires
-    enum-known-n
+    next-word-requires
+    enum-known-w
     enum-told
-    plain-requires-3
+    returns
+    sub-number
+    part-number-start
+    part-number-end
+    number-requires
+    enum-known-n
+    enum-told-2
+    plain-requires-2
     returns-2
     with-number-requires
-    run-end-requires-3
     loop-less
-    loop-again
-    returns-3)
+    loop-again)

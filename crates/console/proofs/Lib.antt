@@ -1,0 +1,6 @@
+-- Laws of scripts.
+pub mod Search
+pub mod Words
+pub mod Decimals
+pub mod Steps
+mod Examples

@@ -1,0 +1,106 @@
+use mathlib.Core.Path.{_≡_, sym, ap, _∙_}
+use mathlib.Core.List.{_∷_}
+use Prim.Native.Nat.{_-_, _≤_, _<_}
+use native.Mathlib.Omega.{arith}
+use lib.ListN.{length, take, drop}
+use borrow.Author.Needs.{needs}
+use Rattle.expr.specs.Places.{onward}
+use Rattle.console.specs.Script.{words, waitLine}
+use Rattle.console.proofs.Words.{words-part, words-none, part-within}
+use Rattle.console.proofs.Decimals.{number-value, number-bad}
+use Rattle.console.proofs.Steps.{wait-bad, wait-more, wait-one}
+use Rattle.console.proofs.script.wait_of.Statement.{statement}
+use Rattle.console.proofs.script.wait_of.Tie as tie
+
+next-word-requires : tie.Need-next-word-requires
+next-word-requires c κs = search needs
+
+enum-known-w : tie.Need-enum-known-w
+enum-known-w c = search needs
+
+enum-told : tie.Need-enum-told
+enum-told c = search needs
+
+plain-requires : tie.Need-plain-requires
+plain-requires c κs = search needs
+
+-- the word that was found, and that it lies in the line
+found : (c : tie.After-known-told) → words (onward (c .before .before .before .before .before .args .s .now) (c .before .before .before .before .before .args .at)) ≡ take (c .before .w .given .0 .1 .0 - c .before .w .given .0 .0) (drop (c .before .w .given .0 .0) (c .before .before .before .before .before .args .s .now)) ∷ words (onward (c .before .before .before .before .before .args .s .now) (c .before .w .given .0 .1 .0))
+found c = words-part _ _ (c .before .before .before .next-word .result) (c .before .before .before .next-word .ensures .0) (c .before .w .given .1)
+
+within : (c : tie.After-known-told) → (c .before .before .before .before .before .args .at ≤ c .before .w .given .0 .0) × (c .before .w .given .0 .0 < c .before .w .given .0 .1 .0) × (c .before .w .given .0 .1 .0 ≤ length (c .before .before .before .before .before .args .s .now))
+within c = part-within _ _ (c .before .before .before .next-word .result) (c .before .before .before .next-word .ensures .1) (c .before .w .given .1)
+
+returns : tie.Need-returns
+unfolding waitLine
+returns c = c .plain .ensures ∙ sym (ap waitLine (words-none _ _ (c .before .before .before .next-word .result) (c .before .before .before .next-word .ensures .0) (c .before .enum-told .given .1)))
+
+sub-number : tie.Need-sub-number
+sub-number c = omega (arith, within c)
+
+part-number-start : tie.Need-part-number-start
+part-number-start c = omega (arith, within c)
+
+part-number-end : tie.Need-part-number-end
+part-number-end c = omega (arith, within c)
+
+number-requires : tie.Need-number-requires
+number-requires c κs = search needs
+
+enum-known-n : tie.Need-enum-known-n
+enum-known-n c = search needs
+
+enum-told-2 : tie.Need-enum-told-2
+enum-told-2 c = search needs
+
+plain-requires-2 : tie.Need-plain-requires-2
+plain-requires-2 c κs = search needs
+
+returns-2 : tie.Need-returns-2
+returns-2 c = c .plain2 .ensures ∙ sym (wait-bad _ _ (found (c .before .before .before .before .before)) (number-bad _ (c .before .before .before .number .ensures) (c .before .enum-told2 .given .1)))
+
+next-word-requires-2 : tie.Need-next-word-requires-2
+next-word-requires-2 c κs = search needs
+
+enum-told-3 : tie.Need-enum-told-3
+enum-told-3 c = search needs
+
+enum-told-4 : tie.Need-enum-told-4
+enum-told-4 c = search needs
+
+plain-requires-3 : tie.Need-plain-requires-3
+plain-requires-3 c κs = search needs
+
+returns-3 : tie.Need-returns-3
+returns-3 c = c .plain3 .ensures ∙ sym (wait-more _ _ (found (c .before .before .before .before .before .before .before .before .before)) (words-part _ _ (c .before .before .before .next-word2 .result) (c .before .before .before .next-word2 .ensures .0) (c .before .enum-told4 .given .1)))
+
+plain-requires-4 : tie.Need-plain-requires-4
+plain-requires-4 c κs = search needs
+
+returns-4 : tie.Need-returns-4
+returns-4 c = c .plain4 .ensures ∙ sym (wait-one _ _ (found (c .before .before .before .before .before .before .before .before .before)) (words-none _ _ (c .before .before .before .next-word2 .result) (c .before .before .before .next-word2 .ensures .0) (c .before .enum-told3 .given .1)) (number-value _ (c .before .before .before .before .before .before .before .number .ensures) (c .before .before .before .before .before .n .given .1)))
+
+pub wait-of-spec : {M : Type 1} → statement M
+wait-of-spec =
+    tie.close
+    (tie.spec
+    next-word-requires
+    enum-known-w
+    enum-told
+    plain-requires
+    returns
+    sub-number
+    part-number-start
+    part-number-end
+    number-requires
+    enum-known-n
+    enum-told-2
+    plain-requires-2
+    returns-2
+    next-word-requires-2
+    enum-told-3
+    enum-told-4
+    plain-requires-3
+    returns-3
+    plain-requires-4
+    returns-4)

@@ -1,0 +1,3 @@
+-- The definitions that the contracts of scripts cite.
+pub mod Script
+pub mod Places
