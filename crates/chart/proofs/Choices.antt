@@ -19,7 +19,7 @@ use Rattle.expr.specs.Cases.{member, caseOf, caseAllows}
 use Rattle.expr.specs.declared.step.Member.{Member}
 use Rattle.expr.specs.declared.step.Case.{Case}
 use Rattle.expr.proofs.Lists.{getD-mem}
-use Rattle.expr.proofs.Moves.{known-at}
+use Rattle.expr.proofs.Moves.{known-at, known-each}
 use Rattle.expr.proofs.Steps.{allowed-case, maximal-none}
 use Rattle.chart.specs.Chart.{Chart, Transition, stateAt, transitionAt, basic, home}
 use Rattle.chart.specs.Machine.{isActive, completed, activeTransition, activeAfter, after}
@@ -39,9 +39,6 @@ transitions-few {n = n} L = counts-range n (L .stated .in-range) .transitions-fe
 -- at most sixteen are asked for
 pub known-few : (n : ℕ) (list : List ℕ) → known n list ≡ true → length list ≤ 16
 known-few n list h = known-at n list h .few
-
-pub known-each : (n : ℕ) (list : List ℕ) → known n list ≡ true → (i : ℕ) → i < length list → getD list i 0 < n
-known-each n list h i l = known-at n list h .each _ (getD-mem list i 0 l)
 
 -- those before one of them are fewer
 pub before-few : {A : Type 0} (f : ℕ → A) (n : ℕ) (list : List ℕ) → known n list ≡ true → (i : ℕ) → i < length list → length (map f (take i list)) < 16

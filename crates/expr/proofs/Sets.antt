@@ -18,7 +18,7 @@ use Rattle.expr.specs.Label.{Label, distinct, sends, receives}
 use Rattle.expr.specs.Clocks.{reset}
 use Rattle.expr.specs.Moves.{allowed, senders, oneSends, maximal, variablesAfter, clocksAfter}
 use Rattle.expr.proofs.Bools.{clash, decided, fails, and-l, and-r, both, or-l, or-r, or-cases, not-yes, same}
-use Rattle.expr.proofs.Lists.{Once, all-at, all-by, any-at, any-by, keep-at, keep-by, map-at, map-by, elem-at, elem-by, below-at, below-by, length-below, all-below, below-all, once-keep, mem-some, one-mem, one-length, partners-length, within-length, ascending-above, ascending-tail, ascending-below, ascending-keep}
+use Rattle.expr.proofs.Lists.{Once, concat-map, concat-one, all-at, all-by, any-at, any-by, keep-at, keep-by, map-at, map-by, elem-at, elem-by, below-at, below-by, length-below, all-below, below-all, once-keep, mem-some, one-mem, one-length, partners-length, within-length, ascending-above, ascending-tail, ascending-below, ascending-keep}
 use Rattle.expr.proofs.Pairwise.{map-once-on, once-of-map}
 use Rattle.expr.proofs.Clocks.{length-reset, getD-reset}
 use Rattle.expr.proofs.Moves.{distinct-at, distinct-by, once-map, Sends, Receives, sends-at, sends-by, receives-at, receives-by}
@@ -379,23 +379,6 @@ one-assigns w f = ⊎-elim
     (λ a. record { member = a .member; is-member = a .is-member; others = λ m k d. absurd (d (a .only m k)) })
     (λ j. record { member = j .sender; is-member = j .signalled .is-member; others = λ m k d. ⊎-elim (λ e. absurd (d e)) (λ r. f m k (r .0)) (j .signalled .others m k) })
     (w .signals)
-
-concat-none : {A B : Type 0} (f : A → List B) (xs : List A) → ((x : A) → Mem x xs → f x ≡ []) → concat f xs ≡ []
-unfolding concat
-concat-none f [] h = refl
-concat-none f (x ∷ xs) h = rw (h x (here refl)) (concat-none f xs (λ y m. h y (there m)))
-
--- of lists one after the other, where only that of x has elements
-pub concat-one : {A B : Type 0} (f : A → List B) (xs : List A) → Once xs → (x : A) → Mem x xs → ((y : A) → Mem y xs → y ≢ x → f y ≡ []) → concat f xs ≡ f x
-unfolding concat
-concat-one f (z ∷ zs) o x (here e) h =
-    rw (concat-none f zs (λ y m. h y (there m) (λ q. o .0 (cast (sym (q ∙ e)) m))), e) (append-nil (f z))
-concat-one f (z ∷ zs) o x (there m) h = rw (h z (here refl) (λ q. o .0 (cast q m))) (concat-one f zs (o .1) x m (λ y n. h y (there n)))
-
-concat-map : {A B C : Type 0} (f : B → List C) (g : A → B) (xs : List A) → concat f (map g xs) ≡ concat (λ x. f (g x)) xs
-unfolding concat
-concat-map f g [] = refl
-concat-map f g (x ∷ xs) = ap (λ (l : List _). f (g x) ++ l) (concat-map f g xs)
 
 -- the assignments of a set are those of the one member
 pub variables-after : (label : ℕ → Label) (ms : List ℕ) (vars : List ℤ) → Once ms → (w : OneAssigns label ms) → variablesAfter (map label ms) vars ≡ assign vars (label (w .member) .body .updates) vars

@@ -10,7 +10,7 @@ use lib.Dec.{eqb}
 use lib.ListN.{length, getD}
 use Rattle.expr.specs.Lists.{has, concat}
 use Rattle.expr.proofs.Bools.{fails, and-l, and-r}
-use Rattle.expr.proofs.Lists.{Once, keep-none, below-at}
+use Rattle.expr.proofs.Lists.{Once, keep-none, below-at, concat-append, concat-map, concat-none, concat-one}
 use Rattle.chart.specs.Chart.{Chart, transitionAt, parentOf, home}
 use Rattle.chart.specs.Tree.{children, sequentials}
 use Rattle.chart.proofs.Tree.{size}
@@ -25,30 +25,15 @@ use Rattle.flattener.specs.declared.walk.Tables.{Tables}
 use Rattle.flattener.proofs.Automata.{Region, sequentials-by, sequentials-once, automaton-lt, region-of-automaton}
 use Rattle.flattener.proofs.Numbers.{prePairs, postTransitions, idle-place, places-at, all-places-at, all-places-by, same-place-at}
 use Rattle.flattener.proofs.Arrivals.{departure-place}
-use Rattle.flattener.proofs.Gathers.{adds-then, concat-append}
+use Rattle.flattener.proofs.Gathers.{adds-then}
 use Rattle.flattener.proofs.Joining.{place-at, passed-of, ranges-of}
 use Rattle.flattener.proofs.Walks.{pairs-of, flagged-of, rooted-tables, parent-table}
 
 -- lists one after the other
-concat-map : {A B C : Type 0} (f : B → List C) (g : A → B) (xs : List A) → concat f (map g xs) ≡ concat (λ x. f (g x)) xs
-unfolding concat
-concat-map f g [] = refl
-concat-map f g (x ∷ xs) = ap (λ l. f (g x) ++ l) (concat-map f g xs)
-
 concat-concat : {A B C : Type 0} (f : B → List C) (g : A → List B) (xs : List A) → concat f (concat g xs) ≡ concat (λ x. concat f (g x)) xs
 unfolding concat
 concat-concat f g [] = refl
 concat-concat f g (x ∷ xs) = concat-append f (g x) (concat g xs) ∙ ap (λ l. concat f (g x) ++ l) (concat-concat f g xs)
-
-concat-none : {A B : Type 0} (f : A → List B) (xs : List A) → ((x : A) → Mem x xs → f x ≡ []) → concat f xs ≡ []
-unfolding concat
-concat-none f [] h = refl
-concat-none f (x ∷ xs) h = ap (λ l. l ++ concat f xs) (h x (here refl)) ∙ concat-none f xs (λ y m. h y (there m))
-
-concat-only : {B : Type 0} (f : ℕ → List B) (xs : List ℕ) {q : ℕ} → Once xs → Mem q xs → ((x : ℕ) → Mem x xs → x ≢ q → f x ≡ []) → concat f xs ≡ f q
-unfolding concat
-concat-only f (x ∷ xs) {q} o (here e) h = ap (λ l. f x ++ l) (concat-none f xs (λ y m. h y (there m) (λ z. o .0 (subst (λ (w : ℕ). Mem w xs) (z ∙ e) m)))) ∙ append-nil (f x) ∙ ap f (sym e)
-concat-only f (x ∷ xs) {q} o (there m) h = ap (λ l. l ++ concat f xs) (h x (here refl) (λ z. o .0 (subst (λ (w : ℕ). Mem w xs) (sym z) m))) ∙ concat-only f xs (o .1) m (λ y n. h y (there n))
 
 module _ (c : Chart) (t : Tables) (T : Tabulated c t) (s : ℕ) (m : Mem (child s) (allPlaces c)) where
   q : ℕ
@@ -95,7 +80,7 @@ module _ (c : Chart) (t : Tables) (T : Tabulated c t) (s : ℕ) (m : Mem (child 
   unfolding allPlaces places others concat
   all-others =
       concat-concat (bearingAll c s) (places c) (sequentials c)
-      ∙ concat-only (λ x. concat (bearingAll c s) (places c x)) (sequentials c) (sequentials-once c) (sequentials-by c region)
+      ∙ concat-one (λ x. concat (bearingAll c s) (places c x)) (sequentials c) (sequentials-once c) (sequentials-by c region)
       (λ x k d. concat-none (bearingAll c s) (places c x) (λ r n. none-elsewhere r (λ e. d (sym (places-at c x n .0) ∙ e))))
       ∙ ap (λ (l : List Edge). l ++ concat (bearingAll c s) others) (none-idle q)
 

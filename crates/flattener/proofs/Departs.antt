@@ -13,7 +13,7 @@ use lib.ListN.{length, getD, take, set, length-append}
 use lib.Seq.{take-all, take-suc, take-suc-set, take-set-le, getD-take}
 use Rattle.expr.specs.Lists.{concat, keep, below}
 use Rattle.expr.proofs.Bools.{fails, cond-yes, cond-no}
-use Rattle.expr.proofs.Lists.{keep-at, keep-keep, keep-none, below-at, length-below, getD-below, getD-mem, mem-getD}
+use Rattle.expr.proofs.Lists.{keep-at, keep-append, concat-append, keep-keep, keep-none, below-at, length-below, getD-below, getD-mem, mem-getD}
 use Rattle.chart.specs.Chart.{Chart, transitionAt}
 use Rattle.network.specs.Network.{Edge}
 use Rattle.flattener.specs.Flatten.{Place, idle, samePlace, transitions, allPlaces, number, bearing, departure, bearingAll}
@@ -23,17 +23,8 @@ use Rattle.flattener.specs.Sourcing.{fromState, Sourced, Least}
 use Rattle.flattener.specs.declared.walk.Tables.{Tables}
 use Rattle.flattener.proofs.Numbers.{IsPlace, all-places-at, same-place-at, same-place-by, number-injective, number-of-place}
 use Rattle.flattener.proofs.Arrivals.{departure-place}
-use Rattle.flattener.proofs.Gathers.{adds-skip, walk-none, walk-more, walk-all, walk-past, concat-kept, concat-append}
+use Rattle.flattener.proofs.Gathers.{adds-skip, walk-none, walk-more, walk-all, walk-past, concat-kept}
 use Rattle.flattener.proofs.Joining.{passed-of, ranges-of}
-
-keep-append : {A : Type 0} (p : A → Bool) (xs ys : List A) → keep p (xs ++ ys) ≡ keep p xs ++ keep p ys
-unfolding keep
-keep-append p [] ys = refl
-keep-append p (x ∷ xs) ys = go (p x) (keep-append p xs ys)
-  where
-    go : (b : Bool) → keep p (xs ++ ys) ≡ keep p xs ++ keep p ys → cond b (x ∷ keep p (xs ++ ys)) (keep p (xs ++ ys)) ≡ cond b (x ∷ keep p xs) (keep p xs) ++ keep p ys
-    go true e = ap (λ l. x ∷ l) e
-    go false e = e
 
 keep-one : {A : Type 0} (p : A → Bool) (x : A) → keep p (x ∷ []) ≡ cond (p x) (x ∷ []) []
 unfolding keep

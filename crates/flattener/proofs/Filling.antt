@@ -10,7 +10,7 @@ use lib.Dec.{eqb}
 use lib.ListN.{length, getD, set, take, length-append, length-set, List·getD-append}
 use lib.Seq.{getD-set-same, getD-set-other, getD-append-seam, take-suc-set}
 use Rattle.expr.specs.Lists.{any, position}
-use Rattle.expr.proofs.Lists.{any-at}
+use Rattle.expr.proofs.Lists.{any-at, position-some}
 use Rattle.expr.proofs.Pairwise.{once-getD}
 use Rattle.chart.specs.Chart.{Chart, transitionAt}
 use Rattle.chart.specs.Tree.{sequentials}
@@ -82,16 +82,6 @@ module _ (c : Chart) (s d x e : List ℕ) (n : ℕ) where
     exit = λ t i. C .exit t (omega arith);
     entry = λ t i. C .entry t (omega arith);
   }
-
--- an element is found
-pub position-some : {A : Type 0} (p : A → Bool) (xs : List A) → position p xs < length xs → any p xs ≡ true
-unfolding position any
-position-some p [] h = absurd (omega arith)
-position-some p (x ∷ xs) h = go (p x) (position-some p xs) h
-  where
-    go : (b : Bool) → (position p xs < length xs → any p xs ≡ true) → cond b 0 (suc (position p xs)) < suc (length xs) → (b || any p xs) ≡ true
-    go true f k = refl
-    go false f k = f (omega arith)
 
 -- the automata
 module _ (c : Chart) (a : Automata) where

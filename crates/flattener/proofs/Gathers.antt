@@ -8,6 +8,7 @@ use native.Mathlib.Numerals.{add-one}
 use lib.ListN.{length, getD, take, drop, set, length-set, length-append, take-append-drop}
 use lib.Seq.{take-all, take-suc, take-suc-set}
 use Rattle.expr.specs.Lists.{concat, keep}
+use Rattle.expr.proofs.Lists.{concat-append}
 use Rattle.network.specs.Network.{Edge}
 use Rattle.flattener.specs.File.{out2}
 use Rattle.flattener.specs.declared.head.Head.{Head}
@@ -39,11 +40,6 @@ module _ (s : List ℕ) (at : ℕ) (bytes : List ℕ) where
 pub length-head : (h : Head) → length (headBytes h) ≡ 13
 unfolding headBytes out2
 length-head h = refl
-
-pub concat-append : {A B : Type 0} (f : A → List B) (xs ys : List A) → concat f (xs ++ ys) ≡ concat f xs ++ concat f ys
-unfolding concat
-concat-append f [] ys = refl
-concat-append f (x ∷ xs) ys = ap (λ l. f x ++ l) (concat-append f xs ys) ∙ sym (append-assoc (f x) (concat f xs) (concat f ys))
 
 concat-one : {A B : Type 0} (f : A → List B) (x : A) → concat f (x ∷ []) ≡ f x
 unfolding concat

@@ -13,7 +13,7 @@ use lib.Seq.{getD-take}
 use Rattle.expr.specs.Lists.{has, below, keep, concat, bitsFrom, bitsOf}
 use Rattle.expr.proofs.Bools.{decided, and-l, and-r}
 use Rattle.expr.proofs.Bits.{bits-of-has, bits-same}
-use Rattle.expr.proofs.Lists.{keep-all, keep-none, keep-next, keep-left, drop-next, below-next, below-end, getD-map, getD-mem, map-at}
+use Rattle.expr.proofs.Lists.{keep-all, keep-append, keep-none, keep-next, keep-left, drop-next, below-next, below-end, getD-map, getD-mem, map-at}
 use Rattle.chart.specs.Chart.{Chart, stateAt, transitionAt, states, parentOf, basic, home}
 use Rattle.chart.specs.Tree.{isChild, children, sequentials}
 use Rattle.chart.specs.Table.{Tabled}
@@ -139,17 +139,7 @@ module _ {c : Chart} {t : Tree} (T : Tabled c t) (q : ℕ) where
   pub child-row-at : Chartered c → (s a e : ℕ) → s < t .states → isChild c q s ≡ true → a ≡ automaton c q → e ≡ getD (t .exits) s 0 → Rowed c (child s) (record { kind = 1; value = s; mark = 0; automaton = a; exits = e })
   child-row-at h s a e l i n x = child-row c (passed-of h) (ranges-of h) q s a e (omega (arith, T .count)) (eqb-true (parentOf c s) q (and-r (not (eqb s 0)) _ i)) n (x ∙ T .exits s (omega (arith, T .count, T .few)))
 
--- the walk over the pairs that are entered
-keep-append : {A : Type 0} (p : A → Bool) (xs ys : List A) → keep p (xs ++ ys) ≡ keep p xs ++ keep p ys
-unfolding keep
-keep-append p [] ys = refl
-keep-append {A} p (x ∷ xs) ys = go (p x) (keep-append p xs ys)
-  where
-    go : (b : Bool) → keep p (xs ++ ys) ≡ keep p xs ++ keep p ys → cond b (x ∷ keep p (xs ++ ys)) (keep p (xs ++ ys)) ≡ cond b (x ∷ keep p xs) (keep p xs) ++ keep p ys
-    go true e = ap (λ (l : List A). x ∷ l) e
-    go false e = e
-
--- the pairs of some states are those pairs whose state is one of them
+-- the walk over the pairs that are entered: the pairs of some states are those pairs whose state is one of them
 pairs-kept : (p : ℕ → ℕ → Bool) (n : ℕ) (t : ℕ → Bool) (ss : List ℕ) → pairs p n (keep t ss) ≡ keep (λ x. t (x .state)) (pairs p n ss)
 unfolding pairs keep concat
 pairs-kept p n t [] = refl

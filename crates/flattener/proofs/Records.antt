@@ -15,12 +15,7 @@ use Rattle.flattener.specs.Gathering.{headOf, headBytes}
 use Rattle.flattener.specs.Records.{edgeRecord, bodyOf, Named, Bodied, Writable}
 use Rattle.flattener.specs.Writing.{Wrote, part}
 use Rattle.flattener.proofs.Writing.{wrote-none, wrote-then}
-use Rattle.expr.proofs.Lists.{getD-mem}
-
-pub concat-append : {A B : Type 0} (f : A → List B) (xs ys : List A) → concat f (xs ++ ys) ≡ concat f xs ++ concat f ys
-unfolding concat
-concat-append f [] ys = refl
-concat-append f (x ∷ xs) ys = ap (λ l. f x ++ l) (concat-append f xs ys) ∙ sym (append-assoc (f x) (concat f xs) (concat f ys))
+use Rattle.expr.proofs.Lists.{getD-mem, concat-append}
 
 concat-more : {A B : Type 0} (f : A → List B) (xs : List A) (i : ℕ) (d : A) → i < length xs → concat f (take (i + 1) xs) ≡ concat f (take i xs) ++ f (getD xs i d)
 unfolding concat

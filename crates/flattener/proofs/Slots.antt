@@ -14,7 +14,7 @@ use Rattle.expr.specs.Lists.{has, keep}
 use Rattle.expr.specs.Answer as answer
 use Rattle.expr.proofs.Answer.{unless-at, then-at}
 use Rattle.expr.proofs.Bools.{cond-yes, cond-no, not-yes, not-no}
-use Rattle.expr.proofs.Lists.{Once, getD-map, getD-mapped, getD-mem, any-at, keep-keep}
+use Rattle.expr.proofs.Lists.{Once, position-some, getD-map, getD-mapped, getD-mem, any-at, keep-keep}
 use Rattle.expr.proofs.Pairwise.{once-getD, map-once-on}
 use Rattle.chart.specs.Chart.{Chart, stateAt, transitionAt, states, readChart}
 use Rattle.chart.specs.Tree.{isChild, children, sequentials, entered}
@@ -30,7 +30,6 @@ use Rattle.flattener.specs.declared.place.Places.{Places}
 use Rattle.flattener.proofs.Automata.{Region, region-at}
 use Rattle.flattener.proofs.Numbers.{IsPlace, idle-place, same-place-at, all-places-at, all-places-once, number-lt, place-of-number}
 use Rattle.flattener.proofs.Arrivals.{arrival-place, departure-place, initial-place}
-use Rattle.flattener.proofs.Filling.{position-some}
 use Rattle.flattener.proofs.Placing.{passed-of, ranges-of, child-test}
 use Rattle.flattener.proofs.StateWalks.{walk-yes, walk-no, walk-end}
 

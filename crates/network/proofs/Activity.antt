@@ -34,8 +34,3 @@ module _ {k : Counts} {s : List ℕ} {e : code.Edge} {d : Edge} (K : Kept k s e 
       → (eqb p (e .source) && (x && y)) ≡ activeEdge n c d
   unfolding activeEdge ownerOf guardsHold
   active-kept n c f g h j = ap₂ _&&_ (ap (λ (p : ℕ). eqb p (e .source)) (g ∙ ap (place c) f) ∙ ap (λ (z : ℕ). eqb (place c (locationAt n z .automaton)) z) (K .source)) (ap₂ _&&_ h j)
-
--- one more edge's resets
-pub clocks-next : {l rest : List ℕ} {m : ℕ} (f : ℕ → Label) (cs : List ℕ) → l ≡ m ∷ rest → clocksAfter (map f l) cs ≡ clocksAfter (map f rest) (reset (f m .resets) cs)
-unfolding clocksAfter
-clocks-next f cs e = rw e

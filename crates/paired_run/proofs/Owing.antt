@@ -10,15 +10,10 @@ use lib.ListN.{length, getD, drop, drop-of-length-le}
 use Rattle.expr.specs.Moves.{known}
 use Rattle.expr.proofs.Bools.{parts}
 use Rattle.expr.proofs.Lists.{getD-mem, drop-next}
-use Rattle.expr.proofs.Moves.{known-at}
 use Rattle.chart.specs.Chart.{Chart, inRange, transitionAt}
 use Rattle.chart.specs.declared.header.Counts.{Counts}
 use Rattle.flattener.specs.Flatten.{hasExit, hasEntry}
 use Rattle.agreement.specs.Agreement.{named}
-
--- each of some known numbers is one
-pub each-known : (count : ℕ) (ts : List ℕ) (i : ℕ) → known count ts ≡ true → i < length ts → getD ts i 0 < count
-each-known count ts i h l = known-at count ts h .each (getD ts i 0) (getD-mem ts i 0 l)
 
 one-few : (b : Bool) → cond b 1 0 ≤ 1
 one-few true = omega arith

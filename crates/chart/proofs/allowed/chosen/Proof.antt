@@ -1,5 +1,5 @@
 use native.Mathlib.Omega.{arith}
-use Rattle.chart.proofs.Choices.{known-each}
+use Rattle.expr.proofs.Moves.{known-each}
 use borrow.Author.Needs.{needs}
 use Rattle.chart.proofs.allowed.chosen.Statement.{statement}
 use Rattle.chart.proofs.allowed.chosen.Tie as tie

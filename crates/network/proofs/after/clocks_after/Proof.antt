@@ -9,10 +9,11 @@ use Rattle.expr.specs.Lists.{all}
 use Rattle.expr.specs.Clocks.{reset}
 use Rattle.expr.specs.Moves.{clocksAfter}
 use Rattle.expr.proofs.Lists.{drop-next}
+use Rattle.expr.proofs.Turns.{clocks-next}
 use Rattle.network.specs.Network.{Network}
 use Rattle.network.specs.Machine.{edgeAt}
 use Rattle.network.specs.Layout.{Laid}
-use Rattle.network.proofs.Activity.{known-at, clocks-next}
+use Rattle.network.proofs.Activity.{known-at}
 use borrow.Author.Needs.{needs}
 use Rattle.network.proofs.after.clocks_after.Statement.{statement}
 use Rattle.network.proofs.after.clocks_after.Tie as tie
@@ -47,7 +48,7 @@ loop-less c = omega arith
 loop-again : tie.Need-loop-again Inv-loop μ-loop
 loop-again c = λ n L h. let e = c .before .before in
     let l = e .before .before in
-    l .before .loop .inv n L h ∙ clocks-next _ _ (drop-next _ _ 0 (l .loop-test .taken))
+    l .before .loop .inv n L h ∙ clocks-next _ (drop-next _ _ 0 (l .loop-test .taken)) _
     ∙ ap (clocksAfter _) (ap (λ (b : ℕ). reset b (l .before .loop .after)) (sym (e .edge-of .ensures n L (known-at _ _ h (l .loop-test .taken)) .resets)) ∙ sym (c .reset .ensures))
 
 returns : tie.Need-returns Inv-loop μ-loop

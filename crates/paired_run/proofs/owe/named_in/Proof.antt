@@ -9,7 +9,8 @@ use Rattle.chart.specs.Chart.{Chart}
 use Rattle.chart.specs.Laid.{Laid}
 use Rattle.chart.specs.declared.header.Counts.{Counts}
 use Rattle.agreement.specs.Agreement.{named}
-use Rattle.paired_run.proofs.Owing.{named-next, named-end, each-known}
+use Rattle.paired_run.proofs.Owing.{named-next, named-end}
+use Rattle.expr.proofs.Moves.{known-each}
 use Rattle.paired_run.proofs.owe.named_in.Statement.{statement}
 use Rattle.paired_run.proofs.owe.named_in.Tie as tie
 
@@ -48,7 +49,7 @@ loop-again c = (
   λ d k L h. let l = c .before .before .before .loop in
       let a = c .before .before .before .before .before .before .before .args .list .now in
       let in-list = c .before .before .loop-test .taken in
-      omega (arith, l .inv .2 d k L h, named-next d a (l .i) in-list, c .named-by .ensures .1 d k L (each-known (k .transitions) a (l .i) h in-list)),
+      omega (arith, l .inv .2 d k L h, named-next d a (l .i) in-list, c .named-by .ensures .1 d k L (known-each (k .transitions) a h (l .i) in-list)),
 )
 
 returns : tie.Need-returns Inv-loop μ-loop
