@@ -1,4 +1,7 @@
 // The calls of a script on a chart, for the programs that run one.
+ghost use mathlib.Core.Path.{_≡_};
+ghost use Rattle.chart.specs.Outcomes.{zeroConfiguration};
+ghost use Rattle.chart_calls.specs.Calls.{answerTo};
 use chart::configuration::Configuration;
 use chart::machine::Outcome;
 use console::print;
@@ -18,7 +21,9 @@ pub fn show(file: &[u8], c: Configuration) {
 }
 
 // What stands for a configuration before the start.
-pub fn no_configuration() -> Configuration {
+pub fn no_configuration() -> Configuration
+    ensures { λ r. ⌜ r ≡ zeroConfiguration ⌝ }
+{
     Configuration {
         active: [false; 48],
         variables: [0; 16],
@@ -27,7 +32,9 @@ pub fn no_configuration() -> Configuration {
 }
 
 // What the machine answers to a call. A line without a call is a wait of no ticks, which is refused.
-pub fn answer(file: &[u8], c: Configuration, line: Line) -> Outcome {
+pub fn answer(file: &[u8], c: Configuration, line: Line) -> Outcome
+    ensures { λ r. ⌜ r ≡ answerTo (now (file .entry)) c line ⌝ }
+{
     let call = line.call;
     let list = line.list;
     let count = script::at_most_seventeen(line.count);

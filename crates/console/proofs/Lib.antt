@@ -3,4 +3,5 @@ pub mod Search
 pub mod Words
 pub mod Decimals
 pub mod Steps
+pub mod Unread
 mod Examples

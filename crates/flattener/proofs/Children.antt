@@ -80,7 +80,7 @@ module _ (c : Chart) (t : Tables) (T : Tabulated c t) (s : ℕ) (m : Mem (child 
   unfolding allPlaces places others concat
   all-others =
       concat-concat (bearingAll c s) (places c) (sequentials c)
-      ∙ concat-one (λ x. concat (bearingAll c s) (places c x)) (sequentials c) (sequentials-once c) (sequentials-by c region)
+      ∙ concat-one (λ x. concat (bearingAll c s) (places c x)) (sequentials c) (sequentials-once c) _ (sequentials-by c region)
       (λ x k d. concat-none (bearingAll c s) (places c x) (λ r n. none-elsewhere r (λ e. d (sym (places-at c x n .0) ∙ e))))
       ∙ ap (λ (l : List Edge). l ++ concat (bearingAll c s) others) (none-idle q)
 

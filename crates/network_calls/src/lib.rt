@@ -1,4 +1,7 @@
 // The calls of a script on a network, for the programs that run one.
+ghost use mathlib.Core.Path.{_≡_};
+ghost use Rattle.network.specs.Answers.{noConfiguration};
+ghost use Rattle.network_calls.specs.Calls.{answerTo};
 use console::print;
 use console::script;
 use console::script::Call;
@@ -21,7 +24,9 @@ pub fn show(file: &[u8], c: Configuration) {
 }
 
 // What stands for a configuration before the start.
-pub fn no_configuration() -> Configuration {
+pub fn no_configuration() -> Configuration
+    ensures { λ r. ⌜ r ≡ noConfiguration ⌝ }
+{
     Configuration {
         locations: [0; 16],
         flags: [0; 16],
@@ -31,7 +36,9 @@ pub fn no_configuration() -> Configuration {
 }
 
 // What the machine answers to a call. A line without a call is a wait of no ticks, which is refused.
-pub fn answer(file: &[u8], c: Configuration, line: Line) -> Moved {
+pub fn answer(file: &[u8], c: Configuration, line: Line) -> Moved
+    ensures { λ r. ⌜ r ≡ answerTo (now (file .entry)) c line ⌝ }
+{
     let call = line.call;
     let list = line.list;
     let count = script::at_most_seventeen(line.count);

@@ -110,6 +110,7 @@ fn after_move(
     let outcome = chart::machine::step(file, chart, &list[0..count]);
     let answer = outcome.answer;
     let after = outcome.configuration;
+    // Nothing is owed where a move carries transitions, so the sum never wraps in a run.
     let owed = std::num::wrapping_add_u64(run.owed, named(file, &list[0..count]));
     Followed {
         verdict: Verdict::Done,

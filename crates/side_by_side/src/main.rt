@@ -1,13 +1,12 @@
 // Runs a chart, the file that the first argument names, and its network side by side. The script on standard input has
 // calls of the network, and each that is accepted is read as a call of the chart, or as none. After each call both
 // configurations are printed, and how many urgent moves are owed.
-mod carry;
 mod follow;
 mod show;
 
 use console::script;
 use flattener::operation::Flattened;
-use follow::Run;
+use paired_run::run::Run;
 
 // One line of the script.
 fn take_line(chart_file: &[u8], network_file: &[u8], r: Run, text: &[u8], number: u64) -> Run {
@@ -16,8 +15,7 @@ fn take_line(chart_file: &[u8], network_file: &[u8], r: Run, text: &[u8], number
     if !script::is_call(call, text, number) {
         return r;
     }
-    let moved = network_calls::answer(network_file, r.network, line);
-    let next = follow::after_call(chart_file, network_file, r, moved, line);
+    let next = follow::after_call(chart_file, network_file, r, line);
     show::show_chart(chart_file, next.chart, next.owed);
     next
 }

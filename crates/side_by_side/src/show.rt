@@ -1,8 +1,7 @@
 // What is printed of a run.
 use console::print;
-use console::script;
-use console::script::Call;
-use console::script::Line;
+use paired_run::carry::Transitions;
+use paired_run::run::Reading;
 
 // The configuration of the network.
 pub fn show_network(file: &[u8], c: network::configuration::Configuration) {
@@ -14,36 +13,33 @@ fn show_number(n: u16) {
     print::number(n as u64);
 }
 
-// The numbers of a step.
-fn show_list(list: &[u16]) {
-    let mut i = 0;
-    while i < list.len() {
-        show_number(list[i]);
-        i += 1;
+// The first `count` numbers of a step.
+fn show_list(list: &[u16; 16], count: usize) {
+    for i in 0..16 {
+        if i < count {
+            show_number(list[i]);
+        }
     }
 }
 
-pub fn show_no_call() {
-    print::text(b" chart: no call\n");
+pub fn show_start() {
+    print::text(b" chart: start\n");
 }
 
-// The call that the chart gets.
-pub fn show_call(line: Line) {
-    let call = line.call;
-    let list = line.list;
-    let count = script::at_most_seventeen(line.count);
+// The call of the chart that is read.
+pub fn show_call(reading: Reading, carried: Transitions) {
+    let list = carried.list;
     print::text(b" chart:");
-    match call {
-        Call::Start => print::text(b" start"),
-        Call::Step => {
+    match reading {
+        Reading::Nothing => print::text(b" no call"),
+        Reading::Step => {
             print::text(b" step");
-            show_list(&list[0..count]);
+            show_list(&list, carried.count);
         }
-        Call::Wait(ticks) => {
+        Reading::Wait(ticks) => {
             print::text(b" wait");
             print::number(ticks as u64);
         }
-        _ => print::text(b" no call"),
     }
     print::line_end();
 }

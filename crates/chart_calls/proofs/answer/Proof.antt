@@ -1,5 +1,10 @@
-use lib.ListN.{length}
-use mathlib.Core.Path.{_≡_}
+use lib.ListN.{length, take}
+use mathlib.Core.Path.{_≡_, refl, sym, ap, _∙_}
+use Prim.Native.Nat.{ℕ, _-_, min}
+use Rattle.console.specs.declared.script.Call.{Call}
+use Rattle.console.specs.declared.script.Call.the-variants as Cl
+use Rattle.chart_calls.specs.Calls.{answerBy}
+use Rattle.console.proofs.Unread.{no-call}
 use native.Mathlib.Omega.{arith}
 use borrow.Author.Needs.{needs}
 use Rattle.chart_calls.proofs.answer.Statement.{statement}
@@ -41,16 +46,23 @@ wait-requires-2 : tie.Need-wait-requires-2
 wait-requires-2 c κs = search needs
 
 returns : tie.Need-returns
-returns c = search needs
+returns c = let a = c .before .before .before .before .before .before .args in
+    c .start .ensures ∙ ap (λ (k : Call). answerBy (a .file .now) (a .c) k (take (min (a .line .count) 17) (a .line .list))) (sym (c .before .enum-told .given .1))
 
 returns-2 : tie.Need-returns-2
-returns-2 c = search needs
+returns-2 c = let a = c .before .before .before .before .before .before .before .before .args in
+    let count = c .before .before .before .before .before .at-most-seventeen in
+    let whole : count .result - 0 ≡ min (a .line .count) 17 = (let z : count .result - 0 ≡ count .result = omega arith in z) ∙ count .ensures in
+    c .step .ensures ∙ ap (λ (j : ℕ). answerBy (a .file .now) (a .c) Cl.Step (take j (a .line .list))) whole
+    ∙ ap (λ (k : Call). answerBy (a .file .now) (a .c) k (take (min (a .line .count) 17) (a .line .list))) (sym (c .before .before .before .enum-told2 .given .1))
 
 returns-3 : tie.Need-returns-3
-returns-3 c = search needs
+returns-3 c = let a = c .before .before .before .before .before .before .before .args in
+    c .wait .ensures ∙ ap (λ (k : Call). answerBy (a .file .now) (a .c) k (take (min (a .line .count) 17) (a .line .list))) (sym (c .before .before .call .given .1))
 
 returns-4 : tie.Need-returns-4
-returns-4 c = search needs
+returns-4 c = let a = c .before .before .before .before .before .args in
+    c .wait2 .ensures ∙ no-call (λ k. answerBy (a .file .now) (a .c) k (take (min (a .line .count) 17) (a .line .list))) _ refl refl refl (a .line .call) (c .before .match .keys4)
 
 pub answer-spec : {M : Type 1} → statement M
 answer-spec =

@@ -1,15 +1,14 @@
 use Prim.Native.Nat.{_-_}
-use lib.ListN.{length}
-use borrow.Author.Needs.{needs}
 use native.Mathlib.Omega.{arith}
+use borrow.Author.Needs.{needs}
 use Rattle.side_by_side.proofs.show.show_list.Statement.{statement}
 use Rattle.side_by_side.proofs.show.show_list.Tie as tie
 
 abbrev Inv-loop : tie.InvT-loop
-Inv-loop list i₀ i = Unit {0}
+Inv-loop list count i₀ i = Unit {0}
 
 abbrev μ-loop : tie.MeasureT-loop
-μ-loop list i₀ i = length list - i
+μ-loop list count i₀ i = 16 - i
 
 loop-holds : tie.Need-loop-holds Inv-loop μ-loop
 loop-holds c = tt
@@ -17,8 +16,8 @@ loop-holds c = tt
 mul-show-number : tie.Need-mul-show-number Inv-loop μ-loop
 mul-show-number c = omega arith
 
-shared-slice-read-show-number : tie.Need-shared-slice-read-show-number Inv-loop μ-loop
-shared-slice-read-show-number c = search needs
+element-copy-out-show-number : tie.Need-element-copy-out-show-number Inv-loop μ-loop
+element-copy-out-show-number c = omega arith
 
 show-number-requires : tie.Need-show-number-requires Inv-loop μ-loop
 show-number-requires c κs = search needs
@@ -43,7 +42,7 @@ show-list-spec =
     μ-loop
     loop-holds
     mul-show-number
-    shared-slice-read-show-number
+    element-copy-out-show-number
     show-number-requires
     add-i
     loop-less

@@ -1,0 +1,24 @@
+-- The calls of a script on a chart.
+use Prim.Native.Nat.{ℕ, min}
+use mathlib.Core.List.{List}
+use lib.ListN.{take}
+use Rattle.chart.specs.Machine.{startOf, stepOf, waitOf}
+use Rattle.chart.specs.Outcomes.{outcomeOf, zeroConfiguration}
+use Rattle.chart.specs.declared.machine.Outcome.{Outcome}
+use Rattle.chart.specs.declared.configuration.Configuration.{Configuration}
+use Rattle.console.specs.declared.script.Call.{Call}
+use Rattle.console.specs.declared.script.Call.the-variants as Cl
+use Rattle.console.specs.declared.script.Line.{Line}
+
+-- by the call, with the numbers of a step; where there is no call a wait of no ticks, which is refused
+abbrev pub answerBy : List ℕ → Configuration → Call → List ℕ → Outcome
+answerBy file c Cl.Nothing ms = outcomeOf c (waitOf file c 0)
+answerBy file c Cl.Start ms = outcomeOf zeroConfiguration (startOf file)
+answerBy file c Cl.Step ms = outcomeOf c (stepOf file c ms)
+answerBy file c (Cl.Wait d) ms = outcomeOf c (waitOf file c d)
+answerBy file c Cl.Unknown ms = outcomeOf c (waitOf file c 0)
+answerBy file c Cl.Number ms = outcomeOf c (waitOf file c 0)
+
+-- by the line, whose list has room for seventeen numbers
+abbrev pub answerTo : List ℕ → Configuration → Line → Outcome
+answerTo file c l = answerBy file c (l .call) (take (min (l .count) 17) (l .list))

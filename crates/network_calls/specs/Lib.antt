@@ -1,0 +1,2 @@
+-- What the machine answers to a script's calls.
+pub mod Calls
