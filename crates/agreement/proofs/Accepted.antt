@@ -11,8 +11,8 @@ use Rattle.expr.proofs.Bools.{implies-at, implies-by}
 use Rattle.expr.proofs.Lists.{all-at, all-by, any-at, any-by, map-at, map-by}
 use Rattle.expr.proofs.Moves.{Known, known-at, known-by}
 use Rattle.expr.proofs.Answer.{unless-at, unless-by}
-use Rattle.network.specs.Network.{Edge, Network, ownerOf}
-use Rattle.network.specs.Machine.{edgeAt, isConfiguration, boundsKept, activeEdge, urgentAt, urgent, after, tested, step, wait}
+use Rattle.network.specs.Network.{Edge, Network, urgentAt, edgeAt, ownerOf}
+use Rattle.network_machine.specs.Machine.{isConfiguration, boundsKept, activeEdge, urgent, after, tested, step, wait}
 use Rattle.agreement.specs.Agreement.{NetworkConfiguration, Accepts, isUrgent}
 use Rattle.expr.proofs.Sets.{AllowedSet, allowed-set-at, allowed-set-by}
 

@@ -17,21 +17,21 @@ use Rattle.expr.proofs.Lists.{all-below, below-all}
 use Rattle.expr.proofs.Bits.{has-zero, has-bits, has-bitsOf, has-high}
 use Rattle.chart.specs.Chart.{Chart, transitionAt, parentOf, basic, home}
 use Rattle.chart.specs.Tree.{under, sequentials}
-use Rattle.chart.specs.Machine.{isActive, isTree, completed, activeTransition}
+use Rattle.chart_machine.specs.Machine.{isActive, isTree, completed, activeTransition}
 use Rattle.chart.proofs.Rules.{Passed}
 use Rattle.chart.proofs.Ranges.{Ranges}
 use Rattle.network.specs.Network.{Edge}
-use Rattle.network.specs.Machine.{flagsAgree, activeEdge}
-use Rattle.flattener.specs.Flatten.{Place, idle, child, pre, post, samePlace, placeHome, hasExit, atExit, initialPlace, flagAt, onValues, alternatives, enterChannel, exitChannel, signalling, edge, ownEdge, departure, urgentPlace, flatten}
-use Rattle.flattener.specs.Picture.{pictured, picture}
-use Rattle.flattener.proofs.Automata.{regionAt, region-at, automaton-of-region}
-use Rattle.flattener.proofs.Alternatives.{isAt, atSet, alternative-of-completed, completed-of-alternative}
-use Rattle.flattener.proofs.Numbers.{IsPlace, same-place-at, same-place-by}
-use Rattle.flattener.proofs.Channels.{enter-channel-ge, exit-channel-ge}
-use Rattle.flattener.proofs.Arrivals.{ends, source-composite, source-basic, exit-lt, source-place}
-use Rattle.flattener.proofs.Edges.{Bears, Leaves, edges-at, edges-by}
-use Rattle.flattener.proofs.Pictured.{pictured-not-urgent, pictured-child, pictured-fits, active-of-pictured, at-exit-pictured}
-use Rattle.flattener.proofs.Printable.{alternative-lt}
+use Rattle.network_machine.specs.Machine.{flagsAgree, activeEdge}
+use Rattle.flattening.specs.Flatten.{Place, idle, child, pre, post, samePlace, placeHome, hasExit, atExit, initialPlace, flagAt, onValues, alternatives, enterChannel, exitChannel, signalling, edge, ownEdge, departure, urgentPlace, flatten}
+use Rattle.flattening.specs.Picture.{pictured, picture}
+use Rattle.flattening.proofs.Automata.{regionAt, region-at, automaton-of-region}
+use Rattle.flattening.proofs.Alternatives.{isAt, atSet, alternative-of-completed, completed-of-alternative}
+use Rattle.flattening.proofs.Numbers.{IsPlace, same-place-at, same-place-by}
+use Rattle.flattening.proofs.Channels.{enter-channel-ge, exit-channel-ge}
+use Rattle.flattening.proofs.Arrivals.{ends, source-composite, source-basic, exit-lt, source-place}
+use Rattle.flattening.proofs.Edges.{Bears, Leaves, edges-at, edges-by}
+use Rattle.flattening.proofs.Pictured.{pictured-not-urgent, pictured-child, pictured-fits, active-of-pictured, at-exit-pictured}
+use Rattle.flattening.proofs.Printable.{alternative-lt}
 use Rattle.agreement.specs.Agreement.{ChartConfiguration, NetworkConfiguration}
 use Rattle.agreement.proofs.Relation.{standing}
 use Rattle.agreement.proofs.Standing.{picture-stands, flag-standing, active-standing}

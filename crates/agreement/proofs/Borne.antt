@@ -12,14 +12,14 @@ use Rattle.expr.proofs.Lists.{Once, none-any, keep-at, keep-map, once-keep}
 use Rattle.expr.proofs.Moves.{distinct-by}
 use Rattle.expr.proofs.Pairwise.{map-once-on}
 use Rattle.chart.specs.Chart.{Chart, parentOf, home}
-use Rattle.chart.proofs.Step.{configuration-tree}
-use Rattle.network.specs.Network.{Edge, locationAt, ownerOf}
-use Rattle.network.specs.Machine.{edgeAt, activeEdge, urgentAt}
-use Rattle.flattener.specs.Flatten.{Place, idle, child, pre, post, automaton, placeHome, edge, ownEdge, flatten}
-use Rattle.flattener.specs.Picture.{pictured, picture}
-use Rattle.flattener.proofs.Numbers.{IsPlace, urgent-of-place}
-use Rattle.flattener.proofs.Edges.{Leaves, edges-at, source-of, owner-of, edge-at-mem}
-use Rattle.flattener.proofs.Pictured.{pictured-fits, pictured-not-urgent}
+use Rattle.chart_machine.proofs.Step.{configuration-tree}
+use Rattle.network.specs.Network.{Edge, locationAt, urgentAt, edgeAt, ownerOf}
+use Rattle.network_machine.specs.Machine.{activeEdge}
+use Rattle.flattening.specs.Flatten.{Place, idle, child, pre, post, automaton, placeHome, edge, ownEdge, flatten}
+use Rattle.flattening.specs.Picture.{pictured, picture}
+use Rattle.flattening.proofs.Numbers.{IsPlace, urgent-of-place}
+use Rattle.flattening.proofs.Edges.{Leaves, edges-at, source-of, owner-of, edge-at-mem}
+use Rattle.flattening.proofs.Pictured.{pictured-fits, pictured-not-urgent}
 use Rattle.agreement.specs.Agreement.{NetworkConfiguration, isUrgent, Accepts}
 use Rattle.agreement.proofs.Claims.{BearsOnce, NoUrgentMove}
 use Rattle.agreement.proofs.Standing.{picture-stands, active-leaves}

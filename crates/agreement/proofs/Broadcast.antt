@@ -22,13 +22,13 @@ use Rattle.chart.specs.Chart.{Chart}
 use Rattle.chart.specs.Tree.{sequentials}
 use Rattle.chart.proofs.Rules.{Passed}
 use Rattle.chart.proofs.Ranges.{Ranges}
-use Rattle.network.specs.Network.{Edge, Network, ownerOf}
-use Rattle.network.specs.Machine.{edgeAt, isConfiguration, boundsKept, activeEdge, urgentAt, after, step}
-use Rattle.flattener.specs.Flatten.{Place, automaton, samePlace, sorted, signalling, edge, ownEdge, urgentPlace, flatten}
-use Rattle.flattener.proofs.Automata.{Region, automaton-lt, automaton-injective}
-use Rattle.flattener.proofs.Numbers.{same-place-by, urgent-of-place}
-use Rattle.flattener.proofs.Edges.{Leaves, edges-by, edge-at-mem, mem-edge-at, owner-of, source-of}
-use Rattle.flattener.proofs.Order.{edge-at-injective}
+use Rattle.network.specs.Network.{Edge, Network, urgentAt, edgeAt, ownerOf}
+use Rattle.network_machine.specs.Machine.{isConfiguration, boundsKept, activeEdge, after, step}
+use Rattle.flattening.specs.Flatten.{Place, automaton, samePlace, sorted, signalling, edge, ownEdge, urgentPlace, flatten}
+use Rattle.flattening.proofs.Automata.{Region, automaton-lt, automaton-injective}
+use Rattle.flattening.proofs.Numbers.{same-place-by, urgent-of-place}
+use Rattle.flattening.proofs.Edges.{Leaves, edges-by, edge-at-mem, mem-edge-at, owner-of, source-of}
+use Rattle.flattening.proofs.Order.{edge-at-injective}
 use Rattle.agreement.specs.Agreement.{NetworkConfiguration, isUrgent, carried}
 use Rattle.agreement.proofs.Relation.{standing}
 use Rattle.expr.proofs.Sets.{passing-at, passing-by, passing-ascending, values-length, AllowedSet, Joint, Full}

@@ -18,19 +18,19 @@ use Rattle.expr.proofs.Lists.{keep-at, keep-by, map-at, map-by, elem-at, elem-b
 use Rattle.expr.proofs.Moves.{Sends}
 use Rattle.expr.proofs.Sets.{ascending-same, passing-at, passing-by, passing-ascending, Matched, matched-by, Corresponds, allowed-alike}
 use Rattle.chart.specs.Chart.{Chart, transitionAt, home}
-use Rattle.chart.specs.Machine.{isTree, activeTransition}
+use Rattle.chart_machine.specs.Machine.{isTree, activeTransition}
 use Rattle.chart.proofs.Rules.{Passed}
 use Rattle.chart.proofs.Ranges.{Ranges}
-use Rattle.chart.proofs.Step.{channel-lt}
-use Rattle.network.specs.Network.{Edge, ownerOf}
-use Rattle.network.specs.Machine.{edgeAt, activeEdge}
-use Rattle.flattener.specs.Flatten.{child, edge, automaton, placeHome, flatten}
-use Rattle.flattener.specs.Picture.{picture}
-use Rattle.flattener.proofs.Automata.{automaton-injective}
-use Rattle.flattener.proofs.Sums.{sorted-at, sorted-by, sorted-ascending}
-use Rattle.flattener.proofs.Arrivals.{ends, source-place}
-use Rattle.flattener.proofs.Edges.{edge-at-mem, mem-edge-at, owner-of}
-use Rattle.flattener.proofs.Order.{edge-at-injective}
+use Rattle.chart.proofs.TransitionRules.{channel-lt}
+use Rattle.network.specs.Network.{Edge, edgeAt, ownerOf}
+use Rattle.network_machine.specs.Machine.{activeEdge}
+use Rattle.flattening.specs.Flatten.{child, edge, automaton, placeHome, flatten}
+use Rattle.flattening.specs.Picture.{picture}
+use Rattle.flattening.proofs.Automata.{automaton-injective}
+use Rattle.flattening.proofs.Sums.{sorted-at, sorted-by, sorted-ascending}
+use Rattle.flattening.proofs.Arrivals.{ends, source-place}
+use Rattle.flattening.proofs.Edges.{edge-at-mem, mem-edge-at, owner-of}
+use Rattle.flattening.proofs.Order.{edge-at-injective}
 use Rattle.agreement.specs.Agreement.{ChartConfiguration, carried}
 use Rattle.agreement.proofs.Accepted.{Move}
 use Rattle.agreement.proofs.Bearing.{carrier, carrier-leaves, carrier-mem, carrier-active, active-edges}

@@ -6,12 +6,12 @@ use Prim.Native.Nat.{ℕ, _+_, _<_}
 use Rattle.expr.specs.Label.{distinct}
 use Rattle.expr.specs.Answer.{done}
 use Rattle.chart.specs.Chart.{Chart}
-use Rattle.chart.specs.Machine as chart
+use Rattle.chart_machine.specs.Machine as chart
 use Rattle.chart.proofs.Rules.{Passed}
 use Rattle.chart.proofs.Ranges.{Ranges}
-use Rattle.network.specs.Machine as network
-use Rattle.flattener.specs.Flatten.{flatten}
-use Rattle.flattener.specs.Picture.{picture}
+use Rattle.network_machine.specs.Machine as network
+use Rattle.flattening.specs.Flatten.{flatten}
+use Rattle.flattening.specs.Picture.{picture}
 use Rattle.agreement.specs.Agreement.{ChartConfiguration, NetworkConfiguration, Accepts, Alike, borne, carried, isUrgent, named}
 use Rattle.agreement.proofs.Relation.{Related}
 

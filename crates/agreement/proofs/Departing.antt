@@ -16,21 +16,21 @@ use Rattle.expr.proofs.Lists.{Once, once-keep, any-by, any-at, any-none, keep-a
 use Rattle.expr.proofs.Pairwise.{map-once}
 use Rattle.chart.specs.Chart.{Chart, transitionAt, parentOf, basic, sequential, home}
 use Rattle.chart.specs.Tree.{under}
-use Rattle.chart.specs.Machine.{isActive, isTree, activeTransition, after}
+use Rattle.chart_machine.specs.Machine.{isActive, isTree, activeTransition, after}
 use Rattle.chart.proofs.Tree.{size, states-by, Child, known-below, under-refl, under-down, under-transitive, child-under, sequential-not-basic}
 use Rattle.chart.proofs.Entered.{entered-top, entered-under}
-use Rattle.chart.proofs.Active.{tree-at, completed-at, active-above, active-basic}
+use Rattle.chart_machine.proofs.Active.{tree-at, completed-at, active-above, active-basic}
 use Rattle.chart.proofs.Rules.{Passed, kinds-left}
 use Rattle.chart.proofs.Ranges.{Ranges, kinds-of}
-use Rattle.chart.proofs.Step.{Together, together-fires, together-tree}
-use Rattle.chart.proofs.Moved.{source-not-above, destination-not-above, destination-was-source, stays-active, next-cases, next-below, next-home, next-entered}
-use Rattle.flattener.specs.Flatten.{Place, idle, child, pre, post, hasExit, hasEntry, arrival, departure, marksBelow}
-use Rattle.flattener.specs.Picture.{pictured}
-use Rattle.flattener.proofs.Automata.{Region}
-use Rattle.flattener.proofs.Alternatives.{basic-under}
-use Rattle.flattener.proofs.Numbers.{PlaceOf}
-use Rattle.flattener.proofs.Arrivals.{ends, source-basic, destination-basic, departure-place}
-use Rattle.flattener.proofs.Pictured.{pictured-idle, pictured-child, pictured-cases, pictured-fits}
+use Rattle.chart_machine.proofs.Step.{Together, together-fires, together-tree}
+use Rattle.chart_machine.proofs.Moved.{source-not-above, destination-not-above, destination-was-source, stays-active, next-cases, next-below, next-home, next-entered}
+use Rattle.flattening.specs.Flatten.{Place, idle, child, pre, post, hasExit, hasEntry, arrival, departure, marksBelow}
+use Rattle.flattening.specs.Picture.{pictured}
+use Rattle.flattening.proofs.Automata.{Region}
+use Rattle.flattening.proofs.Alternatives.{basic-under}
+use Rattle.flattening.proofs.Numbers.{PlaceOf}
+use Rattle.flattening.proofs.Arrivals.{ends, source-basic, destination-basic, departure-place}
+use Rattle.flattening.proofs.Pictured.{pictured-idle, pictured-child, pictured-cases, pictured-fits}
 use Rattle.agreement.specs.Agreement.{ChartConfiguration, named}
 use Rattle.agreement.proofs.Relation.{Pending, entryPair, owes, owesAll, Concerns, Hearing, IsPending, Placed}
 use Rattle.agreement.proofs.Standing.{Fits}

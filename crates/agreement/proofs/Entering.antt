@@ -15,20 +15,20 @@ use Rattle.expr.proofs.Bools.{clash, decided, fails, cond-yes, cond-no}
 use Rattle.expr.proofs.Rows.{ClockValues}
 use Rattle.chart.specs.Chart.{Chart, transitionAt, stateAt, parentOf, home}
 use Rattle.chart.specs.Tree.{entered}
-use Rattle.chart.specs.Machine.{isTree}
+use Rattle.chart_machine.specs.Machine.{isTree}
 use Rattle.chart.proofs.Tree.{size}
 use Rattle.chart.proofs.Entered.{entered-top, entered-under, all-entered-at}
 use Rattle.chart.proofs.Rules.{Passed}
 use Rattle.chart.proofs.Ranges.{Ranges}
-use Rattle.chart.proofs.Step.{channel-lt}
+use Rattle.chart.proofs.TransitionRules.{channel-lt}
 use Rattle.network.specs.Network.{Edge}
-use Rattle.flattener.specs.Flatten.{Pair, Place, idle, child, pre, post, placeHome, joined, boundsOf, hasEntry, markedChild, enterPairs, enterChannel, signalling, edge, ownEdge}
-use Rattle.flattener.proofs.Automata.{Region}
-use Rattle.flattener.proofs.Numbers.{PlaceOf}
-use Rattle.flattener.proofs.Channels.{enter-channel-ge, enter-channel-injective, enter-exit-apart, heard-entries-at, heard-entries-by}
-use Rattle.flattener.proofs.Arrivals.{Ends, enter-pair}
-use Rattle.flattener.proofs.Edges.{Leaves}
-use Rattle.flattener.proofs.Bounds.{keeps-pre}
+use Rattle.flattening.specs.Flatten.{Pair, Place, idle, child, pre, post, placeHome, joined, boundsOf, hasEntry, markedChild, enterPairs, enterChannel, signalling, edge, ownEdge}
+use Rattle.flattening.proofs.Automata.{Region}
+use Rattle.flattening.proofs.Numbers.{PlaceOf}
+use Rattle.flattening.proofs.Channels.{enter-channel-ge, enter-channel-injective, enter-exit-apart, heard-entries-at, heard-entries-by}
+use Rattle.flattening.proofs.Arrivals.{Ends, enter-pair}
+use Rattle.flattening.proofs.Edges.{Leaves}
+use Rattle.flattening.proofs.Bounds.{keeps-pre}
 use Rattle.agreement.specs.Agreement.{ChartConfiguration}
 use Rattle.agreement.proofs.Relation.{Pending, entryPair, Concerns, IsPending, Placed}
 use Rattle.expr.proofs.Moves.{Receives}

@@ -14,19 +14,19 @@ use Rattle.expr.proofs.Bools.{clash, decided, fails, cond-yes, cond-no}
 use Rattle.expr.proofs.Rows.{ClockValues, keeps-free}
 use Rattle.chart.specs.Chart.{Chart, transitionAt, parentOf, home}
 use Rattle.chart.specs.Tree.{under}
-use Rattle.chart.specs.Machine.{isTree}
+use Rattle.chart_machine.specs.Machine.{isTree}
 use Rattle.chart.proofs.Tree.{size}
 use Rattle.chart.proofs.Rules.{Passed}
 use Rattle.chart.proofs.Ranges.{Ranges}
-use Rattle.chart.proofs.Step.{channel-lt}
+use Rattle.chart.proofs.TransitionRules.{channel-lt}
 use Rattle.network.specs.Network.{Edge}
-use Rattle.flattener.specs.Flatten.{Pair, Place, idle, child, pre, post, placeHome, arrival, departure, boundsOf, hasExit, hasEntry, exitPairs, exitChannel, signalling, edge, ownEdge}
-use Rattle.flattener.proofs.Automata.{Region}
-use Rattle.flattener.proofs.Numbers.{PlaceOf}
-use Rattle.flattener.proofs.Channels.{exit-channel-ge, exit-channel-injective, enter-exit-apart, heard-entries-at, heard-exits-at, heard-exits-by}
-use Rattle.flattener.proofs.Arrivals.{exit-pair}
-use Rattle.flattener.proofs.Edges.{Leaves}
-use Rattle.flattener.proofs.Bounds.{departure-arrives}
+use Rattle.flattening.specs.Flatten.{Pair, Place, idle, child, pre, post, placeHome, arrival, departure, boundsOf, hasExit, hasEntry, exitPairs, exitChannel, signalling, edge, ownEdge}
+use Rattle.flattening.proofs.Automata.{Region}
+use Rattle.flattening.proofs.Numbers.{PlaceOf}
+use Rattle.flattening.proofs.Channels.{exit-channel-ge, exit-channel-injective, enter-exit-apart, heard-entries-at, heard-exits-at, heard-exits-by}
+use Rattle.flattening.proofs.Arrivals.{exit-pair}
+use Rattle.flattening.proofs.Edges.{Leaves}
+use Rattle.flattening.proofs.Bounds.{departure-arrives}
 use Rattle.agreement.specs.Agreement.{ChartConfiguration}
 use Rattle.agreement.proofs.Relation.{Pending, owesAll, Concerns, IsPending, Placed}
 use Rattle.expr.proofs.Moves.{Receives}

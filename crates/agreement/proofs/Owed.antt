@@ -14,16 +14,17 @@ use Rattle.expr.proofs.Lists.{all-at, all-by, any-by}
 use Rattle.expr.proofs.Rows.{ClockValues}
 use Rattle.chart.specs.Chart.{Chart, home}
 use Rattle.chart.specs.Tree.{sequentials}
-use Rattle.chart.specs.Machine.{isTree}
+use Rattle.chart_machine.specs.Machine.{isTree}
 use Rattle.chart.proofs.Rules.{Passed}
 use Rattle.chart.proofs.Ranges.{Ranges}
-use Rattle.chart.proofs.Step.{configuration-tree, configuration-clocks}
-use Rattle.network.specs.Machine.{edgeAt, boundsKept, urgentAt, urgent, step, wait}
-use Rattle.flattener.specs.Flatten.{Place, urgentPlace, boundsOf, flatten}
-use Rattle.flattener.proofs.Automata.{Region, sequentials-at, sequentials-by}
-use Rattle.flattener.proofs.Numbers.{urgent-of-place}
-use Rattle.flattener.proofs.Arrivals.{ends}
-use Rattle.flattener.proofs.Edges.{Leaves, edge-at-mem, source-of}
+use Rattle.chart_machine.proofs.Step.{configuration-tree, configuration-clocks}
+use Rattle.network.specs.Network.{urgentAt, edgeAt}
+use Rattle.network_machine.specs.Machine.{boundsKept, urgent, step, wait}
+use Rattle.flattening.specs.Flatten.{Place, urgentPlace, boundsOf, flatten}
+use Rattle.flattening.proofs.Automata.{Region, sequentials-at, sequentials-by}
+use Rattle.flattening.proofs.Numbers.{urgent-of-place}
+use Rattle.flattening.proofs.Arrivals.{ends}
+use Rattle.flattening.proofs.Edges.{Leaves, edge-at-mem, source-of}
 use Rattle.agreement.specs.Agreement.{ChartConfiguration, NetworkConfiguration, Accepts, isUrgent, carried}
 use Rattle.agreement.proofs.Relation.{standing, Pending, owesAll, Related}
 use Rattle.agreement.proofs.Claims.{NoWaitOwed, MovePays, SomeMove}

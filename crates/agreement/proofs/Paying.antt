@@ -12,14 +12,14 @@ use Rattle.expr.proofs.Bools.{clash, decided}
 use Rattle.expr.proofs.Lists.{Once}
 use Rattle.chart.specs.Chart.{Chart, transitionAt, home}
 use Rattle.chart.specs.Tree.{under}
-use Rattle.chart.specs.Machine.{isTree}
+use Rattle.chart_machine.specs.Machine.{isTree}
 use Rattle.chart.proofs.Tree.{size, under-refl, comparable}
 use Rattle.chart.proofs.Rules.{Passed}
 use Rattle.chart.proofs.Ranges.{Ranges}
-use Rattle.flattener.specs.Flatten.{Place, boundsOf, hasEntry}
-use Rattle.flattener.specs.Picture.{pictured}
-use Rattle.flattener.proofs.Automata.{Region}
-use Rattle.flattener.proofs.Arrivals.{ends}
+use Rattle.flattening.specs.Flatten.{Place, boundsOf, hasEntry}
+use Rattle.flattening.specs.Picture.{pictured}
+use Rattle.flattening.proofs.Automata.{Region}
+use Rattle.flattening.proofs.Arrivals.{ends}
 use Rattle.agreement.specs.Agreement.{ChartConfiguration}
 use Rattle.agreement.proofs.Relation.{Pending, owes, owesAll, Concerns, IsPending, Placed}
 use Rattle.agreement.proofs.Broadcast.{Broadcast}

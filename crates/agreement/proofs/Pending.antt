@@ -14,22 +14,22 @@ use Rattle.expr.proofs.Bools.{clash, decided, fails, or-l, or-r, or-cases, cond
 use Rattle.expr.proofs.Lists.{any-at, any-none}
 use Rattle.chart.specs.Chart.{Chart, transitionAt, home, basic, stateAt}
 use Rattle.chart.specs.Tree.{under, entered}
-use Rattle.chart.specs.Machine.{isActive, isTree}
+use Rattle.chart_machine.specs.Machine.{isActive, isTree}
 use Rattle.chart.proofs.Tree.{size, Child, under-refl, under-transitive, under-le, child-under, child-above, sequential-not-basic}
 use Rattle.chart.proofs.Entered.{Entry, entered-top, entered-alone, entered-child, entered-marked, entered-under}
-use Rattle.chart.proofs.Active.{tree-at, active-above}
+use Rattle.chart_machine.proofs.Active.{tree-at, active-above}
 use Rattle.chart.proofs.Rules.{Passed}
 use Rattle.chart.proofs.Ranges.{Ranges}
-use Rattle.chart.proofs.Step.{entry-of}
-use Rattle.flattener.specs.Flatten.{Place, idle, child, pre, post, hasEntry, urgentPlace, markedChild}
-use Rattle.flattener.specs.Picture.{pictured}
-use Rattle.flattener.proofs.Automata.{Region, marked-child}
-use Rattle.flattener.proofs.Numbers.{PlaceOf, idle-place, child-place}
-use Rattle.flattener.proofs.Arrivals.{has-entry-at, no-entry-at, Ends, ends, post-place, pre-place, entry-lt}
+use Rattle.chart.proofs.TransitionRules.{entry-of}
+use Rattle.flattening.specs.Flatten.{Place, idle, child, pre, post, hasEntry, urgentPlace, markedChild}
+use Rattle.flattening.specs.Picture.{pictured}
+use Rattle.flattening.proofs.Automata.{Region, marked-child}
+use Rattle.flattening.proofs.Numbers.{PlaceOf, idle-place, child-place}
+use Rattle.flattening.proofs.Arrivals.{has-entry-at, no-entry-at, Ends, ends, post-place, pre-place, entry-lt}
 use Rattle.agreement.specs.Agreement.{ChartConfiguration}
 use Rattle.agreement.proofs.Relation.{Pending, entryPair, Concerns, IsPending, Placed}
 use Rattle.agreement.proofs.Standing.{Fits}
-use Rattle.flattener.proofs.Pictured.{pictured-idle, pictured-child, pictured-fits, pictured-not-urgent}
+use Rattle.flattening.proofs.Pictured.{pictured-idle, pictured-child, pictured-fits, pictured-not-urgent}
 
 -- one pending transition, and the chart where it leads
 module _ (c : Chart) (passed : Passed c) (ranges : Ranges c) (σ : ChartConfiguration) (tree : isTree c σ ≡ true) (f : ℕ → Place) (p : Pending) (k : IsPending c σ f p) where

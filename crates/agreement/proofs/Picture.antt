@@ -21,20 +21,20 @@ use Rattle.expr.proofs.Answer.{unless-at, unless-by, done-injective}
 use Rattle.expr.proofs.Rows.{ClockValues, values-in-limit, zero-past-later}
 use Rattle.chart.specs.Chart.{Chart}
 use Rattle.chart.specs.Tree.{sequentials, entered}
-use Rattle.chart.specs.Machine as chart
+use Rattle.chart_machine.specs.Machine as chart
 use Rattle.chart.proofs.Entered.{entered-child, entered-marked}
 use Rattle.chart.proofs.Rules.{Passed}
 use Rattle.chart.proofs.Ranges.{Ranges}
-use Rattle.chart.proofs.After.{start-active}
-use Rattle.chart.proofs.Step.{configuration-tree, configuration-clocks, configuration-bounds, root-entry, start-tree, start-configuration}
+use Rattle.chart_machine.proofs.After.{start-active}
+use Rattle.chart_machine.proofs.Step.{configuration-tree, configuration-clocks, configuration-bounds, root-entry, start-tree, start-configuration}
 use Rattle.network.specs.Network.{initials}
-use Rattle.network.specs.Machine as network
-use Rattle.flattener.specs.Flatten.{Place, idle, child, number, flagAt, atExit, initialPlace, markedChild, flatten}
-use Rattle.flattener.specs.Picture.{pictured, picture}
-use Rattle.flattener.proofs.Automata.{Region, regionAt, region-at, marked-child}
-use Rattle.flattener.proofs.Sound.{initials-at, initials-by}
-use Rattle.flattener.proofs.Bounds.{bounds-pictured}
-use Rattle.flattener.proofs.Pictured.{pictured-idle, pictured-child, pictured-fits, pictured-not-urgent}
+use Rattle.network_machine.specs.Machine as network
+use Rattle.flattening.specs.Flatten.{Place, idle, child, number, flagAt, atExit, initialPlace, markedChild, flatten}
+use Rattle.flattening.specs.Picture.{pictured, picture}
+use Rattle.flattening.proofs.Automata.{Region, regionAt, region-at, marked-child}
+use Rattle.flattening.proofs.Sound.{initials-at, initials-by}
+use Rattle.flattening.proofs.Bounds.{bounds-pictured}
+use Rattle.flattening.proofs.Pictured.{pictured-idle, pictured-child, pictured-fits, pictured-not-urgent}
 use Rattle.agreement.specs.Agreement.{ChartConfiguration, Alike}
 use Rattle.agreement.proofs.Relation.{standing, Pending, owes, owesAll}
 use Rattle.agreement.proofs.Claims.{SettledIsPicture, PictureIsSettled, StartIsPicture, StartIsConfiguration, WaitsAlike, WaitIsPicture}

@@ -14,12 +14,12 @@ use Rattle.expr.specs.Lists.{below, bitsOf}
 use Rattle.expr.proofs.Lists.{Once}
 use Rattle.chart.specs.Chart.{Chart, Transition, transitionAt, home}
 use Rattle.chart.specs.Tree.{under, entered, sequentials}
-use Rattle.chart.specs.Machine.{isActive, isConfiguration}
+use Rattle.chart_machine.specs.Machine.{isActive, isConfiguration}
 use Rattle.chart.proofs.Tree.{Child}
-use Rattle.network.specs.Machine.{boundsKept}
-use Rattle.flattener.specs.Flatten.{Place, idle, child, pre, post, Pair, number, flagAt, hasExit, hasEntry, marksBelow, flatten}
-use Rattle.flattener.specs.Picture.{pictured}
-use Rattle.flattener.proofs.Automata.{Region, regionAt}
+use Rattle.network_machine.specs.Machine.{boundsKept}
+use Rattle.flattening.specs.Flatten.{Place, idle, child, pre, post, Pair, number, flagAt, hasExit, hasEntry, marksBelow, flatten}
+use Rattle.flattening.specs.Picture.{pictured}
+use Rattle.flattening.proofs.Automata.{Region, regionAt}
 use Rattle.agreement.specs.Agreement.{ChartConfiguration, NetworkConfiguration}
 
 -- the network configuration in which the automaton of each sequential state q is at the place f q, flags true

@@ -11,14 +11,14 @@ use Rattle.expr.proofs.Bools.{clash}
 use Rattle.expr.proofs.Answer.{refused-not, done-injective}
 use Rattle.chart.specs.Chart.{Chart}
 use Rattle.chart.specs.Rules.{chartOf}
-use Rattle.chart.specs.Machine as chart
+use Rattle.chart_machine.specs.Machine as chart
 use Rattle.chart.proofs.Rules.{Passed}
 use Rattle.chart.proofs.Ranges.{Ranges, chart-at}
 use Rattle.network.specs.Network.{Network, networkOf}
-use Rattle.network.specs.Machine as network
-use Rattle.flattener.specs.Flatten.{flatten}
-use Rattle.flattener.specs.Picture.{picture}
-use Rattle.flattener.proofs.Printable.{flattened-at}
+use Rattle.network_machine.specs.Machine as network
+use Rattle.flattening.specs.Flatten.{flatten}
+use Rattle.flattening.specs.Picture.{picture}
+use Rattle.flattening.proofs.Printable.{flattened-at}
 use Rattle.agreement.specs.Agreement.{ChartConfiguration, NetworkConfiguration, Call, step, wait, onChart, left, carried, isUrgent, named, Run, moved, extended, runFrom, run, acceptsAll, chartAfter, accepted, Accepts, Alike, Owing, Settled, Agrees, Holds, IsRead, Demand3}
 use Rattle.agreement.proofs.Relation.{Related, standing}
 use Rattle.agreement.proofs.Claims.{AllClaims}

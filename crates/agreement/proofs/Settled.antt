@@ -19,21 +19,21 @@ use Rattle.expr.proofs.Rows.{keeps-clocks-after}
 use Rattle.expr.proofs.Sets.{ascending-same, Matched, matched-length, allowed-set-at, allowed-set-by, OneAssigns, one-assigns, variables-alike, clocks-alike}
 use Rattle.chart.specs.Chart.{Chart, Transition, transitionAt, home}
 use Rattle.chart.specs.Tree.{sequentials}
-use Rattle.chart.specs.Machine as chart
+use Rattle.chart_machine.specs.Machine as chart
 use Rattle.chart.proofs.Rules.{Passed}
 use Rattle.chart.proofs.Ranges.{Ranges}
-use Rattle.chart.proofs.After.{after-clocks}
-use Rattle.chart.proofs.Step.{Together, Stepped, stepped-together, step-at, step-by, transition-mem, active-source, allowed-apart, configuration-tree, configuration-clocks, configuration-bounds}
-use Rattle.chart.proofs.Moved.{next-configured}
-use Rattle.network.specs.Network.{Edge, ownerOf}
-use Rattle.network.specs.Machine as network
-use Rattle.network.specs.Machine.{edgeAt}
-use Rattle.flattener.specs.Flatten.{Place, edge, automaton, departure, boundsOf, flatten}
-use Rattle.flattener.specs.Picture.{pictured, picture}
-use Rattle.flattener.proofs.Automata.{Region, sequentials-by}
-use Rattle.flattener.proofs.Arrivals.{ends}
-use Rattle.flattener.proofs.Bounds.{bounds-pictured, bounds-after}
-use Rattle.flattener.proofs.Pictured.{pictured-child, pictured-fits}
+use Rattle.chart_machine.proofs.After.{after-clocks}
+use Rattle.chart_machine.proofs.Step.{Together, Stepped, stepped-together, step-at, step-by, active-source, allowed-apart, configuration-tree, configuration-clocks, configuration-bounds}
+use Rattle.chart.proofs.TransitionRules.{transition-mem}
+use Rattle.chart_machine.proofs.Moved.{next-configured}
+use Rattle.network.specs.Network.{Edge, edgeAt, ownerOf}
+use Rattle.network_machine.specs.Machine as network
+use Rattle.flattening.specs.Flatten.{Place, edge, automaton, departure, boundsOf, flatten}
+use Rattle.flattening.specs.Picture.{pictured, picture}
+use Rattle.flattening.proofs.Automata.{Region, sequentials-by}
+use Rattle.flattening.proofs.Arrivals.{ends}
+use Rattle.flattening.proofs.Bounds.{bounds-pictured, bounds-after}
+use Rattle.flattening.proofs.Pictured.{pictured-child, pictured-fits}
 use Rattle.agreement.specs.Agreement.{ChartConfiguration, NetworkConfiguration, Accepts, carried, named}
 use Rattle.agreement.proofs.Relation.{standing, Related}
 use Rattle.agreement.proofs.Claims.{MoveIsStep, StepIsMove, OneMove}

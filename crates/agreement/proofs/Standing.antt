@@ -22,17 +22,17 @@ use Rattle.expr.proofs.Lists.{all-by, below-all, any-at, any-none, mem-getD, ge
 use Rattle.expr.proofs.Labels.{variables-stay, clocks-stay}
 use Rattle.chart.specs.Chart.{Chart}
 use Rattle.chart.specs.Tree.{sequentials}
-use Rattle.chart.specs.Machine.{isConfiguration as isChartConfiguration}
+use Rattle.chart_machine.specs.Machine.{isConfiguration as isChartConfiguration}
 use Rattle.chart.proofs.Rules.{Passed}
-use Rattle.network.specs.Network.{Edge, locationAt, ownerOf}
-use Rattle.network.specs.Machine.{place, boundsKept, isConfiguration, flagsAgree, activeEdge, urgentAt, urgent, overwrite, move, write, after}
-use Rattle.flattener.specs.Flatten.{Place, samePlace, number, automaton, placeHome, boundsOf, flagAt, writtenBy, valuesBy, signalling, edge, ownEdge, urgentPlace, flatten}
-use Rattle.flattener.specs.Picture.{pictured, picture}
-use Rattle.network.proofs.Moving.{move-length, move-other, move-to, write-length, write-other, write-to}
-use Rattle.flattener.proofs.Flags.{write-flags, write-again}
-use Rattle.flattener.proofs.Automata.{all-automata, any-automata, Region, regionAt, region-at, automaton-lt, region-of-automaton, automaton-of-region, automaton-injective}
-use Rattle.flattener.proofs.Numbers.{IsPlace, PlaceOf, same-place-at, same-place-by, number-lt, number-injective, automaton-of-place, urgent-of-place, bounds-of-place, locations-length}
-use Rattle.flattener.proofs.Edges.{Leaves, source-of, edges-at, owner-of}
+use Rattle.network.specs.Network.{Edge, locationAt, urgentAt, ownerOf}
+use Rattle.network_machine.specs.Machine.{place, boundsKept, isConfiguration, flagsAgree, activeEdge, urgent, overwrite, move, write, after}
+use Rattle.flattening.specs.Flatten.{Place, samePlace, number, automaton, placeHome, boundsOf, flagAt, writtenBy, valuesBy, signalling, edge, ownEdge, urgentPlace, flatten}
+use Rattle.flattening.specs.Picture.{pictured, picture}
+use Rattle.network_machine.proofs.Moving.{move-length, move-other, move-to, write-length, write-other, write-to}
+use Rattle.flattening.proofs.Flags.{write-flags, write-again}
+use Rattle.flattening.proofs.Automata.{all-automata, any-automata, Region, regionAt, region-at, automaton-lt, region-of-automaton, automaton-of-region, automaton-injective}
+use Rattle.flattening.proofs.Numbers.{IsPlace, PlaceOf, same-place-at, same-place-by, number-lt, number-injective, automaton-of-place, urgent-of-place, bounds-of-place, locations-length}
+use Rattle.flattening.proofs.Edges.{Leaves, source-of, edges-at, owner-of}
 use Rattle.agreement.specs.Agreement.{ChartConfiguration}
 use Rattle.agreement.proofs.Relation.{standing}
 

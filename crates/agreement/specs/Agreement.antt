@@ -9,14 +9,14 @@ use Rattle.expr.specs.Label.{distinct}
 use Rattle.expr.specs.Answer.{Answer, done, refused}
 use Rattle.chart.specs.Chart.{Chart}
 use Rattle.chart.specs.Rules.{chartOf}
-use Rattle.chart.specs.Machine as chart
-use Rattle.chart.specs.declared.configuration.Configuration as chart-type
-use Rattle.network.specs.Network.{Network, networkOf}
-use Rattle.network.specs.Machine as network
-use Rattle.network.specs.declared.configuration.Configuration as network-type
-use Rattle.flattener.specs.Flatten.{sorted, hasExit, hasEntry}
-use Rattle.flattener.specs.Picture.{picture}
-use Rattle.flattener.specs.File.{flattenOf}
+use Rattle.chart_machine.specs.Machine as chart
+use Rattle.chart_machine.specs.declared.configuration.Configuration as chart-type
+use Rattle.network.specs.Network.{Network, urgentAt, edgeAt, networkOf}
+use Rattle.network_machine.specs.Machine as network
+use Rattle.network_machine.specs.declared.configuration.Configuration as network-type
+use Rattle.flattening.specs.Flatten.{sorted, hasExit, hasEntry}
+use Rattle.flattening.specs.Picture.{picture}
+use Rattle.flattening.specs.File.{flattenOf}
 
 abbrev pub ChartConfiguration : Type 0
 ChartConfiguration = chart-type.Configuration
@@ -44,14 +44,14 @@ left a (refused k) = a
 
 -- the transition numbers on a move's edges, without 255; and these ascending
 abbrev pub borne : Network → List ℕ → List ℕ
-borne n ms = keep (λ t. not (eqb t 255)) (map (λ m. network.edgeAt n m .transition) ms)
+borne n ms = keep (λ t. not (eqb t 255)) (map (λ m. edgeAt n m .transition) ms)
 
 unfoldable pub carried : Network → List ℕ → List ℕ
 carried n ms = sorted (borne n ms)
 
 -- a move with an edge that leaves an urgent location
 unfoldable pub isUrgent : Network → List ℕ → Bool
-isUrgent n ms = any (λ m. network.urgentAt n (network.edgeAt n m .source)) ms
+isUrgent n ms = any (λ m. urgentAt n (edgeAt n m .source)) ms
 
 -- the exits and entries that some transitions name together
 unfoldable pub named : Chart → List ℕ → ℕ

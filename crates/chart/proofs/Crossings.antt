@@ -14,7 +14,7 @@ use Rattle.chart.specs.Rules.{siblings, apart}
 use Rattle.chart.specs.Laid.{noTransition, Laid, apartFrom}
 use Rattle.chart.specs.declared.header.Counts.{Counts}
 use Rattle.chart.proofs.Tree.{unknown-basic, sequential-not-basic}
-use Rattle.chart.proofs.Step.{siblings-at, transition-mem}
+use Rattle.chart.proofs.TransitionRules.{siblings-at, transition-mem}
 
 -- what a loop over the transitions has left to see
 module _ {rest : List ℕ} {n : Counts} {offsets : List ℕ} {c : Chart} (L : Laid rest n offsets c) (i : ℕ) where

@@ -3,24 +3,21 @@ use mathlib.Core.Path.{_≡_, refl, sym, ap, _∙_, subst}
 use mathlib.Core.Bool.{Bool, true, false, _&&_, _||_, or-false}
 use mathlib.Core.Logic.{⊎-elim, _≢_}
 use mathlib.Core.List.{List, [], _∷_, _++_, map, map-append}
-use Prim.Native.Nat.{ℕ, zero, suc, _+_, _≤_, _<_, min}
+use Prim.Native.Nat.{ℕ, suc, _+_, _≤_, _<_}
 use native.Mathlib.Omega.{arith}
 use native.Mathlib.Decide.{ℕ-discrete, decLt}
-use native.Mathlib.Nat.{min-eq-left}
-use native.Mathlib.Numerals.{add-one}
 use borrow.Author.Tests.{eqb-true, eqb-false, eq-eqb, ne-eqb, lt-ltb, le-ltb, ltb-true}
 use lib.Dec.{ltb, eqb}
 use lib.ListN.{length, getD, set, take, length-append}
-use lib.Seq.{getD-take, take-suc, take-suc-set, take-all}
+use lib.Seq.{take-suc-set}
 use Rattle.expr.specs.Lists.{has, any, below}
 use Rattle.expr.proofs.Bools.{clash, fails, both, and-l, and-r, or-l, or-r, or-cases, same}
 use Rattle.expr.proofs.Lists.{none-any, below-at, any-below, below-any, any-more}
-use Rattle.chart.specs.Chart.{Chart, Transition, stateAt, transitionAt, states, parentOf, basic, parallel}
+use Rattle.chart.specs.Chart.{Chart, stateAt, parentOf, basic, parallel}
 use Rattle.chart.specs.Tree.{under, entered}
 use Rattle.chart.specs.Rules.{parents, entryMarks}
-use Rattle.chart.specs.Table.{Tabled, Enters, Moved, adding}
+use Rattle.chart.specs.Table.{Tabled, Enters, adding}
 use Rattle.chart.specs.declared.table.Tree.{Tree}
-use Rattle.chart.specs.declared.table.Moves.{Moves}
 use Rattle.chart.proofs.Tree.{size, Parents, parents-at, Child, unknown-parent, under-refl, under-down, under-known, under-transitive, under-antisymmetric, comparable, child-under, child-above, child-towards}
 use Rattle.chart.proofs.Entered.{entered-at, entered-by, entered-alone, entry-marks-at}
 use Rattle.chart.proofs.Tables.{below-more, length-adding, adding-same, adding-none, adding-more, adding-one, parent-at, rooted-of}
@@ -195,42 +192,8 @@ module _ (c : Chart) (t : Tree) (T : Tabled c t) (rule5 : parents c ≡ true) (r
   pub entered-single : e ≡ 255 → d < 48 → d < t .states → set l d true ≡ adding 48 c (entered c d e) l
   entered-single z h k = adding-one 48 c d l long h (omega (arith, T .count)) ∙ adding-same 48 c _ _ l (λ s j. sym (entered-alone c d e s z))
 
--- the destinations of several transitions
-abbrev pub someEntered : Chart → List Transition → ℕ → Bool
-someEntered c ts s = any (λ t. entered c (t .destination) (t .entry) s) ts
-
 -- a table with one more element
 pub field-more : {A : Type 0} (f : A → ℕ) (ts : List A) (t : A) (l : List ℕ) (v i : ℕ) → map f ts ≡ take (length ts) l → i ≡ length ts → i < length l → v ≡ f t → map f (ts ++ (t ∷ [])) ≡ take (length (ts ++ (t ∷ []))) (set l i v)
 field-more f ts t l v i e q h k =
     map-append f ts (t ∷ []) ∙ ap (λ (x : List ℕ). x ++ (f t ∷ [])) (e ∙ ap (λ (n : ℕ). take n l) (sym q)) ∙ ap (λ (x : ℕ). take i l ++ (x ∷ [])) (sym k)
     ∙ sym (take-suc-set l i v h) ∙ ap (λ (n : ℕ). take n (set l i v)) (let z : suc i ≡ length (ts ++ (t ∷ [])) = omega (arith, length-append ts (t ∷ [])) in z)
-
--- an element of a list's image
-getD-image : {A B : Type 0} (f : A → B) (l : List A) (i : ℕ) (a : A) (b : B) → i < length l → getD (map f l) i b ≡ f (getD l i a)
-getD-image f [] i a b h = absurd (omega arith)
-getD-image f (x ∷ xs) zero a b h = refl
-getD-image f (x ∷ xs) (suc i) a b h = getD-image f xs i a b (omega arith)
-
-module _ (w : ℕ) (c : Chart) (ts : List Transition) (m : Moves) (M : Moved ts m) where
-  field-at : (f : Transition → ℕ) (l : List ℕ) → map f ts ≡ take (length ts) l → (i : ℕ) (d : Transition) → i < length ts → getD l i 0 ≡ f (getD ts i d)
-  field-at f l e i d h = sym (getD-take (length ts) l i 0 h) ∙ ap (λ (k : List ℕ). getD k i 0) (sym e) ∙ getD-image f ts i d 0 h
-
-  pub entered-first : (l : List Bool) → length l ≡ w → l ≡ adding w c (someEntered c (take 0 ts)) l
-  unfolding any
-  entered-first l h = adding-none w c _ l h (λ s k. refl)
-
-  pub entered-next : (i : ℕ) (first l next : List Bool) → i < length ts → l ≡ adding w c (someEntered c (take i ts)) first → next ≡ adding w c (entered c (getD (m .destinations) i 0) (getD (m .entries) i 0)) l → next ≡ adding w c (someEntered c (take (i + 1) ts)) first
-  entered-next i first l next h g n = n ∙ ap (adding w c _) g ∙ adding-more w c _ _ first ∙ adding-same w c _ _ first (λ s k. sym (one s))
-    where
-      t : Transition
-      t = getD ts i (transitionAt c 0)
-
-      one : (s : ℕ) → someEntered c (take (i + 1) ts) s ≡ (someEntered c (take i ts) s || entered c (getD (m .destinations) i 0) (getD (m .entries) i 0) s)
-      one s = rw (add-one, take-suc ts i (transitionAt c 0) h, field-at (λ t. t .destination) (m .destinations) (M .destinations) i (transitionAt c 0) h, field-at (λ t. t .entry) (m .entries) (M .entries) i (transitionAt c 0) h)
-          (any-more (λ t. entered c (t .destination) (t .entry) s) (take i ts) t)
-
-  pub entered-last : (i : ℕ) (first l : List Bool) → length ts ≤ i → l ≡ adding w c (someEntered c (take i ts)) first → l ≡ adding w c (someEntered c ts) first
-  entered-last i first l h g = g ∙ ap (λ (k : List Transition). adding w c (someEntered c k) first) (take-all i ts h)
-
-  pub count-is : {n : ℕ} → n ≡ min (m .count) 16 → n ≡ length ts
-  count-is e = e ∙ ap (λ (k : ℕ). min k 16) (M .count) ∙ min-eq-left (M .few)

@@ -17,8 +17,7 @@ use Rattle.expr.proofs.Lists.{drop-next, length-below, getD-below, getD-mapped}
 use Rattle.chart.specs.Chart.{Chart, State, stateAt, parentOf}
 use Rattle.chart.specs.Tree.{under}
 use Rattle.chart.specs.Rules.{parents}
-use Rattle.chart.specs.Table.{Column, ColumnTo, Begun, Tabled, Rooted, Shown, adding, passing}
-use Rattle.chart.specs.declared.configuration.Configuration.{Configuration}
+use Rattle.chart.specs.Table.{Column, ColumnTo, Begun, Tabled, Rooted, adding, passing}
 use Rattle.chart.specs.declared.table.Tree.{Tree}
 use Rattle.chart.proofs.Tree.{size, Parents, parents-at, under-refl, under-step, under-le}
 
@@ -134,9 +133,6 @@ adding-empty w c f = made-by w _ _ (length-adding w c f _) (λ s h. getD-adding 
 -- a chart's own tables
 pub rooted-of : (c : Chart) (t : Tree) → Tabled c t → parents c ≡ true → Rooted c (t .parents)
 rooted-of c t T r = record { few = T .few; parent = T .parent; rule = r }
-
-pub shown-of : (c : Chart) (σ : Configuration) (t : Tree) (active : List Bool) → Tabled c t → parents c ≡ true → σ .active ≡ active → Shown c σ (t .parents) (t .kinds) active
-shown-of c σ t active T r a = record { rooted = rooted-of c t T r; kind = T .kind; set = a }
 
 -- tables that are filled state by state
 module _ (c : Chart) (d : ℕ) (field : State → ℕ) where

@@ -1,18 +1,14 @@
 -- The states of a chart as tables of 48 places, and sets of its states.
 use Prim.Native.Nat.{ℕ, _≤_, _<_}
 use mathlib.Core.Path.{_≡_}
-use mathlib.Core.Bool.{Bool, true, false, cond, not, _&&_, _||_}
+use mathlib.Core.Bool.{Bool, true, false, cond, _&&_, _||_}
 use mathlib.Core.List.{List, map}
 use lib.Dec.{ltb, eqb}
-use lib.ListN.{getD, length, take}
-use Rattle.expr.specs.Lists.{has, all, below, keep, implies}
-use Rattle.chart.specs.Chart.{Chart, State, Transition, stateAt, parentOf, basic, sequential, parallel}
-use Rattle.chart.specs.Tree.{under, children}
+use lib.ListN.{getD, length}
+use Rattle.expr.specs.Lists.{has, below}
+use Rattle.chart.specs.Chart.{Chart, State, stateAt}
 use Rattle.chart.specs.Rules.{parents, entryMarks}
-use Rattle.chart.specs.Machine.{isActive}
-use Rattle.chart.specs.declared.configuration.Configuration.{Configuration}
 use Rattle.chart.specs.declared.table.Tree.{Tree}
-use Rattle.chart.specs.declared.table.Moves.{Moves}
 
 -- a list has a field of every state, and past the chart's states that of no state
 abbrev pub Column : (State → ℕ) → Chart → List ℕ → Type 0
@@ -56,28 +52,6 @@ pub record Enters (c : Chart) (above kinds marks : List ℕ) (e s : ℕ) : Type 
   pub some : eqb e 255 ≡ false
   pub marked : has (stateAt c s .entries) e ≡ true
 
--- the active states of a configuration of such a chart
-pub record Shown (c : Chart) (σ : Configuration) (above kinds : List ℕ) (active : List Bool) : Type 0 where
-  pub rooted : Rooted c above
-  pub kind : Column (λ x. x .kind) c kinds
-  pub set : σ .active ≡ active
-
--- with a state its parent is active, and with an active parallel state each child
-abbrev pub linked : Chart → Configuration → ℕ → Bool
-linked c σ s = eqb s 0 || (implies (isActive σ s) (isActive σ (parentOf c s)) && implies (parallel c (parentOf c s) && isActive σ (parentOf c s)) (isActive σ s))
-
--- an active sequential state has one active child
-abbrev pub single : Chart → Configuration → ℕ → Bool
-single c σ q = implies (sequential c q && isActive σ q) (eqb (length (keep (isActive σ) (children c q))) 1)
-
--- a state is marked with the exit, if it is active, basic and at or below m
-abbrev pub exitsBelow : Chart → Configuration → ℕ → ℕ → ℕ → Bool
-exitsBelow c σ m e s = implies (isActive σ s && (basic c s && under c m s)) (has (stateAt c s .exits) e)
-
--- a state lies below none of these
-abbrev pub belowNone : Chart → List ℕ → ℕ → Bool
-belowNone c sources s = all (λ m. not (under c m s)) sources
-
 -- a set of states, and with it the states of the chart that pass a test
 unfoldable pub adding : ℕ → Chart → (ℕ → Bool) → List Bool → List Bool
 adding width c test set = map (λ s. getD set s false || (ltb s (length (c .states)) && test s)) (below width)
@@ -85,11 +59,3 @@ adding width c test set = map (λ s. getD set s false || (ltb s (length (c .stat
 -- the states of the chart that pass a test
 unfoldable pub passing : ℕ → Chart → (ℕ → Bool) → List Bool
 passing width c test = map (λ s. ltb s (length (c .states)) && test s) (below width)
-
--- the tables hold where each transition comes from and goes to, and by which entry
-pub record Moved (ts : List Transition) (m : Moves) : Type 0 where
-  pub count : m .count ≡ length ts
-  pub few : length ts ≤ 16
-  pub sources : map (λ t. t .source) ts ≡ take (length ts) (m .sources)
-  pub destinations : map (λ t. t .destination) ts ≡ take (length ts) (m .destinations)
-  pub entries : map (λ t. t .entry) ts ≡ take (length ts) (m .entries)

@@ -1,18 +1,16 @@
 // What entering a state enters.
 ghost use mathlib.Core.Path.{_≡_};
 ghost use mathlib.Core.Bool.{true, _&&_};
-ghost use mathlib.Core.List.{List, map};
+ghost use mathlib.Core.List.{map};
 ghost use Prim.Native.Nat.{_<_};
 ghost use lib.Dec.{ltb, eqb};
 ghost use lib.ListN.{getD, length};
-ghost use Rattle.expr.specs.Lists.{has, any, below};
-ghost use Rattle.chart.specs.Chart.{Chart, Transition, parallel};
+ghost use Rattle.expr.specs.Lists.{has, below};
+ghost use Rattle.chart.specs.Chart.{Chart, parallel};
 ghost use Rattle.chart.specs.Tree.{entered};
 ghost use Rattle.chart.specs.Rules.{parents, entryMarks};
-ghost use Rattle.chart.specs.Table.{Tabled, Enters, Moved, adding};
-use crate::table::Moves;
+ghost use Rattle.chart.specs.Table.{Tabled, Enters, adding};
 use crate::table::Tree;
-use crate::table::at_most_sixteen;
 use crate::table::is_child;
 use crate::table::marks_at;
 use expr::field::byte_at;
@@ -110,23 +108,6 @@ pub fn entered(t: Tree, destination: u8, entry: u8, set: [bool; 48]) -> [bool; 4
     } else {
         enter_sequential(&parents, &kinds, &entries, entry, d, set)
     }
-}
-
-// The set with the states that the moves enter.
-pub fn enter_all(t: Tree, moves: Moves, set: [bool; 48]) -> [bool; 48]
-    ensures { λ r. ⌜ ((c : Chart) (ts : List Transition) → Tabled c t → parents c ≡ true → entryMarks c ≡ true → Moved ts moves → r ≡ adding 48 c (λ s. any (λ t. entered c (t .destination) (t .entry) s) ts) set) ⌝ }
-{
-    let count = at_most_sixteen(moves.count);
-    let mut out = set;
-    let mut i = 0;
-    while i < count {
-        let destination = moves.destinations[i];
-        let entry = moves.entries[i];
-        let next = entered(t, destination, entry, out);
-        out = next;
-        i += 1;
-    }
-    out
 }
 
 // The active states at the start.

@@ -1,17 +1,12 @@
-// The check of charts, and the chart machine. The operations are in `check` and `machine`; what they answer with is
-// there, in `configuration`, `header`, `rule` and `table`. The flattener reads a checked chart by `entry`, `state`,
-// `table` and `transition`.
-mod activity;
-mod allowed;
+// The chart file, its tree of states and its check. The operation is in `check`; what it answers with is there, in
+// `header`, `rule` and `table`. The machine and the flattener read a checked chart by `entry`, `state`, `table` and
+// `transition`.
 pub mod check;
-pub mod configuration;
 pub mod entry;
 pub mod header;
-pub mod machine;
 pub mod rule;
 pub mod state;
 pub mod table;
-mod taken;
 pub mod transition;
 mod transition_list;
 mod transition_rule;

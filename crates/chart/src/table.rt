@@ -1,13 +1,12 @@
 // The tree of states as tables.
 ghost use mathlib.Core.Path.{_≡_};
 ghost use mathlib.Core.Bool.{false};
-ghost use mathlib.Core.List.{List, [], _∷_, _++_};
-ghost use Prim.Native.Nat.{_+_, _≤_, _<_, min};
+ghost use Prim.Native.Nat.{_+_, _≤_, _<_};
 ghost use lib.Dec.{eqb};
 ghost use lib.ListN.{getD, length};
-ghost use Rattle.chart.specs.Chart.{Chart, Transition, stateAt};
+ghost use Rattle.chart.specs.Chart.{Chart, stateAt};
 ghost use Rattle.chart.specs.Tree.{under};
-ghost use Rattle.chart.specs.Table.{Begun, Rooted, Moved};
+ghost use Rattle.chart.specs.Table.{Begun, Rooted};
 use expr::field::byte_at;
 
 // The parent, kind, entry marks and exit marks of each state; past the states 255, 0, 0, 0.
@@ -51,45 +50,6 @@ pub fn with_state(t: Tree, s: usize, parent: u8, kind: u8, entries: u16, exits: 
     next
 }
 
-// Of each transition of a step its source, destination and entry.
-pub struct Moves {
-    pub sources: [u8; Moves::COUNT],
-    pub destinations: [u8; Moves::COUNT],
-    pub entries: [u8; Moves::COUNT],
-    pub count: u8,
-}
-
-impl Moves {
-    pub const COUNT: usize = 16;
-}
-
-pub fn no_moves() -> Moves
-    ensures { λ r. ⌜ Moved [] r ⌝ }
-{
-    Moves {
-        sources: [0; 16],
-        destinations: [0; 16],
-        entries: [0; 16],
-        count: 0,
-    }
-}
-
-// The moves with one more.
-pub fn with_move(m: Moves, source: u8, destination: u8, entry: u8) -> Moves
-    ensures { λ r. ⌜ ((ts : List Transition) (t : Transition) → Moved ts m → length ts < 16 → source ≡ t .source → destination ≡ t .destination → entry ≡ t .entry → Moved (ts ++ (t ∷ [])) r) ⌝ }
-{
-    let i = m.count as usize;
-    if i >= Moves::COUNT {
-        return m;
-    }
-    let mut next = m;
-    next.sources[i] = source;
-    next.destinations[i] = destination;
-    next.entries[i] = entry;
-    next.count = m.count + 1;
-    next
-}
-
 // The marks at a place, none past the end.
 pub fn marks_at(marks: &[u16], s: usize) -> u16
     ensures { λ r. ⌜ r ≡ getD (now (marks .entry)) s 0 ⌝ }
@@ -125,11 +85,4 @@ pub fn is_in(set: &[bool], s: usize) -> bool
     ensures { λ r. ⌜ r ≡ getD (now (set .entry)) s false ⌝ }
 {
     if s < set.len() { set[s] } else { false }
-}
-
-// A count of moves, as far as there is a place for them.
-pub fn at_most_sixteen(n: u8) -> usize
-    ensures { λ r. ⌜ r ≡ min n 16 ⌝ }
-{
-    if n < 16 { n as usize } else { 16 }
 }

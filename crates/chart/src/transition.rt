@@ -2,9 +2,10 @@
 ghost use mathlib.Core.Path.{_≡_};
 ghost use Prim.Native.Nat.{_+_, _<_};
 ghost use lib.ListN.{getD};
-ghost use Rattle.chart.specs.Chart.{Chart, transitionAt};
+ghost use Rattle.chart.specs.Chart.{Chart, transitionAt, home};
 ghost use Rattle.chart.specs.Laid.{Laid};
 use crate::header::Counts;
+use crate::state::parent_of;
 
 // Where the record of a transition stands.
 pub fn offset_at(offsets: &[u32], t: u8) -> u32
@@ -71,4 +72,11 @@ pub fn body_of(offsets: &[u32], t: u8) -> usize
 {
     let place = offset_at(offsets, t) as usize;
     place + 9
+}
+
+// The sequential state that a transition belongs to.
+pub fn home_of(rest: &[u8], counts: Counts, offsets: &[u32], t: u8) -> u8
+    ensures { λ r. ⌜ ((c : Chart) → Laid (now (rest .entry)) counts (now (offsets .entry)) c → t < counts .transitions → r ≡ home c t) ⌝ }
+{
+    parent_of(rest, counts, source_of(rest, offsets, t))
 }

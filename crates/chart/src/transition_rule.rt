@@ -3,7 +3,7 @@ ghost use mathlib.Core.Path.{_≡_};
 ghost use mathlib.Core.Bool.{true};
 ghost use Prim.Native.Nat.{_<_};
 ghost use Rattle.expr.specs.Lists.{all, below};
-ghost use Rattle.chart.specs.Chart.{Chart, Transition, home};
+ghost use Rattle.chart.specs.Chart.{Chart, Transition};
 ghost use Rattle.chart.specs.Rules.{parents, siblings, exits, entries, apart, transitionRules};
 ghost use Rattle.chart.specs.Answers.{checkedOf};
 ghost use Rattle.chart.specs.Layout.{Stated, once};
@@ -23,6 +23,7 @@ use crate::transition::channel_of;
 use crate::transition::destination_of;
 use crate::transition::entry_of;
 use crate::transition::exit_of;
+use crate::transition::home_of;
 use crate::transition::signal_of;
 use crate::transition::source_of;
 
@@ -112,13 +113,6 @@ fn entries_fit(rest: &[u8], counts: Counts, offsets: &[u32]) -> bool
         t += 1;
     }
     true
-}
-
-// The sequential state that a transition belongs to.
-pub fn home_of(rest: &[u8], counts: Counts, offsets: &[u32], t: u8) -> u8
-    ensures { λ r. ⌜ ((c : Chart) → Laid (now (rest .entry)) counts (now (offsets .entry)) c → t < counts .transitions → r ≡ home c t) ⌝ }
-{
-    parent_of(rest, counts, source_of(rest, offsets, t))
 }
 
 // Whether two transitions are of no one channel, or their parents do not lie one below the other.

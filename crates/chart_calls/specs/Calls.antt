@@ -2,10 +2,10 @@
 use Prim.Native.Nat.{ℕ, min}
 use mathlib.Core.List.{List}
 use lib.ListN.{take}
-use Rattle.chart.specs.Machine.{startOf, stepOf, waitOf}
-use Rattle.chart.specs.Outcomes.{outcomeOf, zeroConfiguration}
-use Rattle.chart.specs.declared.machine.Outcome.{Outcome}
-use Rattle.chart.specs.declared.configuration.Configuration.{Configuration}
+use Rattle.chart_machine.specs.Machine.{startOf, stepOf, waitOf}
+use Rattle.chart_machine.specs.Outcomes.{outcomeOf, zeroConfiguration}
+use Rattle.chart_machine.specs.declared.operation.Outcome.{Outcome}
+use Rattle.chart_machine.specs.declared.configuration.Configuration.{Configuration}
 use Rattle.console.specs.declared.script.Call.{Call}
 use Rattle.console.specs.declared.script.Call.the-variants as Cl
 use Rattle.console.specs.declared.script.Line.{Line}

@@ -1,9 +1,9 @@
 // The calls of a script on a chart, for the programs that run one.
 ghost use mathlib.Core.Path.{_≡_};
-ghost use Rattle.chart.specs.Outcomes.{zeroConfiguration};
+ghost use Rattle.chart_machine.specs.Outcomes.{zeroConfiguration};
 ghost use Rattle.chart_calls.specs.Calls.{answerTo};
-use chart::configuration::Configuration;
-use chart::machine::Outcome;
+use chart_machine::configuration::Configuration;
+use chart_machine::operation::Outcome;
 use console::print;
 use console::script;
 use console::script::Call;
@@ -39,9 +39,9 @@ pub fn answer(file: &[u8], c: Configuration, line: Line) -> Outcome
     let list = line.list;
     let count = script::at_most_seventeen(line.count);
     match call {
-        Call::Start => chart::machine::start(file),
-        Call::Step => chart::machine::step(file, c, &list[0..count]),
-        Call::Wait(ticks) => chart::machine::wait(file, c, ticks),
-        _ => chart::machine::wait(file, c, 0),
+        Call::Start => chart_machine::operation::start(file),
+        Call::Step => chart_machine::operation::step(file, c, &list[0..count]),
+        Call::Wait(ticks) => chart_machine::operation::wait(file, c, ticks),
+        _ => chart_machine::operation::wait(file, c, 0),
     }
 }

@@ -2,10 +2,10 @@
 ghost use Prim.Native.Nat.{_≤_, _<_};
 ghost use lib.ListN.{length};
 ghost use Rattle.expr.specs.Places.{reachedEnd};
-use chart::configuration::Configuration;
-use chart::machine;
-use chart::machine::Outcome;
 use chart::rule::Checked;
+use chart_machine::configuration::Configuration;
+use chart_machine::operation;
+use chart_machine::operation::Outcome;
 use expr::field::Fault;
 use expr::field::Frame;
 use expr::field::Reached;
@@ -62,7 +62,7 @@ fn step(file: &[u8], rest: &[u8]) -> Reached
         return Reached::Fault(Fault::Length);
     }
     let list = input::shorts(&rest[146..], count);
-    show(machine::step(file, configuration(rest), &list[0..size]));
+    show(operation::step(file, configuration(rest), &list[0..size]));
     Reached::At(used)
 }
 
@@ -74,7 +74,7 @@ fn wait(file: &[u8], rest: &[u8]) -> Reached
         return Reached::Fault(Fault::Length);
     }
     let ticks = input::word(&rest[144..], 0);
-    show(machine::wait(file, configuration(rest), ticks));
+    show(operation::wait(file, configuration(rest), ticks));
     Reached::At(148)
 }
 
@@ -88,7 +88,7 @@ fn respond(code: u8, file: &[u8], rest: &[u8]) -> Reached
             Reached::At(0)
         }
         2 => {
-            show(machine::start(file));
+            show(operation::start(file));
             Reached::At(0)
         }
         3 => step(file, rest),

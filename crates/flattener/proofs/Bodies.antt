@@ -22,11 +22,11 @@ use Rattle.chart.specs.Layout.{transitionBy}
 use Rattle.chart.specs.Laid.{Laid}
 use Rattle.chart.specs.declared.header.Counts.{Counts}
 use Rattle.network.specs.Network.{Edge}
-use Rattle.flattener.specs.Flatten.{Place, idle, child, pre, post, signalling, edge, ownEdge, flatten}
+use Rattle.flattening.specs.Flatten.{Place, idle, child, pre, post, signalling, edge, ownEdge, flatten}
+use Rattle.flattening.proofs.Edges.{Bears, Leaves, edges-at}
 use Rattle.flattener.specs.Records.{bodyOf, Named, Bodied}
 use Rattle.flattener.specs.Writing.{Wrote, part}
 use Rattle.flattener.proofs.Writing.{part-length}
-use Rattle.flattener.proofs.Edges.{Bears, Leaves, edges-at}
 
 -- a part of a part
 drop-take : (n k : ℕ) (l : List ℕ) → n + k ≤ length l → drop n (take (n + k) l) ≡ take k (drop n l)

@@ -12,14 +12,14 @@ use Rattle.chart.specs.Rules.{chartOf}
 use Rattle.chart.specs.Ready.{Ready}
 use Rattle.chart.specs.declared.header.Counts.{Counts}
 use Rattle.chart.specs.declared.table.Tree.{Tree}
-use Rattle.flattener.specs.Flatten.{flatten}
-use Rattle.flattener.specs.File.{out4, recordBytes, contentBytes, networkBytes, fitted, flattenOf}
-use Rattle.flattener.specs.Gathering.{Gathered}
+use Rattle.flattening.specs.Flatten.{flatten}
+use Rattle.flattening.specs.File.{out4, recordBytes, contentBytes, networkBytes, fitted, flattenOf}
+use Rattle.flatten_tables.specs.Summing.{Summed}
+use Rattle.flatten_tables.specs.declared.summary.Summary.{Summary}
+use Rattle.flatten_edges.specs.Gathering.{Gathered}
 use Rattle.flattener.specs.Records.{Writable}
 use Rattle.flattener.specs.Writing.{Wrote}
-use Rattle.flattener.specs.Summing.{Summed}
 use Rattle.flattener.specs.Outcomes.{flattenedOf, lentAfter, networkFor, Answered}
-use Rattle.flattener.specs.declared.summary.Summary.{Summary}
 use Rattle.flattener.specs.declared.operation.Flattened.{Flattened}
 use Rattle.flattener.specs.declared.operation.Flattened.the-variants as Fl
 use Rattle.flattener.proofs.Bodies.{edges-bodied}

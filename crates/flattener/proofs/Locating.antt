@@ -15,18 +15,18 @@ use Rattle.network.specs.Network.{Location}
 use Rattle.chart.specs.Chart.{Chart}
 use Rattle.chart.specs.declared.table.Tree.{Tree}
 use Rattle.chart.proofs.Ranges.{chart-at}
-use Rattle.flattener.specs.File.{out4, locationBytes, recordBytes}
-use Rattle.flattener.specs.Flatten.{Place, idle, child, pre, post, samePlace, allPlaces, number, placeHome, automaton, initialPlace, boundsOf, urgentPlace, locationOf, flatten}
-use Rattle.flattener.specs.Tables.{kindOf, valueOf, markOf}
+use Rattle.flattening.specs.File.{out4, locationBytes, recordBytes}
+use Rattle.flattening.specs.Flatten.{Place, idle, child, pre, post, samePlace, allPlaces, number, placeHome, automaton, initialPlace, boundsOf, urgentPlace, locationOf, flatten}
+use Rattle.flattening.proofs.Automata.{automaton-lt, region-of-automaton}
+use Rattle.flattening.proofs.Numbers.{IsPlace, all-places-at, number-of-place, number-injective, same-place-at, same-place-by, locations-length}
+use Rattle.flattening.proofs.Arrivals.{initial-place}
+use Rattle.flatten_tables.specs.Tables.{kindOf, valueOf, markOf}
+use Rattle.flatten_tables.specs.declared.transition.Transitions.{Transitions}
+use Rattle.flatten_tables.specs.declared.place.Places.{Places}
 use Rattle.flattener.specs.Records.{locationRecord}
 use Rattle.flattener.specs.Writing.{Wrote}
 use Rattle.flattener.specs.Locating.{Located}
-use Rattle.flattener.specs.declared.transition.Transitions.{Transitions}
-use Rattle.flattener.specs.declared.place.Places.{Places}
 use Rattle.flattener.proofs.Writing.{wrote-then}
-use Rattle.flattener.proofs.Automata.{automaton-lt, region-of-automaton}
-use Rattle.flattener.proofs.Numbers.{IsPlace, all-places-at, number-of-place, number-injective, same-place-at, same-place-by, locations-length}
-use Rattle.flattener.proofs.Arrivals.{initial-place}
 
 -- a location's record
 words-length : (xs : List ℕ) → length (concat out4 xs) ≡ 4 * length xs

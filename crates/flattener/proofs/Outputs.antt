@@ -10,19 +10,18 @@ use Rattle.expr.proofs.Lists.{map-at}
 use Rattle.network.specs.Network.{Location}
 use Rattle.chart.specs.Chart.{Chart}
 use Rattle.chart.proofs.Ranges.{chart-at}
-use Rattle.flattener.specs.File.{out2, out4, recordBytes, contentBytes, networkBytes}
-use Rattle.flattener.specs.Flatten.{placeHome, allPlaces, locationOf, flatten}
-use Rattle.flattener.specs.Gathering.{overlay}
+use Rattle.flattening.specs.File.{out2, out4, recordBytes, contentBytes, networkBytes}
+use Rattle.flattening.specs.Flatten.{placeHome, allPlaces, locationOf, flatten}
+use Rattle.flattening.proofs.Numbers.{all-places-at, places-by}
+use Rattle.flattening.proofs.Bounds.{places-row}
+use Rattle.flatten_tables.specs.Bounding.{Bounded}
+use Rattle.flatten_tables.specs.Summing.{Summed}
+use Rattle.flatten_tables.specs.declared.summary.Summary.{Summary}
+use Rattle.flattener.specs.Writing.{overlay, Wrote}
 use Rattle.flattener.specs.Records.{locationRecord, edgeRecord}
-use Rattle.flattener.specs.Writing.{Wrote}
-use Rattle.flattener.specs.Bounding.{Bounded}
 use Rattle.flattener.specs.Locating.{Located}
-use Rattle.flattener.specs.Summing.{Summed}
-use Rattle.flattener.specs.declared.summary.Summary.{Summary}
 use Rattle.flattener.proofs.Writing.{wrote-then}
 use Rattle.flattener.proofs.Locating.{location-length}
-use Rattle.flattener.proofs.Numbers.{all-places-at, places-by}
-use Rattle.flattener.proofs.Bounds.{places-row}
 
 -- lengths
 pub concat-size : {A : Type 0} (f : A → List ℕ) (k : ℕ) (xs : List A) → ((x : A) → Mem x xs → length (f x) ≡ k) → length (concat f xs) ≡ length xs * k

@@ -10,8 +10,8 @@ use lib.Seq.{take-suc, take-all, take-take, take-add, drop-drop, drop-at, take-a
 use Rattle.expr.specs.Lists.{concat}
 use Rattle.network.specs.Network.{Edge}
 use Rattle.chart.specs.Chart.{Chart}
-use Rattle.flattener.specs.File.{out2, edgeBytes, recordBytes}
-use Rattle.flattener.specs.Gathering.{headOf, headBytes}
+use Rattle.flattening.specs.File.{out2, edgeBytes, recordBytes}
+use Rattle.flatten_edges.specs.Gathering.{headOf, headBytes}
 use Rattle.flattener.specs.Records.{edgeRecord, bodyOf, Named, Bodied, Writable}
 use Rattle.flattener.specs.Writing.{Wrote, part}
 use Rattle.flattener.proofs.Writing.{wrote-none, wrote-then}

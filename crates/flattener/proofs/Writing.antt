@@ -7,9 +7,8 @@ use native.Mathlib.Nat.{add-zero, add-assoc}
 use native.Mathlib.Numerals.{add-one}
 use lib.ListN.{length, getD, take, drop, set, length-set, length-append, length-drop, take-append-drop}
 use lib.Seq.{length-take-le, take-at, drop-append-add, drop-drop, set-split, take-suc, getD-drop}
-use Rattle.flattener.specs.File.{out2, out4}
-use Rattle.flattener.specs.Gathering.{overlay}
-use Rattle.flattener.specs.Writing.{Wrote, part}
+use Rattle.flattening.specs.File.{out2, out4}
+use Rattle.flattener.specs.Writing.{overlay, Wrote, part}
 
 pub overlay-length : (s : List ℕ) (at : ℕ) (xs : List ℕ) → at + length xs ≤ length s → length (overlay s at xs) ≡ length s
 unfolding overlay

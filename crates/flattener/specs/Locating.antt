@@ -3,12 +3,12 @@ use Prim.Native.Nat.{ℕ}
 use mathlib.Core.List.{List}
 use Rattle.chart.specs.Chart.{Chart}
 use Rattle.chart.specs.declared.table.Tree.{Tree}
-use Rattle.flattener.specs.Flatten.{allPlaces}
-use Rattle.flattener.specs.Tables.{Chartered, Columned, Listed}
-use Rattle.flattener.specs.Numbering.{Starting}
-use Rattle.flattener.specs.Bounding.{Bounded}
-use Rattle.flattener.specs.declared.transition.Transitions.{Transitions}
-use Rattle.flattener.specs.declared.place.Places.{Places}
+use Rattle.flattening.specs.Flatten.{allPlaces}
+use Rattle.flatten_tables.specs.Tables.{Chartered, Columned, Listed}
+use Rattle.flatten_tables.specs.Numbering.{Starting}
+use Rattle.flatten_tables.specs.Bounding.{Bounded}
+use Rattle.flatten_tables.specs.declared.transition.Transitions.{Transitions}
+use Rattle.flatten_tables.specs.declared.place.Places.{Places}
 
 pub record Located (c : Chart) (tree : Tree) (rows : List (List ℕ)) (transitions : Transitions) (places : Places) (initials : List ℕ) : Type 0 where
   pub chartered : Chartered c

@@ -6,8 +6,8 @@ use lib.Dec.{leb}
 use lib.ListN.{length, drop}
 use Rattle.expr.specs.Answer.{Answer, done, refused, unless}
 use Rattle.chart.specs.Chart.{Chart}
-use Rattle.flattener.specs.Flatten.{flatten}
-use Rattle.flattener.specs.File.{networkBytes, fitted}
+use Rattle.flattening.specs.Flatten.{flatten}
+use Rattle.flattening.specs.File.{networkBytes, fitted}
 use Rattle.flattener.specs.declared.operation.Flattened.{Flattened}
 use Rattle.flattener.specs.declared.operation.Flattened.the-variants as Fl
 

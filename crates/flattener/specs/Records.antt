@@ -9,8 +9,8 @@ use Rattle.network.specs.Network.{Location, Edge}
 use Rattle.chart.specs.Chart.{Chart, transitionAt}
 use Rattle.chart.specs.Laid.{Laid}
 use Rattle.chart.specs.declared.header.Counts.{Counts}
-use Rattle.flattener.specs.File.{out2, locationBytes, edgeBytes, recordBytes}
-use Rattle.flattener.specs.Gathering.{Gathered}
+use Rattle.flattening.specs.File.{out2, locationBytes, edgeBytes, recordBytes}
+use Rattle.flatten_edges.specs.Gathering.{Gathered}
 
 unfoldable pub locationRecord : ℕ → Location → List ℕ
 locationRecord clocks l = recordBytes (λ k. k ∷ []) (locationBytes clocks l)

@@ -1,9 +1,12 @@
 -- Bytes that the code writes into a lent buffer.
 use Prim.Native.Nat.{ℕ, _+_, _≤_}
 use mathlib.Core.Path.{_≡_}
-use mathlib.Core.List.{List}
+use mathlib.Core.List.{List, _++_}
 use lib.ListN.{length, take, drop}
-use Rattle.flattener.specs.Gathering.{overlay}
+
+-- bytes written over those at a place
+unfoldable pub overlay : List ℕ → ℕ → List ℕ → List ℕ
+overlay s at xs = take at s ++ (xs ++ drop (at + length xs) s)
 
 -- xs is written over s at a place, if it fits: then the buffer is t, and `end` is the place after xs
 pub record Wrote (s : List ℕ) (at : ℕ) (xs t : List ℕ) (end : ℕ) : Type 0 where

@@ -1,25 +1,7 @@
-// The flattener. The operation is in `operation`. `ascending` is also what reads a chart's step from a network's.
-mod alternative;
-pub mod ascending;
-mod automaton;
-mod bear;
-mod below;
+// The flattener: the network's file. The operation is in `operation`.
 mod body;
-mod bound;
-mod edge;
-mod flag;
-mod head;
-mod hear;
 mod location;
-mod number;
 pub mod operation;
 mod output;
-mod pair;
-mod place;
 mod record;
-mod source;
-mod summary;
-mod tabulate;
-mod transition;
-mod walk;
 mod write;

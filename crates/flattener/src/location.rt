@@ -6,18 +6,18 @@ ghost use lib.Dec.{eqb};
 ghost use lib.ListN.{getD, take};
 ghost use Rattle.expr.specs.Lists.{concat};
 ghost use Rattle.chart.specs.Chart.{Chart};
-ghost use Rattle.flattener.specs.File.{out4};
-ghost use Rattle.flattener.specs.Flatten.{Place, urgentPlace, flatten};
-ghost use Rattle.flattener.specs.Tables.{kindOf};
+ghost use Rattle.flattening.specs.File.{out4};
+ghost use Rattle.flattening.specs.Flatten.{Place, urgentPlace, flatten};
+ghost use Rattle.flatten_tables.specs.Tables.{kindOf};
 ghost use Rattle.flattener.specs.Records.{locationRecord};
 ghost use Rattle.flattener.specs.Writing.{Wrote};
 ghost use Rattle.flattener.specs.Locating.{Located};
-use crate::bound::place_bounds;
-use crate::place::Places;
-use crate::transition::Transitions;
 use crate::write::put;
 use crate::write::put_word;
 use chart::table::Tree;
+use flatten_tables::bound::place_bounds;
+use flatten_tables::place::Places;
+use flatten_tables::transition::Transitions;
 
 // The bounds of the declared clocks.
 fn write_bounds(out: &mut [u8], at: usize, clocks: u8, bounds: [u32; 8]) -> usize

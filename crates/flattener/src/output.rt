@@ -4,20 +4,20 @@ ghost use mathlib.Core.List.{[], _∷_, _++_};
 ghost use Prim.Native.Nat.{_+_, _*_, _<_};
 ghost use lib.ListN.{length};
 ghost use Rattle.chart.specs.Chart.{Chart};
-ghost use Rattle.flattener.specs.File.{out2, contentBytes, networkBytes};
-ghost use Rattle.flattener.specs.Flatten.{flatten};
-ghost use Rattle.flattener.specs.Bounding.{Bounded};
+ghost use Rattle.flattening.specs.File.{out2, contentBytes, networkBytes};
+ghost use Rattle.flattening.specs.Flatten.{flatten};
+ghost use Rattle.flatten_tables.specs.Bounding.{Bounded};
+ghost use Rattle.flatten_tables.specs.Summing.{Summed};
 ghost use Rattle.flattener.specs.Records.{Writable};
 ghost use Rattle.flattener.specs.Writing.{Wrote};
-ghost use Rattle.flattener.specs.Summing.{Summed};
 use crate::location::write_locations;
 use crate::record::edges_length;
 use crate::record::write_edges;
-use crate::summary::Summary;
 use crate::write::put;
 use crate::write::put_short;
 use crate::write::put_word;
 use chart::header::Counts;
+use flatten_tables::summary::Summary;
 
 // How many bytes the locations take.
 fn locations_length(places: u8, clocks: u8) -> usize

@@ -8,15 +8,15 @@ ghost use Rattle.network.specs.Network.{Edge};
 ghost use Rattle.chart.specs.Chart.{Chart};
 ghost use Rattle.chart.specs.Laid.{Laid};
 ghost use Rattle.chart.specs.declared.header.Counts.{Counts};
-ghost use Rattle.flattener.specs.Gathering.{headOf, headBytes};
+ghost use Rattle.flatten_edges.specs.Gathering.{headOf, headBytes};
 ghost use Rattle.flattener.specs.Records.{edgeRecord, Bodied, Writable};
 ghost use Rattle.flattener.specs.Writing.{Wrote, part};
 use crate::body::body_size;
 use crate::body::write_body;
-use crate::head::Head;
 use crate::write::copy;
 use crate::write::put_short;
 use expr::field::byte_at;
+use flatten_edges::head::Head;
 
 // The transition that an edge bears, by its gathered head.
 fn transition_at(heads: &[u8], i: u16) -> u8

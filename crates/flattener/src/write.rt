@@ -2,7 +2,7 @@
 ghost use mathlib.Core.List.{[], _∷_};
 ghost use Prim.Native.Nat.{_+_, _≤_};
 ghost use lib.ListN.{length};
-ghost use Rattle.flattener.specs.File.{out2, out4};
+ghost use Rattle.flattening.specs.File.{out2, out4};
 ghost use Rattle.flattener.specs.Writing.{Wrote, part};
 
 // One byte. The answer of each writer is the place after what it writes.

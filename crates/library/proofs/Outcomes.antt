@@ -4,17 +4,17 @@ use Prim.Native.Nat.{ℕ}
 use mathlib.Core.List.{List}
 use native.Mathlib.Omega.{arith}
 use Rattle.expr.specs.Answer.{Answer, done, refused}
-use Rattle.chart.specs.declared.configuration.Configuration.{Configuration}
-use Rattle.chart.specs.declared.machine.Outcome.{Outcome}
+use Rattle.chart_machine.specs.declared.configuration.Configuration.{Configuration}
+use Rattle.chart_machine.specs.declared.operation.Outcome.{Outcome}
 use Rattle.chart.specs.declared.rule.Checked.{Checked}
 use Rattle.chart.specs.declared.rule.Checked.the-variants as Ck
 use Rattle.chart.specs.Answers.{checkedOf}
-use Rattle.chart.specs.Outcomes.{outcomeOf}
+use Rattle.chart_machine.specs.Outcomes.{outcomeOf}
 use Rattle.chart.specs.Ready.{verdict}
-use Rattle.network.specs.Answers.{movedOf, verdictNumber}
-use Rattle.network.specs.declared.configuration.Configuration as net
-use Rattle.network.specs.declared.moved.Moved.{Moved}
-use Rattle.network.specs.declared.moved.Verdict.the-variants as Vd
+use Rattle.network_machine.specs.Answers.{outcomeOf as networkOutcomeOf, verdictNumber}
+use Rattle.network_machine.specs.declared.configuration.Configuration as net
+use Rattle.network_machine.specs.declared.outcome.Outcome.{Outcome as NetworkOutcome}
+use Rattle.network_machine.specs.declared.outcome.Verdict.the-variants as Vd
 use Rattle.flattener.specs.declared.operation.Flattened.{Flattened}
 use Rattle.flattener.specs.declared.operation.Flattened.the-variants as Fl
 use Rattle.flattener.specs.Outcomes.{flattenedOf}
@@ -55,25 +55,25 @@ chart-refused σ given (done τ) {o} e h =
 chart-refused σ given (refused k) e h = refl
 
 -- networks: the number, and what is lent to a call on σ
-pub network-number : (σ : net.Configuration) (a : Answer net.Configuration) {o : Moved} → o ≡ movedOf σ a → verdictNumber (o .verdict) ≡ numberOf a
+pub network-number : (σ : net.Configuration) (a : Answer net.Configuration) {o : NetworkOutcome} → o ≡ networkOutcomeOf σ a → verdictNumber (o .verdict) ≡ numberOf a
 unfolding numberOf after
 network-number σ (done τ) e = ap (λ p. verdictNumber (p .verdict)) e
 network-number σ (refused k) e = ap (λ p. verdictNumber (p .verdict)) e
 
-pub network-after : (σ : net.Configuration) (a : Answer net.Configuration) {o : Moved} → o ≡ movedOf σ a → o .configuration ≡ after σ a
+pub network-after : (σ : net.Configuration) (a : Answer net.Configuration) {o : NetworkOutcome} → o ≡ networkOutcomeOf σ a → o .configuration ≡ after σ a
 unfolding numberOf after
 network-after σ (done τ) e = ap (λ p. p .configuration) e
 network-after σ (refused k) e = ap (λ p. p .configuration) e
 
 -- where the call is on another configuration than the one that is lent
-pub network-passed : (σ given : net.Configuration) (a : Answer net.Configuration) {o : Moved} → o ≡ movedOf σ a → o .verdict ≡ Vd.Done → (0 ≡ numberOf a) × (o .configuration ≡ after given a)
+pub network-passed : (σ given : net.Configuration) (a : Answer net.Configuration) {o : NetworkOutcome} → o ≡ networkOutcomeOf σ a → o .verdict ≡ Vd.Done → (0 ≡ numberOf a) × (o .configuration ≡ after given a)
 unfolding numberOf after
 network-passed σ given (done τ) e h = (refl, ap (λ p. p .configuration) e)
 network-passed σ given (refused k) {o} e h =
     let f : o .verdict ≡ Vd.Refused k = ap (λ p. p .verdict) e in
     let z : _≡_ {A = ℕ} 0 1 = cc in absurd (omega arith)
 
-pub network-refused : (σ given : net.Configuration) (a : Answer net.Configuration) {o : Moved} {k : ℕ} → o ≡ movedOf σ a → o .verdict ≡ Vd.Refused k → given ≡ after given a
+pub network-refused : (σ given : net.Configuration) (a : Answer net.Configuration) {o : NetworkOutcome} {k : ℕ} → o ≡ networkOutcomeOf σ a → o .verdict ≡ Vd.Refused k → given ≡ after given a
 unfolding numberOf after
 network-refused σ given (done τ) {o} e h =
     let f : o .verdict ≡ Vd.Done = ap (λ p. p .verdict) e in

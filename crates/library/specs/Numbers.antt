@@ -5,10 +5,10 @@ use mathlib.Core.List.{List}
 use lib.ListN.{length}
 use lib.IntN.{ℤ}
 use Rattle.expr.specs.Answer.{Answer, done, refused}
-use Rattle.chart.specs.declared.configuration.Configuration.{Configuration}
+use Rattle.chart_machine.specs.declared.configuration.Configuration.{Configuration}
 use Rattle.chart.specs.declared.rule.Checked.{Checked}
 use Rattle.chart.specs.declared.rule.Checked.the-variants as Ck
-use Rattle.network.specs.declared.configuration.Configuration as net
+use Rattle.network_machine.specs.declared.configuration.Configuration as net
 
 -- 0, or the number of the refusal
 unfoldable pub numberOf : {A : Type 0} → Answer A → ℕ

@@ -1,12 +1,12 @@
 // Charts.
 ghost use mathlib.Core.Path.{_≡_};
 ghost use Rattle.chart.specs.Rules.{chartOf};
-ghost use Rattle.chart.specs.Machine.{startOf, stepOf, waitOf};
+ghost use Rattle.chart_machine.specs.Machine.{startOf, stepOf, waitOf};
 ghost use Rattle.library.specs.Numbers.{numberOf, after, chartParts, checkedNumber};
 use chart::check::check;
-use chart::configuration::Configuration;
-use chart::machine;
 use chart::rule::Checked;
+use chart_machine::configuration::Configuration;
+use chart_machine::operation;
 
 // 0, or the number of the refusal.
 fn number(answer: Checked) -> u8
@@ -37,7 +37,7 @@ pub extern "C" fn figrummy_start_chart(
     ensures number { λ r. ⌜ r ≡ numberOf (startOf (now (file .entry))) ⌝ }
     ensures after { λ r. ⌜ chartParts (now (active .exit)) (now (variables .exit)) (now (clocks .exit)) ≡ after (chartParts (now (active .entry)) (now (variables .entry)) (now (clocks .entry))) (startOf (now (file .entry))) ⌝ }
 {
-    let o = machine::start(file);
+    let o = operation::start(file);
     let answer = o.answer;
     let Checked::Passed = answer else {
         return number(answer);
@@ -69,7 +69,7 @@ pub extern "C" fn figrummy_step_chart(
         variables: *variables,
         clocks: *clocks,
     };
-    let o = machine::step(file, given, list);
+    let o = operation::step(file, given, list);
     let c = o.configuration;
     let states = c.active;
     let values = c.variables;
@@ -98,7 +98,7 @@ pub extern "C" fn figrummy_wait_chart(
         variables: *variables,
         clocks: *clocks,
     };
-    let o = machine::wait(file, given, ticks);
+    let o = operation::wait(file, given, ticks);
     let c = o.configuration;
     let states = c.active;
     let values = c.variables;

@@ -2,5 +2,5 @@
 // array that is lent a pointer to its first element. Each answers 0, or the number of the refusal, and then changes
 // nothing that was lent.
 pub mod charts;
-pub mod flattening;
+pub mod flatten;
 pub mod networks;

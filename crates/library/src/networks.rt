@@ -1,11 +1,11 @@
 // Networks.
 ghost use mathlib.Core.Path.{_≡_};
-ghost use Rattle.network.specs.Machine.{startOf, stepOf, waitOf};
+ghost use Rattle.network_machine.specs.Machine.{startOf, stepOf, waitOf};
 ghost use Rattle.library.specs.Numbers.{numberOf, after, networkParts};
-use network::configuration::Configuration;
-use network::moved::Verdict;
-use network::moved::number_of;
-use network::operation;
+use network_machine::configuration::Configuration;
+use network_machine::operation;
+use network_machine::outcome::Verdict;
+use network_machine::outcome::number_of;
 
 // The configuration in which a network starts.
 #[no_mangle]

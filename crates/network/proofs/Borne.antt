@@ -8,8 +8,7 @@ use lib.ListN.{length, getD, take, replicate, length-append, length-take, length
 use lib.Seq.{getD-take, take-all}
 use Rattle.expr.specs.Lists.{keep, padded}
 use Rattle.expr.proofs.Lists.{take-map}
-use Rattle.network.specs.Network.{Edge, Network, key}
-use Rattle.network.specs.Machine.{edgeAt}
+use Rattle.network.specs.Network.{Edge, Network, edgeAt, key}
 use Rattle.network.specs.Bearing.{transitionOf, transitionsOf}
 use Rattle.network.specs.Layout.{Laid, keyOf}
 use Rattle.network.specs.declared.header.Counts.{Counts}

@@ -15,13 +15,10 @@ use Rattle.expr.specs.declared.field.Fault.the-variants as Fl
 use Rattle.expr.proofs.Places.{bind-got, bind-fault, next-got, next-fault, end-none, end-some, onward-onward, length-onward, part-onward}
 use Rattle.expr.proofs.Reading.{mapped-at, fault-at, many-at}
 use Rattle.network.specs.Network.{Location, Edge, Network, location, inRange, records, numbered, sound, countsOf, readNetwork, networkOf}
-use Rattle.network.specs.Machine.{start, step, wait, startOf, stepOf, waitOf}
 use Rattle.network.specs.Edges.{edgeIn, EdgesAt}
 use Rattle.network.specs.Layout.{Laid}
-use Rattle.network.specs.Checks.{faultNumber, soundOf, CheckedAs, FindingFits}
-use Rattle.network.specs.Answers.{HeaderFits}
+use Rattle.network.specs.Checks.{faultNumber, soundOf, CheckedAs, FindingFits, HeaderFits}
 use Rattle.network.specs.declared.header.Counts.{Counts}
-use Rattle.network.specs.declared.configuration.Configuration.{Configuration}
 use Rattle.network.specs.declared.header.HeaderRead.{HeaderRead}
 use Rattle.network.specs.declared.header.HeaderRead.the-variants as Hd
 use Rattle.network.specs.declared.check.Finding.{Finding}
@@ -125,29 +122,3 @@ module _ (file : List ℕ) where
 
   pub found-fits : {v : Finding} {k : Counts} → FindingFits file v → v ≡ Fd.Counts k → 13 ≤ length file
   found-fits h e = subst (FindingFits file) e h
-
-  -- the operations, by what the check says
-  pub start-refused : {m : ℕ} → networkOf file ≡ refused m → startOf file ≡ refused m
-  unfolding startOf _>>=_
-  start-refused h = rw h
-
-  pub start-done : {n : Network} → networkOf file ≡ done n → startOf file ≡ done (start n)
-  unfolding startOf _>>=_
-  start-done h = rw h
-
-  module _ (c : Configuration) where
-    pub wait-refused : (ticks : ℕ) {m : ℕ} → networkOf file ≡ refused m → waitOf file c ticks ≡ refused m
-    unfolding waitOf _>>=_
-    wait-refused ticks h = rw h
-
-    pub wait-done : (ticks : ℕ) {n : Network} → networkOf file ≡ done n → waitOf file c ticks ≡ wait n c ticks
-    unfolding waitOf _>>=_
-    wait-done ticks h = rw h
-
-    pub step-refused : (ms : List ℕ) {m : ℕ} → networkOf file ≡ refused m → stepOf file c ms ≡ refused m
-    unfolding stepOf _>>=_
-    step-refused ms h = rw h
-
-    pub step-done : (ms : List ℕ) {n : Network} → networkOf file ≡ done n → stepOf file c ms ≡ step n c ms
-    unfolding stepOf _>>=_
-    step-done ms h = rw h

@@ -12,8 +12,7 @@ use Rattle.expr.specs.Places.{onward}
 use Rattle.expr.specs.declared.field.Fault.{Fault}
 use Rattle.expr.proofs.Reading.{no-answer, got-value}
 use Rattle.expr.proofs.Lists.{drop-next}
-use Rattle.network.specs.Network.{Edge, Network, locationAt, ownerOf, key, lexLess, edgesAscend}
-use Rattle.network.specs.Machine.{edgeAt}
+use Rattle.network.specs.Network.{Edge, Network, locationAt, edgeAt, ownerOf, key, lexLess, edgesAscend}
 use Rattle.network.specs.Edges.{edgeIn, EdgeHere, Kept}
 use Rattle.network.specs.Layout.{Laid, keyOf}
 use Rattle.network.specs.declared.header.Counts.{Counts}

@@ -17,9 +17,8 @@ use Rattle.expr.proofs.Reading.{no-answer, got-value, bind-at, next-at, yield-a
 use Rattle.expr.proofs.Places.{onward-all, onward-onward}
 use Rattle.expr.proofs.Sizes.{Takes, such-takes, byte-takes, byte2-takes, onto, byte-value}
 use Rattle.expr.proofs.InFront.{byte-front, byte2-front}
-use Rattle.network.specs.Network.{Location, Edge, Network, edge, key, location, locationAt}
+use Rattle.network.specs.Network.{Location, Edge, Network, edge, edgeAt, key, location, locationAt}
 use Rattle.network.specs.Edges.{edgeIn}
-use Rattle.network.specs.Machine.{edgeAt}
 use Rattle.network.specs.Layout.{Located, Laid}
 use Rattle.network.specs.declared.header.Counts.{Counts}
 use Rattle.expr.proofs.Sizes.{part-read}

@@ -3,8 +3,7 @@ use Prim.Native.Nat.{ℕ}
 use mathlib.Core.List.{List, map}
 use lib.ListN.{take}
 use Rattle.expr.specs.Lists.{padded}
-use Rattle.network.specs.Network.{Network}
-use Rattle.network.specs.Machine.{edgeAt}
+use Rattle.network.specs.Network.{Network, edgeAt}
 
 -- the transition that the edge of a number bears, 255 for none
 abbrev pub transitionOf : Network → ℕ → ℕ

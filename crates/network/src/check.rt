@@ -9,7 +9,7 @@ ghost use Rattle.expr.specs.Places.{onward};
 ghost use Rattle.network.specs.Network.{Network, inRange, records, sound, networkOf};
 ghost use Rattle.network.specs.Layout.{Laid};
 ghost use Rattle.network.specs.Checks.{faultNumber, soundOf, CheckedAs, findingNumber, FindingFits};
-use crate::edge::read_edges;
+use crate::edge_list::read_edges;
 use crate::header::Counts;
 use crate::header::HeaderRead;
 use crate::header::read_header;

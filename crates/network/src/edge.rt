@@ -1,22 +1,20 @@
-// The edge records of a network file. They vary in size, so a check of the file keeps each one's offset.
+// The edge records of a network file.
 ghost use mathlib.Core.Path.{_≡_};
 ghost use mathlib.Core.Bool.{true, _&&_};
-ghost use Prim.Native.Nat.{_+_, _-_, _≤_, _<_, _^_};
+ghost use Prim.Native.Nat.{_+_, _-_, _≤_, _^_};
 ghost use lib.Dec.{ltb, eqb};
-ghost use lib.ListN.{length};
-ghost use Rattle.expr.specs.Lists.{all, implies, subset};
-ghost use Rattle.expr.specs.Reading.{got, byte, byte2, such, many, recorded, mapped};
+ghost use Rattle.expr.specs.Lists.{implies, subset};
+ghost use Rattle.expr.specs.Reading.{byte, byte2, such, recorded, mapped};
 ghost use Rattle.expr.specs.Guard.{limits};
-ghost use Rattle.expr.specs.Label.{label, heading, assignsOnce};
+ghost use Rattle.expr.specs.Label.{label, heading};
 ghost use Rattle.expr.specs.Headings.{labelOf};
-ghost use Rattle.expr.specs.Places.{onward, reached, byteOf, shortOf};
-ghost use Rattle.network.specs.Network.{inRange, edge};
-ghost use Rattle.network.specs.Edges.{edgeIn, edgeHeading, edgeOf, edgeFault, withBody, EdgeHere, EdgesAt};
+ghost use Rattle.expr.specs.Places.{onward, byteOf, shortOf};
+ghost use Rattle.network.specs.Network.{inRange};
+ghost use Rattle.network.specs.Edges.{edgeIn, edgeHeading, edgeOf, edgeFault, withBody, EdgeHere};
 use crate::header::Counts;
 use expr::field::ByteRead;
 use expr::field::Fault;
 use expr::field::Frame;
-use expr::field::Reached;
 use expr::field::ShortRead;
 use expr::label::Label;
 use expr::label::LabelRead;
@@ -216,40 +214,4 @@ pub fn edge_at(rest: &[u8], at: usize, counts: Counts) -> EdgeRead
     let label = e.label;
     let body = body_place(from, to, label.body);
     EdgeRead::Edge(with_body(e, body), to)
-}
-
-// What a pass over all edges finds: where it ends, and whether all keep rule 13.
-pub struct EdgesRead {
-    pub reached: Reached,
-    pub once: bool,
-}
-
-// All edge records, from a place on. The offset of each is put down.
-pub fn read_edges(rest: &[u8], at: usize, counts: Counts, offsets: &mut [u32; 1024]) -> EdgesRead
-    requires { ⌜ (inRange counts ≡ true) × (length (now rest) < 2 ^ 32) ⌝ }
-    ensures means { λ r. ⌜ reached (now (rest .entry)) (r .once) (r .reached) ≡ mapped (all (λ e. assignsOnce (e .label))) (many (counts .edges) (recorded byte2 (edgeIn counts)) (onward (now (rest .entry)) at)) ⌝ }
-    ensures placed { λ r. ⌜ (length (now (offsets .entry)) ≡ 1024 → (es : _) (t : _) → many (counts .edges) (recorded byte2 (edgeIn counts)) (onward (now (rest .entry)) at) ≡ got es t → EdgesAt counts (now (rest .entry)) (now (offsets .exit)) es) ⌝ }
-{
-    let mut once = true;
-    let mut place = at;
-    let count = counts.edges as usize;
-    let mut i = 0;
-    while i < count {
-        let e = edge_at(rest, place, counts);
-        let EdgeRead::Edge(edge, next) = e else {
-            return EdgesRead {
-                reached: Reached::Fault(edge_fault(e)),
-                once,
-            };
-        };
-        let label = edge.label;
-        once &= label.once;
-        offsets[i] = place as u32;
-        place = next;
-        i += 1;
-    }
-    EdgesRead {
-        reached: Reached::At(place),
-        once,
-    }
 }

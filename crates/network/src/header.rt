@@ -1,7 +1,7 @@
 // The header of a network file: version 1, the length of the rest in four bytes, and the counts.
 ghost use mathlib.Core.Path.{_≡_};
 ghost use Rattle.network.specs.Network.{inRange, headed, countsAt, countsOf};
-ghost use Rattle.network.specs.Answers.{headerOf, HeaderFits};
+ghost use Rattle.network.specs.Checks.{headerOf, HeaderFits};
 
 pub struct Counts {
     pub automata: u8,

@@ -7,7 +7,6 @@ ghost use lib.ListN.{getD, length};
 ghost use Rattle.expr.specs.Lists.{all, below};
 ghost use Rattle.network.specs.Network.{Network, locationAt, initials};
 ghost use Rattle.network.specs.Layout.{Located};
-use crate::configuration::Configuration;
 use crate::header::Counts;
 use crate::location::automaton_of;
 use crate::location::is_initial;
@@ -74,11 +73,12 @@ fn start_of(rest: &[u8], counts: Counts, automaton: u8) -> u8
     }
 }
 
-pub fn initial_locations(rest: &[u8], counts: Counts) -> [u8; Configuration::AUTOMATA]
+// Where each of sixteen automata starts.
+pub fn initial_locations(rest: &[u8], counts: Counts) -> [u8; 16]
     ensures { λ r. ⌜ ((n : Network) → Located (now (rest .entry)) counts n → r ≡ map (λ a. cond (ltb a (n .automata)) (getD (initials n a) 0 0) 0) (below 16)) ⌝ }
 {
-    let mut locations = [0; Configuration::AUTOMATA];
-    for a in 0..Configuration::AUTOMATA {
+    let mut locations = [0; 16];
+    for a in 0..16 {
         locations[a] = start_of(rest, counts, a as u8);
     }
     locations

@@ -1,18 +1,10 @@
-// The network machine. The operations are in `operation`, and in place in `in_place`; what they answer with is in
-// `moved` and `configuration`. `bearing` answers which transitions of a chart the edges of a step bear.
-mod active;
-mod after;
+// The file of a network: its header, its locations and edges, and the check. The network machine reads a checked file
+// by `edge`, `initial`, `laid` and `location`. `bearing` answers which transitions of a chart the edges of a step bear.
 pub mod bearing;
-mod check;
-mod choice;
-pub mod configuration;
-mod edge;
+pub mod check;
+pub mod edge;
+mod edge_list;
 pub mod header;
-pub mod in_place;
-mod initial;
-mod laid;
-mod location;
-pub mod moved;
-pub mod operation;
-mod step;
-mod wait;
+pub mod initial;
+pub mod laid;
+pub mod location;

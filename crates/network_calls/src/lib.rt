@@ -1,14 +1,14 @@
 // The calls of a script on a network, for the programs that run one.
 ghost use mathlib.Core.Path.{_≡_};
-ghost use Rattle.network.specs.Answers.{noConfiguration};
+ghost use Rattle.network_machine.specs.Answers.{zeroConfiguration};
 ghost use Rattle.network_calls.specs.Calls.{answerTo};
 use console::print;
 use console::script;
 use console::script::Call;
 use console::script::Line;
 use expr::field::byte_at;
-use network::configuration::Configuration;
-use network::moved::Moved;
+use network_machine::configuration::Configuration;
+use network_machine::outcome::Outcome;
 
 // The declared part of a configuration. The counts stand in the file's header.
 pub fn show(file: &[u8], c: Configuration) {
@@ -25,7 +25,7 @@ pub fn show(file: &[u8], c: Configuration) {
 
 // What stands for a configuration before the start.
 pub fn no_configuration() -> Configuration
-    ensures { λ r. ⌜ r ≡ noConfiguration ⌝ }
+    ensures { λ r. ⌜ r ≡ zeroConfiguration ⌝ }
 {
     Configuration {
         locations: [0; 16],
@@ -36,16 +36,16 @@ pub fn no_configuration() -> Configuration
 }
 
 // What the machine answers to a call. A line without a call is a wait of no ticks, which is refused.
-pub fn answer(file: &[u8], c: Configuration, line: Line) -> Moved
+pub fn answer(file: &[u8], c: Configuration, line: Line) -> Outcome
     ensures { λ r. ⌜ r ≡ answerTo (now (file .entry)) c line ⌝ }
 {
     let call = line.call;
     let list = line.list;
     let count = script::at_most_seventeen(line.count);
     match call {
-        Call::Start => network::operation::start(file),
-        Call::Step => network::operation::step(file, c, &list[0..count]),
-        Call::Wait(ticks) => network::operation::wait(file, c, ticks),
-        _ => network::operation::wait(file, c, 0),
+        Call::Start => network_machine::operation::start(file),
+        Call::Step => network_machine::operation::step(file, c, &list[0..count]),
+        Call::Wait(ticks) => network_machine::operation::wait(file, c, ticks),
+        _ => network_machine::operation::wait(file, c, 0),
     }
 }

@@ -5,10 +5,10 @@ ghost use Rattle.expr.specs.Places.{reachedEnd};
 use expr::field::Fault;
 use expr::field::Frame;
 use expr::field::Reached;
-use network::configuration::Configuration;
-use network::moved::Moved;
-use network::moved::Verdict;
-use network::operation;
+use network_machine::configuration::Configuration;
+use network_machine::operation;
+use network_machine::outcome::Outcome;
+use network_machine::outcome::Verdict;
 use requests::input;
 use requests::output;
 
@@ -34,7 +34,7 @@ fn show_configuration(c: Configuration) {
     output::text(b"\n");
 }
 
-fn show(m: Moved) {
+fn show(m: Outcome) {
     let verdict = m.verdict;
     match verdict {
         Verdict::Done => show_configuration(m.configuration),

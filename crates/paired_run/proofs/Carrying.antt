@@ -14,10 +14,10 @@ use Rattle.expr.proofs.Lists.{drop-next, within-length, ascending-once}
 use Rattle.network.specs.Network.{Network}
 use Rattle.network.specs.Bearing.{transitionOf, transitionsOf}
 use Rattle.network.proofs.Borne.{transitions-kept}
-use Rattle.flattener.specs.Flatten.{sorted}
-use Rattle.flattener.specs.Choosing.{Kept}
-use Rattle.flattener.proofs.Sums.{sorted-at, sorted-ascending}
-use Rattle.flattener.proofs.Keeping.{kept-none, kept-at}
+use Rattle.flattening.specs.Flatten.{sorted}
+use Rattle.flatten_edges.specs.Choosing.{Kept}
+use Rattle.flattening.proofs.Sums.{sorted-at, sorted-ascending}
+use Rattle.flatten_edges.proofs.Keeping.{kept-none, kept-at}
 use Rattle.agreement.specs.Agreement.{borne, carried}
 
 abbrev pub isNumber : ℕ → Bool

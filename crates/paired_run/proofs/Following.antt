@@ -13,17 +13,17 @@ use Rattle.expr.specs.Moves.{known}
 use Rattle.expr.proofs.Answer.{unless-at, done-injective}
 use Rattle.chart.specs.Chart.{Chart}
 use Rattle.chart.specs.Rules.{chartOf}
-use Rattle.chart.specs.Machine as chart
-use Rattle.chart.specs.Outcomes.{outcomeOf, zeroConfiguration}
-use Rattle.chart.specs.declared.machine.Outcome.{Outcome}
+use Rattle.chart_machine.specs.Machine as chart
+use Rattle.chart_machine.specs.Outcomes.{outcomeOf, zeroConfiguration}
+use Rattle.chart_machine.specs.declared.operation.Outcome.{Outcome}
 use Rattle.chart.specs.declared.rule.Checked.the-variants as Ck
-use Rattle.chart.proofs.Waits.{step-passed}
+use Rattle.chart_machine.proofs.Waits.{step-passed}
 use Rattle.network.specs.Network.{Network}
-use Rattle.network.specs.Machine as network
-use Rattle.network.specs.Answers.{movedOf, noConfiguration}
-use Rattle.network.specs.declared.moved.Moved.{Moved}
-use Rattle.network.specs.declared.moved.Verdict.{Verdict}
-use Rattle.network.specs.declared.moved.Verdict.the-variants as Vd
+use Rattle.network_machine.specs.Machine as network
+use Rattle.network_machine.specs.Answers.{outcomeOf as networkOutcomeOf, zeroConfiguration as networkZeroConfiguration}
+use Rattle.network_machine.specs.declared.outcome.Outcome.{Outcome as NetworkOutcome}
+use Rattle.network_machine.specs.declared.outcome.Verdict.{Verdict}
+use Rattle.network_machine.specs.declared.outcome.Verdict.the-variants as Vd
 use Rattle.agreement.specs.Agreement.{ChartConfiguration, NetworkConfiguration, Call, step, wait, onNetwork, left, carried, named, Run, moved, runFrom, run, Accepts, Agrees, Holds}
 use Rattle.agreement.proofs.Runs.{alike-accepts, extended-moving, extended-waiting, extended-step-refused, extended-wait-refused, run-more}
 use Rattle.agreement.proofs.Accepted.{accepted-at}
@@ -39,18 +39,18 @@ use Rattle.paired_run.proofs.Owing.{named-few}
 done-not : {X : Type 0} {k : ℕ} → _≡_ {A = Verdict} Vd.Done (Vd.Refused k) → X
 done-not e = absurd (let z : _≡_ {A = ℕ} 0 1 = cc in omega arith)
 
-module _ (σ : NetworkConfiguration) {m : Moved} where
-  pub verdict-is : (q : Answer NetworkConfiguration) → m ≡ movedOf σ q → m .verdict ≡ verdictOf q
-  verdict-is (done ν) h = ap (λ (m : Moved). m .verdict) h
-  verdict-is (refused k) h = ap (λ (m : Moved). m .verdict) h
+module _ (σ : NetworkConfiguration) {m : NetworkOutcome} where
+  pub verdict-is : (q : Answer NetworkConfiguration) → m ≡ networkOutcomeOf σ q → m .verdict ≡ verdictOf q
+  verdict-is (done ν) h = ap (λ (m : NetworkOutcome). m .verdict) h
+  verdict-is (refused k) h = ap (λ (m : NetworkOutcome). m .verdict) h
 
-  pub was-done : (q : Answer NetworkConfiguration) → m ≡ movedOf σ q → m .verdict ≡ Vd.Done → q ≡ done (m .configuration)
-  was-done (done ν) h e = ap (λ (m : Moved). done (m .configuration)) (sym h)
-  was-done (refused k) h e = done-not (sym e ∙ ap (λ (m : Moved). m .verdict) h)
+  pub was-done : (q : Answer NetworkConfiguration) → m ≡ networkOutcomeOf σ q → m .verdict ≡ Vd.Done → q ≡ done (m .configuration)
+  was-done (done ν) h e = ap (λ (m : NetworkOutcome). done (m .configuration)) (sym h)
+  was-done (refused k) h e = done-not (sym e ∙ ap (λ (m : NetworkOutcome). m .verdict) h)
 
-  pub was-refused : (q : Answer NetworkConfiguration) {k : ℕ} → m ≡ movedOf σ q → m .verdict ≡ Vd.Refused k → q ≡ refused k
-  was-refused (done ν) h e = done-not (ap (λ (m : Moved). m .verdict) (sym h) ∙ e)
-  was-refused (refused j) {k} h e = let z : _≡_ {A = Verdict} (Vd.Refused j) (Vd.Refused k) = ap (λ (m : Moved). m .verdict) (sym h) ∙ e in cc
+  pub was-refused : (q : Answer NetworkConfiguration) {k : ℕ} → m ≡ networkOutcomeOf σ q → m .verdict ≡ Vd.Refused k → q ≡ refused k
+  was-refused (done ν) h e = done-not (ap (λ (m : NetworkOutcome). m .verdict) (sym h) ∙ e)
+  was-refused (refused j) {k} h e = let z : _≡_ {A = Verdict} (Vd.Refused j) (Vd.Refused k) = ap (λ (m : NetworkOutcome). m .verdict) (sym h) ∙ e in cc
 
 module _ (σ : ChartConfiguration) {τ : ChartConfiguration} {o : Outcome} (q : Answer ChartConfiguration) (h : o ≡ outcomeOf σ q) (e : q ≡ done τ) where
   passed : o ≡ record { answer = Ck.Passed; configuration = τ }
@@ -122,11 +122,11 @@ module _ {file bytes : List ℕ} {c : Chart} {n : Network} (F : Flattening file 
       let d = demand3 file bytes (F .room) c (F .chart-is) (F .bytes-are) in
       subst (λ (m : Network). Holds file bytes c m × ((calls : List Call) → Agrees c m calls)) (done-injective (sym (d .1 .network-is) ∙ F .network-is)) (d .1, d .2)
 
-  pub starts : {m : Moved} {o : Outcome} → m ≡ movedOf noConfiguration (network.startOf bytes) → o ≡ outcomeOf zeroConfiguration (chart.startOf file)
+  pub starts : {m : NetworkOutcome} {o : Outcome} → m ≡ networkOutcomeOf networkZeroConfiguration (network.startOf bytes) → o ≡ outcomeOf zeroConfiguration (chart.startOf file)
       → Stands (record { network = m .configuration; chart = o .configuration; owed = 0 }) (run c n [])
   unfolding run runFrom outcomeOf
   starts h k = record {
-    network = ap (λ (m : Moved). m .configuration) (h ∙ ap (movedOf noConfiguration) (both .0 .network-starts));
+    network = ap (λ (m : NetworkOutcome). m .configuration) (h ∙ ap (networkOutcomeOf networkZeroConfiguration) (both .0 .network-starts));
     chart = chart-after _ _ k (both .0 .chart-starts);
     owed = refl;
   }
@@ -142,10 +142,10 @@ module _ {file bytes : List ℕ} {c : Chart} {n : Network} (F : Flattening file 
     by-call : (x : Call) {f : Followed} {v : Verdict} {s : Run} → run c n (calls ++ (x ∷ [])) ≡ s → v ≡ verdictOf (onNetwork n (now .network) x) → Follows now s v f → FollowsCall c n calls x f
     by-call x {f} e q w = subst₂ (λ (s : Run) (v : Verdict). Follows now s v f) (sym e) q w
 
-    module _ {x : code.Run} (S : Stands x now) {m : Moved} where
-      module _ (ms : List ℕ) (h : m ≡ movedOf (x .network) (network.stepOf bytes (x .network) ms)) where
-        answered : m ≡ movedOf (x .network) (network.step n (now .network) ms)
-        answered = h ∙ ap (movedOf (x .network)) (both .0 .network-steps (x .network) ms ∙ ap (λ (ν : NetworkConfiguration). network.step n ν ms) (S .network))
+    module _ {x : code.Run} (S : Stands x now) {m : NetworkOutcome} where
+      module _ (ms : List ℕ) (h : m ≡ networkOutcomeOf (x .network) (network.stepOf bytes (x .network) ms)) where
+        answered : m ≡ networkOutcomeOf (x .network) (network.step n (now .network) ms)
+        answered = h ∙ ap (networkOutcomeOf (x .network)) (both .0 .network-steps (x .network) ms ∙ ap (λ (ν : NetworkConfiguration). network.step n ν ms) (S .network))
 
         pub step-refused : {f : Followed} {k : ℕ} → m .verdict ≡ Vd.Refused k → Follows now now (m .verdict) f → FollowsCall c n calls (step ms) f
         unfolding onNetwork
@@ -169,9 +169,9 @@ module _ {file bytes : List ℕ} {c : Chart} {n : Network} (F : Flattening file 
           unfolding onNetwork
           step-moved q w = by-call (step ms) (run-more c n calls (step ms) ∙ extended-moving c n now ms step-done ∙ ap (moved c (m .configuration) now) (sym q)) (sym e ∙ verdict-is (x .network) (network.step n (now .network) ms) answered) w
 
-      module _ (d : ℕ) (h : m ≡ movedOf (x .network) (network.waitOf bytes (x .network) d)) where
-        waited : m ≡ movedOf (x .network) (network.wait n (now .network) d)
-        waited = h ∙ ap (movedOf (x .network)) (both .0 .network-waits (x .network) d ∙ ap (λ (ν : NetworkConfiguration). network.wait n ν d) (S .network))
+      module _ (d : ℕ) (h : m ≡ networkOutcomeOf (x .network) (network.waitOf bytes (x .network) d)) where
+        waited : m ≡ networkOutcomeOf (x .network) (network.wait n (now .network) d)
+        waited = h ∙ ap (networkOutcomeOf (x .network)) (both .0 .network-waits (x .network) d ∙ ap (λ (ν : NetworkConfiguration). network.wait n ν d) (S .network))
 
         pub wait-refused : {f : Followed} {k : ℕ} → m .verdict ≡ Vd.Refused k → Follows now now (m .verdict) f → FollowsCall c n calls (wait d) f
         unfolding onNetwork

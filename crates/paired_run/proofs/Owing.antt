@@ -12,7 +12,7 @@ use Rattle.expr.proofs.Bools.{parts}
 use Rattle.expr.proofs.Lists.{getD-mem, drop-next}
 use Rattle.chart.specs.Chart.{Chart, inRange, transitionAt}
 use Rattle.chart.specs.declared.header.Counts.{Counts}
-use Rattle.flattener.specs.Flatten.{hasExit, hasEntry}
+use Rattle.flattening.specs.Flatten.{hasExit, hasEntry}
 use Rattle.agreement.specs.Agreement.{named}
 
 one-few : (b : Bool) → cond b 1 0 ≤ 1

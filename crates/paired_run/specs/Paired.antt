@@ -6,12 +6,12 @@ use lib.ListN.{take}
 use Rattle.expr.specs.Answer.{Answer, done, refused}
 use Rattle.chart.specs.Chart.{Chart}
 use Rattle.chart.specs.Rules.{chartOf}
-use Rattle.chart.specs.Machine as chart
+use Rattle.chart_machine.specs.Machine as chart
 use Rattle.chart.specs.declared.rule.Checked.the-variants as Ck
 use Rattle.network.specs.Network.{Network, networkOf}
-use Rattle.network.specs.declared.moved.Verdict.{Verdict}
-use Rattle.network.specs.declared.moved.Verdict.the-variants as Vd
-use Rattle.flattener.specs.File.{flattenOf}
+use Rattle.network_machine.specs.declared.outcome.Verdict.{Verdict}
+use Rattle.network_machine.specs.declared.outcome.Verdict.the-variants as Vd
+use Rattle.flattening.specs.File.{flattenOf}
 use Rattle.agreement.specs.Agreement.{Call, step, wait, onNetwork, Run, run, Accepts}
 use Rattle.paired_run.specs.declared.carry.Transitions.{Transitions}
 use Rattle.paired_run.specs.declared.run.Run as code

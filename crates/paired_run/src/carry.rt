@@ -8,10 +8,10 @@ ghost use lib.ListN.{length, take};
 ghost use Rattle.expr.specs.Lists.{keep};
 ghost use Rattle.expr.specs.Answer.{done};
 ghost use Rattle.network.specs.Network.{Network, networkOf};
-ghost use Rattle.flattener.specs.Choosing.{Kept};
+ghost use Rattle.flatten_edges.specs.Choosing.{Kept};
 ghost use Rattle.agreement.specs.Agreement.{carried};
 ghost use Rattle.paired_run.specs.Paired.{listOf};
-use flattener::ascending::with_number;
+use flatten_edges::ascending::with_number;
 use network::bearing::transitions_of;
 
 // Transitions, ascending: the first `count` of the list.

@@ -10,7 +10,7 @@ ghost use Rattle.chart.specs.Chart.{Chart};
 ghost use Rattle.chart.specs.Rules.{chartOf};
 ghost use Rattle.chart.specs.Laid.{Laid};
 ghost use Rattle.chart.specs.declared.header.Counts.{Counts as Counted};
-ghost use Rattle.flattener.specs.Flatten.{hasExit, hasEntry};
+ghost use Rattle.flattening.specs.Flatten.{hasExit, hasEntry};
 ghost use Rattle.agreement.specs.Agreement.{named};
 use chart::rule::Checked;
 

@@ -13,12 +13,12 @@ use crate::carry::Transitions;
 use crate::carry::carried;
 use crate::owe::named;
 use chart::rule::Checked;
-use network::moved::Verdict;
+use network_machine::outcome::Verdict;
 
 // Both machines, and how many urgent moves are owed.
 pub struct Run {
-    pub network: network::configuration::Configuration,
-    pub chart: chart::configuration::Configuration,
+    pub network: network_machine::configuration::Configuration,
+    pub chart: chart_machine::configuration::Configuration,
     pub owed: u64,
 }
 
@@ -43,9 +43,9 @@ pub struct Followed {
 pub fn start(file: &[u8], bytes: &[u8]) -> Run
     ensures { λ r. ⌜ ((c : Chart) (n : Network) → Flattening (now (file .entry)) (now (bytes .entry)) c n → Stands r (agreed.run c n [])) ⌝ }
 {
-    let moved = network::operation::start(bytes);
+    let moved = network_machine::operation::start(bytes);
     let network = moved.configuration;
-    let outcome = chart::machine::start(file);
+    let outcome = chart_machine::operation::start(file);
     let chart = outcome.configuration;
     Run {
         network,
@@ -85,7 +85,7 @@ fn one_less(n: u64) -> u64
 fn after_move(
     file: &[u8],
     run: Run,
-    next: network::configuration::Configuration,
+    next: network_machine::configuration::Configuration,
     carried: Transitions,
 ) -> Followed
     requires { ⌜ carried .count ≤ 16 ⌝ }
@@ -107,7 +107,7 @@ fn after_move(
             },
         };
     }
-    let outcome = chart::machine::step(file, chart, &list[0..count]);
+    let outcome = chart_machine::operation::step(file, chart, &list[0..count]);
     let answer = outcome.answer;
     let after = outcome.configuration;
     // Nothing is owed where a move carries transitions, so the sum never wraps in a run.
@@ -129,7 +129,7 @@ fn after_move(
 pub fn after_step(file: &[u8], bytes: &[u8], run: Run, list: &[u16]) -> Followed
     ensures { λ r. ⌜ ((c : Chart) (n : Network) (calls : List agreed.Call) → Flattening (now (file .entry)) (now (bytes .entry)) c n → Stands run (agreed.run c n calls) → FollowsCall c n calls (agreed.step (now (list .entry))) r) ⌝ }
 {
-    let moved = network::operation::step(bytes, run.network, list);
+    let moved = network_machine::operation::step(bytes, run.network, list);
     let verdict = moved.verdict;
     let next = moved.configuration;
     let Verdict::Done = verdict else {
@@ -142,13 +142,13 @@ pub fn after_step(file: &[u8], bytes: &[u8], run: Run, list: &[u16]) -> Followed
 pub fn after_wait(file: &[u8], bytes: &[u8], run: Run, ticks: u32) -> Followed
     ensures { λ r. ⌜ ((c : Chart) (n : Network) (calls : List agreed.Call) → Flattening (now (file .entry)) (now (bytes .entry)) c n → Stands run (agreed.run c n calls) → FollowsCall c n calls (agreed.wait ticks) r) ⌝ }
 {
-    let moved = network::operation::wait(bytes, run.network, ticks);
+    let moved = network_machine::operation::wait(bytes, run.network, ticks);
     let verdict = moved.verdict;
     let next = moved.configuration;
     let Verdict::Done = verdict else {
         return refused(verdict, run);
     };
-    let outcome = chart::machine::wait(file, run.chart, ticks);
+    let outcome = chart_machine::operation::wait(file, run.chart, ticks);
     let answer = outcome.answer;
     let after = outcome.configuration;
     Followed {

@@ -1,8 +1,8 @@
 // Runs a chart, the file that the first argument names, from a script of calls on standard input. After each call it
 // prints the configuration, or the number of the refusal and its sentence.
-use chart::configuration::Configuration;
-use chart::machine::Outcome;
 use chart::rule::Checked;
+use chart_machine::configuration::Configuration;
+use chart_machine::operation::Outcome;
 use console::script;
 
 // Shows what became of a call, and hands on the configuration after it.

@@ -1,12 +1,12 @@
 // Runs a network, the file that the first argument names, from a script of calls on standard input. After each call it
 // prints the configuration, or the number of the refusal and its sentence.
 use console::script;
-use network::configuration::Configuration;
-use network::moved::Moved;
-use network::moved::Verdict;
+use network_machine::configuration::Configuration;
+use network_machine::outcome::Outcome;
+use network_machine::outcome::Verdict;
 
 // Shows what became of a call, and hands on the configuration after it.
-fn shown(file: &[u8], m: Moved) -> Configuration {
+fn shown(file: &[u8], m: Outcome) -> Configuration {
     let verdict = m.verdict;
     let c = m.configuration;
     match verdict {

@@ -6,7 +6,7 @@ use chart::rule::Checked;
 use console::script;
 use console::script::Call;
 use console::script::Line;
-use network::moved::Verdict;
+use network_machine::outcome::Verdict;
 use paired_run::run;
 use paired_run::run::Followed;
 use paired_run::run::Run;

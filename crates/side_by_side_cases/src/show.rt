@@ -1,6 +1,6 @@
 // The line that shows both machines: the network's answer and configuration, the call of the chart that is read and the
 // chart's configuration, and how many urgent moves are owed.
-use network::moved::Verdict;
+use network_machine::outcome::Verdict;
 use paired_run::carry::Transitions;
 use paired_run::run::Followed;
 use paired_run::run::Reading;
@@ -17,7 +17,7 @@ fn show_verdict(verdict: Verdict) {
     }
 }
 
-fn show_network(c: network::configuration::Configuration) {
+fn show_network(c: network_machine::configuration::Configuration) {
     let locations = c.locations;
     let flags = c.flags;
     let variables = c.variables;
@@ -47,7 +47,7 @@ fn show_reading(reading: Reading, carried: Transitions) {
 }
 
 // What stands after the call that is read.
-fn show_chart(c: chart::configuration::Configuration, owed: u64) {
+fn show_chart(c: chart_machine::configuration::Configuration, owed: u64) {
     let active = c.active;
     let variables = c.variables;
     let clocks = c.clocks;

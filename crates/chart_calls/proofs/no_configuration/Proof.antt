@@ -1,5 +1,5 @@
 use mathlib.Core.Path.{refl}
-use Rattle.chart.specs.Outcomes.{zeroConfiguration}
+use Rattle.chart_machine.specs.Outcomes.{zeroConfiguration}
 use Rattle.chart_calls.proofs.no_configuration.Statement.{statement}
 use Rattle.chart_calls.proofs.no_configuration.Tie as tie
 

@@ -1,5 +1,5 @@
 use borrow.Author.Needs.{needs}
-use Rattle.flattener.specs.File.{out2}
+use Rattle.flattening.specs.File.{out2}
 use Rattle.flattener.proofs.Bodies.{body-none, body-written}
 use Rattle.flattener.proofs.body.write_body.Statement.{statement}
 use Rattle.flattener.proofs.body.write_body.Tie as tie

@@ -3,7 +3,7 @@ use borrow.Author.Needs.{needs}
 use mathlib.Core.Path.{_≡_, refl, _∙_}
 use Prim.Native.Nat.{_-_, _≤_}
 use lib.ListN.{length}
-use Rattle.flattener.specs.File.{out4}
+use Rattle.flattening.specs.File.{out4}
 use Rattle.flattener.proofs.Records.{Listing, listing-none, listing-more, listing-some}
 use Rattle.flattener.proofs.location.write_bounds.Statement.{statement}
 use Rattle.flattener.proofs.location.write_bounds.Tie as tie

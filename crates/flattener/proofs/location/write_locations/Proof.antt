@@ -4,7 +4,7 @@ use mathlib.Core.Path.{_≡_, refl, _∙_}
 use Prim.Native.Nat.{_-_, _≤_}
 use lib.ListN.{length}
 use Rattle.chart.specs.Chart.{Chart}
-use Rattle.flattener.specs.Flatten.{idle, locationOf, flatten}
+use Rattle.flattening.specs.Flatten.{idle, locationOf, flatten}
 use Rattle.flattener.specs.Records.{locationRecord}
 use Rattle.flattener.specs.Locating.{Located}
 use Rattle.flattener.proofs.Records.{Listing, listing-none, listing-more, listing-all}

@@ -10,7 +10,7 @@ use Rattle.chart.specs.Chart.{Chart}
 use Rattle.chart.specs.Rules.{chartOf}
 use Rattle.chart.specs.Answers.{checkedOf}
 use Rattle.chart.specs.Ready.{Ready}
-use Rattle.chart.proofs.Waits.{verdict-refused-at, verdict-done-at, chart-long}
+use Rattle.chart.proofs.Verdicts.{verdict-refused-at, verdict-done-at, chart-long}
 use Rattle.flattener.proofs.Delivered.{flatten-refused, flatten-passed}
 use Rattle.flattener.proofs.operation.flatten.Statement.{statement}
 use Rattle.flattener.proofs.operation.flatten.Tie as tie

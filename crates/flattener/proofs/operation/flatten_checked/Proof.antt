@@ -1,6 +1,6 @@
 use borrow.Author.Needs.{needs}
 use mathlib.Core.Path.{sym}
-use Rattle.flattener.proofs.Tabulates.{transitions-few, automata-few, states-few, entries-few, ready-as}
+use Rattle.flatten_tables.proofs.Tabulates.{transitions-few, automata-few, states-few, entries-few, ready-as}
 use Rattle.flattener.proofs.operation.flatten_checked.Statement.{statement}
 use Rattle.flattener.proofs.operation.flatten_checked.Tie as tie
 

@@ -1,4 +1,4 @@
-use Rattle.flattener.specs.File.{out2}
+use Rattle.flattening.specs.File.{out2}
 use Rattle.flattener.proofs.Writing.{wrote-then}
 use borrow.Author.Needs.{needs}
 use Rattle.flattener.proofs.write.put_short.Statement.{statement}

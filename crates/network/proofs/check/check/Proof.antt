@@ -2,7 +2,7 @@ use native.Mathlib.Omega.{arith}
 use Prim.Native.Nat.{_-_, _≤_, _<_, _^_}
 use lib.ListN.{length}
 use Rattle.expr.proofs.Places.{answered}
-use Rattle.network.specs.Answers.{headerOf}
+use Rattle.network.specs.Checks.{headerOf}
 use Rattle.network.proofs.Headers.{counts-at}
 use Rattle.network.proofs.Checking.{header-refused, checked-file, header-fits, rest-fits, finding-fits}
 use borrow.Author.Needs.{needs}

@@ -2,8 +2,7 @@ use mathlib.Core.Path.{sym, ap, _∙_}
 use Prim.Native.Nat.{ℕ}
 use lib.Dec.{eqb}
 use lib.ListN.{getD}
-use Rattle.network.specs.Network.{Location}
-use Rattle.network.specs.Machine.{urgentAt}
+use Rattle.network.specs.Network.{Location, urgentAt}
 use Rattle.network.proofs.Records.{no-location, urgent-byte}
 use borrow.Author.Needs.{needs}
 use Rattle.network.proofs.location.is_urgent.Statement.{statement}

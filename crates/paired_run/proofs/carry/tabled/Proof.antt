@@ -4,7 +4,7 @@ use native.Mathlib.Omega.{arith}
 use borrow.Author.Needs.{needs}
 use lib.ListN.{length, drop}
 use Rattle.expr.specs.Lists.{keep}
-use Rattle.flattener.specs.Choosing.{Kept}
+use Rattle.flatten_edges.specs.Choosing.{Kept}
 use Rattle.paired_run.proofs.Carrying.{isNumber, kept-first, kept-before}
 use Rattle.paired_run.proofs.carry.tabled.Statement.{statement}
 use Rattle.paired_run.proofs.carry.tabled.Tie as tie

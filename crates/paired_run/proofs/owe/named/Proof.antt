@@ -9,7 +9,7 @@ use Rattle.expr.proofs.Answer.{refused-not}
 use Rattle.expr.proofs.Places.{answered, part-onward}
 use Rattle.chart.specs.Laid.{Laid}
 use Rattle.chart.specs.Answers.{checkedOf}
-use Rattle.chart.proofs.Waits.{verdict-refused-at, verdict-done-at, chart-long}
+use Rattle.chart.proofs.Verdicts.{verdict-refused-at, verdict-done-at, chart-long}
 use borrow.Author.Needs.{needs}
 use Rattle.paired_run.proofs.owe.named.Statement.{statement}
 use Rattle.paired_run.proofs.owe.named.Tie as tie

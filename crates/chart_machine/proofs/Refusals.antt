@@ -1,0 +1,86 @@
+-- The refusals of a step and of a wait, in order.
+use mathlib.Core.Path.{_≡_, sym, ap, _∙_}
+use mathlib.Core.Bool.{Bool, true, false}
+use mathlib.Core.Logic.{_≢_}
+use mathlib.Core.List.{List, map}
+use Prim.Native.Nat.{ℕ, _≤_}
+use native.Mathlib.Omega.{arith}
+use borrow.Author.Tests.{lt-leb, le-leb}
+use lib.ListN.{length}
+use Rattle.expr.specs.Lists.{all}
+use Rattle.expr.specs.Clocks.{later, inLimit}
+use Rattle.expr.specs.Moves.{known, allowed}
+use Rattle.expr.specs.Answer.{done, refused, unless}
+use Rattle.chart.specs.Chart.{Chart, transitionAt, home}
+use Rattle.chart_machine.specs.Machine.{boundsKept, isConfiguration, activeTransition, after, tested, step, wait}
+use Rattle.chart.specs.Ready.{Ready}
+use Rattle.chart_machine.specs.Outcomes.{Grown}
+use Rattle.chart.specs.declared.header.Counts.{Counts}
+use Rattle.chart.specs.declared.table.Tree.{Tree}
+use Rattle.chart_machine.specs.declared.configuration.Configuration.{Configuration}
+
+pub grown-of : {rest : List ℕ} {n : Counts} {offsets : List ℕ} {tree : Tree} {c : Chart} → Ready rest n offsets tree c → Grown rest n tree c
+grown-of R = record { stated = R .laid .stated; tabled = R .tabled; parents = R .parents }
+
+-- 21
+module _ (c : Chart) (τ : Configuration) where
+  pub tested-broken : boundsKept c τ ≡ false → tested c τ ≡ refused 21
+  unfolding tested unless
+  tested-broken h = rw h
+
+  pub tested-kept : boundsKept c τ ≡ true → tested c τ ≡ done τ
+  unfolding tested unless
+  tested-kept h = rw h
+
+-- of a step
+module _ (c : Chart) (σ : Configuration) (ms : List ℕ) where
+  pub step-elsewhere : isConfiguration c σ ≡ false → step c σ ms ≡ refused 17
+  unfolding step unless
+  step-elsewhere g = rw g
+
+  module _ {n : ℕ} (e : length (c .transitions) ≡ n) (g : isConfiguration c σ ≡ true) where
+    pub step-unknown : known n ms ≡ false → step c σ ms ≡ refused 18
+    unfolding step unless
+    step-unknown k = rw (g, ap (λ (m : ℕ). known m ms) e ∙ k)
+
+    module _ (k : known n ms ≡ true) where
+      pub step-inactive : all (activeTransition c σ) (map (transitionAt c) ms) ≡ false → step c σ ms ≡ refused 19
+      unfolding step unless
+      step-inactive a = rw (g, ap (λ (m : ℕ). known m ms) e ∙ k, a)
+
+      module _ (a : all (activeTransition c σ) (map (transitionAt c) ms) ≡ true) {b : Bool}
+          (q : b ≡ allowed (λ m. transitionAt c m .label) (home c) (λ m. activeTransition c σ (transitionAt c m)) (length (c .transitions)) (c .rendezvous) ms) where
+        pub step-barred : b ≡ false → step c σ ms ≡ refused 20
+        unfolding step unless
+        step-barred z = rw (g, ap (λ (m : ℕ). known m ms) e ∙ k, a, sym q ∙ z)
+
+        pub step-taken : b ≡ true → step c σ ms ≡ tested c (after c (map (transitionAt c) ms) σ)
+        unfolding step unless
+        step-taken z = rw (g, ap (λ (m : ℕ). known m ms) e ∙ k, a, sym q ∙ z)
+
+-- of a wait
+module _ (c : Chart) (σ : Configuration) (d : ℕ) where
+  pub wait-elsewhere : isConfiguration c σ ≡ false → wait c σ d ≡ refused 17
+  unfolding wait unless
+  wait-elsewhere g = rw g
+
+  module _ (g : isConfiguration c σ ≡ true) where
+    pub wait-none : d ≡ 0 → wait c σ d ≡ refused 22
+    unfolding wait unless
+    wait-none z = rw (g, lt-leb 1 d (omega (arith, z)))
+
+    module _ (s : d ≢ 0) {n : ℕ} (e : c .clocks ≡ n) {b : Bool} (q : b ≡ inLimit n (later n d (σ .clocks))) where
+      some : 1 ≤ d
+      some = omega (arith, s)
+
+      limit : inLimit (c .clocks) (later (c .clocks) d (σ .clocks)) ≡ b
+      limit = ap (λ (m : ℕ). inLimit m (later m d (σ .clocks))) e ∙ sym q
+
+      pub wait-late : b ≡ false → wait c σ d ≡ refused 22
+      unfolding wait unless
+      wait-late z = rw (g, le-leb 1 d some, limit ∙ z)
+
+      pub wait-moved : b ≡ true → {cs : List ℕ} → cs ≡ later n d (σ .clocks) → wait c σ d ≡ tested c (record { active = σ .active; variables = σ .variables; clocks = cs })
+      unfolding wait unless
+      wait-moved z h = rw (g, le-leb 1 d some, limit ∙ z)
+          (ap (λ (l : List ℕ). tested c (record { active = σ .active; variables = σ .variables; clocks = l })) (ap (λ (m : ℕ). later m d (σ .clocks)) e ∙ sym h))

@@ -1,0 +1,34 @@
+-- The operations on a file, by what its check says.
+use mathlib.Core.Path.{_≡_}
+use mathlib.Core.List.{List}
+use Prim.Native.Nat.{ℕ}
+use Rattle.expr.specs.Answer.{done, refused, _>>=_}
+use Rattle.chart.specs.Chart.{Chart}
+use Rattle.chart.specs.Rules.{chartOf}
+use Rattle.chart_machine.specs.Machine.{start, step, wait, startOf, stepOf, waitOf}
+use Rattle.chart_machine.specs.declared.configuration.Configuration.{Configuration}
+
+module _ (file : List ℕ) where
+  pub start-refused : {k : ℕ} → chartOf file ≡ refused k → startOf file ≡ refused k
+  unfolding startOf _>>=_
+  start-refused h = rw h
+
+  pub start-passed : {c : Chart} → chartOf file ≡ done c → startOf file ≡ done (start c)
+  unfolding startOf _>>=_
+  start-passed h = rw h
+
+  pub step-refused : (σ : Configuration) (ms : List ℕ) {k : ℕ} → chartOf file ≡ refused k → stepOf file σ ms ≡ refused k
+  unfolding stepOf _>>=_
+  step-refused σ ms h = rw h
+
+  pub step-passed : (σ : Configuration) (ms : List ℕ) {c : Chart} → chartOf file ≡ done c → stepOf file σ ms ≡ step c σ ms
+  unfolding stepOf _>>=_
+  step-passed σ ms h = rw h
+
+  pub wait-refused : (σ : Configuration) (d : ℕ) {k : ℕ} → chartOf file ≡ refused k → waitOf file σ d ≡ refused k
+  unfolding waitOf _>>=_
+  wait-refused σ d h = rw h
+
+  pub wait-passed : (σ : Configuration) (d : ℕ) {c : Chart} → chartOf file ≡ done c → waitOf file σ d ≡ wait c σ d
+  unfolding waitOf _>>=_
+  wait-passed σ d h = rw h

@@ -1,0 +1,28 @@
+use mathlib.Core.Path.{sym, _∙_}
+use borrow.Author.Tests.{not-true, not-false}
+use Rattle.expr.specs.Lists.{implies}
+use Rattle.chart_machine.specs.Machine.{isActive}
+use borrow.Author.Needs.{needs}
+use Rattle.chart_machine.proofs.operation.bound_kept.Statement.{statement}
+use Rattle.chart_machine.proofs.operation.bound_kept.Tie as tie
+
+is-in-requires : tie.Need-is-in-requires
+is-in-requires c κs = search needs
+
+returns : tie.Need-returns
+unfolding isActive implies
+returns c = λ k σ S e f h. rw (e, sym (c .before .is-in .ensures) ∙ not-true _ (c .if1 .taken))
+
+bounds-of-requires : tie.Need-bounds-of-requires
+bounds-of-requires c κs = search needs
+
+keeps-requires : tie.Need-keeps-requires
+keeps-requires c κs = search needs
+
+returns-2 : tie.Need-returns-2
+unfolding isActive implies
+returns-2 c = λ k σ S e f h. rw (e, sym (c .before .before .before .is-in .ensures) ∙ not-false _ (c .before .before .if1 .left), f, ← c .before .bounds-of .ensures k S h) (c .keeps .ensures)
+
+pub bound-kept-spec : {M : Type 1} → statement M
+bound-kept-spec =
+    tie.close (tie.spec is-in-requires returns bounds-of-requires keeps-requires returns-2)

@@ -1,0 +1,69 @@
+use mathlib.Core.Path.{refl, sym, _∙_}
+use borrow.Author.Tests.{not-true, not-false}
+use Rattle.chart.specs.Chart.{stateAt, states}
+use Rattle.chart_machine.specs.Machine.{isConfiguration, boundsKept}
+use borrow.Author.Needs.{needs}
+use Rattle.chart_machine.proofs.operation.is_configuration.Statement.{statement}
+use Rattle.chart_machine.proofs.operation.is_configuration.Tie as tie
+
+is-tree-requires : tie.Need-is-tree-requires
+is-tree-requires c κs = search needs
+
+returns : tie.Need-returns
+unfolding isConfiguration
+returns c = λ k G. rw (sym (c .before .is-tree .ensures k (c .before .before .before .before .before .before .args .given) (G .tabled) (G .parents) refl) ∙ not-true _ (c .if1 .taken))
+
+cast-zeros-past : tie.Need-cast-zeros-past
+cast-zeros-past c = search needs
+
+zeros-past-requires : tie.Need-zeros-past-requires
+zeros-past-requires c κs = search needs
+
+returns-2 : tie.Need-returns-2
+unfolding isConfiguration
+returns-2 c = λ k G. rw (sym (c .before .before .before .before .is-tree .ensures k (c .before .before .before .before .before .before .before .before .before .args .given) (G .tabled) (G .parents) refl) ∙ not-false _ (c .before .before .before .if1 .left), G .stated .variables, sym (c .before .zeros-past .ensures) ∙ not-true _ (c .if2 .taken))
+
+cast-in-limit : tie.Need-cast-in-limit
+cast-in-limit c = search needs
+
+in-limit-requires : tie.Need-in-limit-requires
+in-limit-requires c κs = search needs
+
+returns-3 : tie.Need-returns-3
+unfolding isConfiguration
+returns-3 c = λ k G. rw (sym (c .before .before .before .before .before .before .before .is-tree .ensures k (c .before .before .before .before .before .before .before .before .before .before .before .before .args .given) (G .tabled) (G .parents) refl) ∙ not-false _ (c .before .before .before .before .before .before .if1 .left), G .stated .variables, sym (c .before .before .before .before .zeros-past .ensures) ∙ not-false _ (c .before .before .before .if2 .left), G .stated .clocks, sym (c .before .in-limit .ensures) ∙ not-true _ (c .if3 .taken))
+
+cast-zero-past : tie.Need-cast-zero-past
+cast-zero-past c = search needs
+
+zero-past-requires : tie.Need-zero-past-requires
+zero-past-requires c κs = search needs
+
+returns-4 : tie.Need-returns-4
+unfolding isConfiguration
+returns-4 c = λ k G. rw (sym (c .before .before .before .before .before .before .before .before .before .before .is-tree .ensures k (c .before .before .before .before .before .before .before .before .before .before .before .before .before .before .before .args .given) (G .tabled) (G .parents) refl) ∙ not-false _ (c .before .before .before .before .before .before .before .before .before .if1 .left), G .stated .variables, sym (c .before .before .before .before .before .before .before .zeros-past .ensures) ∙ not-false _ (c .before .before .before .before .before .before .if2 .left), G .stated .clocks, sym (c .before .before .before .before .in-limit .ensures) ∙ not-false _ (c .before .before .before .if3 .left), sym (c .before .zero-past .ensures) ∙ not-true _ (c .if4 .taken))
+
+bounds-kept-requires : tie.Need-bounds-kept-requires
+bounds-kept-requires c κs = search needs
+
+returns-5 : tie.Need-returns-5
+unfolding isConfiguration boundsKept stateAt states
+returns-5 c = λ k G. rw (sym (c .before .before .before .before .before .before .before .before .before .before .before .is-tree .ensures k (c .before .before .before .before .before .before .before .before .before .before .before .before .before .before .before .before .args .given) (G .tabled) (G .parents) refl) ∙ not-false _ (c .before .before .before .before .before .before .before .before .before .before .if1 .left), G .stated .variables, sym (c .before .before .before .before .before .before .before .before .zeros-past .ensures) ∙ not-false _ (c .before .before .before .before .before .before .before .if2 .left), G .stated .clocks, sym (c .before .before .before .before .before .in-limit .ensures) ∙ not-false _ (c .before .before .before .before .if3 .left), sym (c .before .before .zero-past .ensures) ∙ not-false _ (c .before .if4 .left)) (c .bounds-kept .ensures k (c .before .before .before .before .before .before .before .before .before .before .before .before .before .before .before .before .args .given) (G .stated) refl refl)
+
+pub is-configuration-spec : {M : Type 1} → statement M
+is-configuration-spec =
+    tie.close
+    (tie.spec
+    is-tree-requires
+    returns
+    cast-zeros-past
+    zeros-past-requires
+    returns-2
+    cast-in-limit
+    in-limit-requires
+    returns-3
+    cast-zero-past
+    zero-past-requires
+    returns-4
+    bounds-kept-requires
+    returns-5)

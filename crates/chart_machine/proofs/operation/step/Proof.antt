@@ -1,0 +1,72 @@
+use mathlib.Core.Path.{_≡_, sym, ap, _∙_, subst}
+use mathlib.Core.List.{List}
+use Prim.Native.Nat.{ℕ, _≤_}
+use native.Mathlib.Omega.{arith}
+use lib.ListN.{length}
+use Rattle.expr.specs.Answer.{done}
+use Rattle.expr.proofs.Places.{answered, part-onward}
+use Rattle.chart.specs.Chart.{Chart}
+use Rattle.chart.specs.Rules.{chartOf}
+use Rattle.chart.specs.Ready.{Ready}
+use Rattle.chart.specs.Answers.{checkedOf}
+use Rattle.chart_machine.specs.Outcomes.{outcomeOf}
+use Rattle.chart.proofs.Verdicts.{verdict-refused-at, verdict-done-at, chart-long}
+use Rattle.chart_machine.proofs.Waits.{step-refused, step-passed}
+use borrow.Author.Needs.{needs}
+use Rattle.chart_machine.proofs.operation.step.Statement.{statement}
+use Rattle.chart_machine.proofs.operation.step.Tie as tie
+
+chart : (c : tie.After-enum-told) → (k : Chart) × (chartOf (c .before .before .before .before .before .args .file .now) ≡ done k)
+chart c = verdict-done-at _ (answered checkedOf (c .before .before .checked .ensures .0) (c .enum-told .given .1))
+
+long : (c : tie.After-enum-told) → 11 ≤ length (c .before .before .before .before .before .args .file .now)
+long c = chart-long _ (chart c .1)
+
+checked-requires : tie.Need-checked-requires
+checked-requires c κs = search needs
+
+enum-told : tie.Need-enum-told
+enum-told c = search needs
+
+enum-told-2 : tie.Need-enum-told-2
+enum-told-2 c = search needs
+
+returns : tie.Need-returns
+unfolding outcomeOf
+returns c = rw (c .enum-told2 .given .1, step-refused _ _ _ (verdict-refused-at _ (answered checkedOf (c .before .before .checked .ensures .0) (c .enum-told2 .given .1))))
+
+sub-step-checked : tie.Need-sub-step-checked
+sub-step-checked c = omega (arith, long (c .before .before .before))
+
+part-step-checked-start : tie.Need-part-step-checked-start
+part-step-checked-start c = omega (arith, long (c .before .before .before))
+
+part-step-checked-end : tie.Need-part-step-checked-end
+part-step-checked-end c = search needs
+
+slice-aggregate-step-checked : tie.Need-slice-aggregate-step-checked
+slice-aggregate-step-checked c = search needs
+
+step-checked-requires : tie.Need-step-checked-requires
+step-checked-requires c κs = search needs
+
+returns-2 : tie.Need-returns-2
+returns-2 c = let d = chart (c .before .before .before .before .before .before) in
+    let f = c .before .before .before .before .before .before .before .before .checked in
+    c .step-checked .ensures (d .0) (subst (λ (l : List ℕ). Ready l (f .result .counts) (f .result .offsets) (f .result .tree) (d .0)) (sym (part-onward (c .before .before .before .before .before .before .before .before .before .before .before .args .file .now) 3)) (f .ensures .1 (d .0) (d .1)))
+    ∙ ap (outcomeOf _) (sym (step-passed _ _ _ (d .1)))
+
+pub step-spec : {M : Type 1} → statement M
+step-spec =
+    tie.close
+    (tie.spec
+    checked-requires
+    enum-told
+    enum-told-2
+    returns
+    sub-step-checked
+    part-step-checked-start
+    part-step-checked-end
+    slice-aggregate-step-checked
+    step-checked-requires
+    returns-2)

@@ -1,0 +1,68 @@
+use mathlib.Core.Path.{_≡_, sym, ap, _∙_, subst}
+use mathlib.Core.List.{List}
+use Prim.Native.Nat.{ℕ, _≤_}
+use native.Mathlib.Omega.{arith}
+use lib.ListN.{length}
+use Rattle.expr.specs.Answer.{done}
+use Rattle.expr.proofs.Places.{answered, part-onward}
+use Rattle.chart.specs.Chart.{Chart}
+use Rattle.chart.specs.Rules.{chartOf}
+use Rattle.chart.specs.Layout.{Stated}
+use Rattle.chart.specs.Answers.{checkedOf}
+use Rattle.chart_machine.specs.Outcomes.{outcomeOf}
+use Rattle.chart.proofs.Verdicts.{verdict-refused-at, verdict-done-at, chart-long}
+use Rattle.chart_machine.proofs.Waits.{wait-refused, wait-passed}
+use borrow.Author.Needs.{needs}
+use Rattle.chart_machine.proofs.operation.wait.Statement.{statement}
+use Rattle.chart_machine.proofs.operation.wait.Tie as tie
+
+chart : (c : tie.After-enum-told) → (k : Chart) × (chartOf (c .before .before .before .before .args .file .now) ≡ done k)
+chart c = verdict-done-at _ (answered checkedOf (c .before .before .checked .ensures .0) (c .enum-told .given .1))
+
+long : (c : tie.After-enum-told) → 11 ≤ length (c .before .before .before .before .args .file .now)
+long c = chart-long _ (chart c .1)
+
+checked-requires : tie.Need-checked-requires
+checked-requires c κs = search needs
+
+enum-told : tie.Need-enum-told
+enum-told c = search needs
+
+enum-told-2 : tie.Need-enum-told-2
+enum-told-2 c = search needs
+
+returns : tie.Need-returns
+unfolding outcomeOf
+returns c = rw (c .enum-told2 .given .1, wait-refused _ _ _ (verdict-refused-at _ (answered checkedOf (c .before .before .checked .ensures .0) (c .enum-told2 .given .1))))
+
+sub-wait-checked : tie.Need-sub-wait-checked
+sub-wait-checked c = omega (arith, long (c .before .before))
+
+part-wait-checked-start : tie.Need-part-wait-checked-start
+part-wait-checked-start c = omega (arith, long (c .before .before))
+
+part-wait-checked-end : tie.Need-part-wait-checked-end
+part-wait-checked-end c = search needs
+
+wait-checked-requires : tie.Need-wait-checked-requires
+wait-checked-requires c κs = search needs
+
+returns-2 : tie.Need-returns-2
+returns-2 c = let d = chart (c .before .before .before .before) in
+    let R = c .before .before .before .before .before .before .checked .ensures .1 (d .0) (d .1) in
+    c .wait-checked .ensures (d .0) (record { stated = subst (λ (l : List ℕ). Stated l (c .before .before .before .before .before .before .checked .result .counts) (d .0)) (sym (part-onward (c .before .before .before .before .before .before .before .before .args .file .now) 3)) (R .laid .stated); tabled = R .tabled; parents = R .parents })
+    ∙ ap (outcomeOf _) (sym (wait-passed _ _ _ (d .1)))
+
+pub wait-spec : {M : Type 1} → statement M
+wait-spec =
+    tie.close
+    (tie.spec
+    checked-requires
+    enum-told
+    enum-told-2
+    returns
+    sub-wait-checked
+    part-wait-checked-start
+    part-wait-checked-end
+    wait-checked-requires
+    returns-2)

@@ -1,0 +1,221 @@
+// The chart machine: start, step and wait.
+ghost use mathlib.Core.Path.{_≡_};
+ghost use Prim.Native.Nat.{_<_};
+ghost use Rattle.chart.specs.Chart.{Chart};
+ghost use Rattle.chart.specs.Layout.{Stated};
+ghost use Rattle.chart_machine.specs.Machine.{boundsKept, isConfiguration, tested, step, wait, startOf, stepOf, waitOf};
+ghost use Rattle.chart_machine.specs.Outcomes.{outcomeOf, zeroConfiguration, boundKept, Grown};
+ghost use Rattle.chart_machine.specs.declared.configuration.Configuration.{Configuration as Given};
+ghost use Rattle.chart.specs.Ready.{Ready};
+ghost use Rattle.expr.specs.Answer.{refused};
+use crate::activity::is_tree;
+use crate::allowed::all_active;
+use crate::allowed::is_allowed;
+use crate::configuration::Configuration;
+use crate::taken;
+use chart::check::checked;
+use chart::header::Counts;
+use chart::rule::Checked;
+use chart::state::bounds_of;
+use chart::table::Tree;
+use chart::table::is_in;
+
+// Passed, with the next configuration; or refused, with the one given.
+pub struct Outcome {
+    pub answer: Checked,
+    pub configuration: Configuration,
+}
+
+// Whether the state's bounds are kept, if it is active.
+fn bound_kept(rest: &[u8], counts: Counts, active: &[bool], clocks: [u32; 8], s: u8) -> bool
+    ensures { λ r. ⌜ ((c : Chart) (σ : Given) → Stated (now (rest .entry)) counts c → σ .active ≡ now (active .entry) → σ .clocks ≡ clocks → s < counts .states → r ≡ boundKept c σ s) ⌝ }
+{
+    if !is_in(active, s as usize) {
+        return true;
+    }
+    let bounds = bounds_of(rest, counts, s);
+    expr::clock::keeps(bounds, clocks)
+}
+
+// Whether the bounds of all active states are kept.
+fn bounds_kept(rest: &[u8], counts: Counts, active: [bool; 48], clocks: [u32; 8]) -> bool
+    ensures { λ r. ⌜ ((c : Chart) (σ : Given) → Stated (now (rest .entry)) counts c → σ .active ≡ active → σ .clocks ≡ clocks → r ≡ boundsKept c σ) ⌝ }
+{
+    let mut s = 0;
+    while s < counts.states {
+        if !bound_kept(rest, counts, &active, clocks, s) {
+            return false;
+        }
+        s += 1;
+    }
+    true
+}
+
+// 17
+fn is_configuration(rest: &[u8], counts: Counts, tree: Tree, given: Configuration) -> bool
+    ensures { λ r. ⌜ ((c : Chart) → Grown (now (rest .entry)) counts tree c → r ≡ isConfiguration c given) ⌝ }
+{
+    let active = given.active;
+    let variables = given.variables;
+    let clocks = given.clocks;
+    if !is_tree(tree, active) {
+        return false;
+    }
+    if !expr::clock::zeros_past(counts.variables as usize, variables) {
+        return false;
+    }
+    if !expr::clock::in_limit(counts.clocks as usize, clocks) {
+        return false;
+    }
+    if !expr::clock::zero_past(counts.clocks as usize, clocks) {
+        return false;
+    }
+    bounds_kept(rest, counts, active, clocks)
+}
+
+fn refuse(k: u8, given: Configuration) -> Outcome
+    ensures { λ r. ⌜ r ≡ outcomeOf given (refused k) ⌝ }
+{
+    Outcome {
+        answer: Checked::Refused(k),
+        configuration: given,
+    }
+}
+
+// The next configuration, or 21 and the one given where a bound is broken.
+fn tested(rest: &[u8], counts: Counts, given: Configuration, next: Configuration) -> Outcome
+    ensures { λ r. ⌜ ((c : Chart) → Stated (now (rest .entry)) counts c → r ≡ outcomeOf given (tested c next)) ⌝ }
+{
+    let active = next.active;
+    let clocks = next.clocks;
+    if !bounds_kept(rest, counts, active, clocks) {
+        return refuse(21, given);
+    }
+    Outcome {
+        answer: Checked::Passed,
+        configuration: next,
+    }
+}
+
+// The transitions of the list are taken.
+fn step_checked(
+    rest: &[u8],
+    counts: Counts,
+    offsets: &[u32],
+    tree: Tree,
+    given: Configuration,
+    list: &[u16],
+) -> Outcome
+    ensures { λ r. ⌜ ((c : Chart) → Ready (now (rest .entry)) counts (now (offsets .entry)) tree c → r ≡ outcomeOf given (step c given (now (list .entry)))) ⌝ }
+{
+    if !is_configuration(rest, counts, tree, given) {
+        return refuse(17, given);
+    }
+    if !expr::step::known(list, counts.transitions as usize) {
+        return refuse(18, given);
+    }
+    if !all_active(rest, counts, offsets, tree, given, list) {
+        return refuse(19, given);
+    }
+    if !is_allowed(rest, counts, offsets, tree, given, list) {
+        return refuse(20, given);
+    }
+    let next = taken::after(rest, counts, offsets, tree, given, list);
+    tested(rest, counts, given, next)
+}
+
+// So many ticks later.
+fn wait_checked(
+    rest: &[u8],
+    counts: Counts,
+    tree: Tree,
+    given: Configuration,
+    ticks: u32,
+) -> Outcome
+    ensures { λ r. ⌜ ((c : Chart) → Grown (now (rest .entry)) counts tree c → r ≡ outcomeOf given (wait c given ticks)) ⌝ }
+{
+    if !is_configuration(rest, counts, tree, given) {
+        return refuse(17, given);
+    }
+    if ticks == 0 {
+        return refuse(22, given);
+    }
+    let active = given.active;
+    let variables = given.variables;
+    let clocks = given.clocks;
+    let delayed = expr::clock::later(counts.clocks as usize, ticks, clocks);
+    let within = delayed.within;
+    if !within {
+        return refuse(22, given);
+    }
+    let after = delayed.clocks;
+    let moved = Configuration {
+        active,
+        variables,
+        clocks: after,
+    };
+    tested(rest, counts, given, moved)
+}
+
+fn zero_configuration() -> Configuration
+    ensures { λ r. ⌜ r ≡ zeroConfiguration ⌝ }
+{
+    Configuration {
+        active: [false; Configuration::STATES],
+        variables: [0; Configuration::VARIABLES],
+        clocks: [0; Configuration::CLOCKS],
+    }
+}
+
+// The configuration that a chart starts in.
+pub fn start(file: &[u8]) -> Outcome
+    ensures { λ r. ⌜ r ≡ outcomeOf zeroConfiguration (startOf (now (file .entry))) ⌝ }
+{
+    let f = checked(file);
+    let verdict = f.verdict;
+    let Checked::Passed = verdict else {
+        return Outcome {
+            answer: verdict,
+            configuration: zero_configuration(),
+        };
+    };
+    Outcome {
+        answer: Checked::Passed,
+        configuration: Configuration::start(f.tree),
+    }
+}
+
+// The transitions of the list are taken, for a file.
+pub fn step(file: &[u8], given: Configuration, list: &[u16]) -> Outcome
+    ensures { λ r. ⌜ r ≡ outcomeOf given (stepOf (now (file .entry)) given (now (list .entry))) ⌝ }
+{
+    let f = checked(file);
+    let verdict = f.verdict;
+    let Checked::Passed = verdict else {
+        return Outcome {
+            answer: verdict,
+            configuration: given,
+        };
+    };
+    let counts = f.counts;
+    let offsets = f.offsets;
+    let tree = f.tree;
+    step_checked(&file[3..file.len()], counts, &offsets, tree, given, list)
+}
+
+// So many ticks later, for a file.
+pub fn wait(file: &[u8], given: Configuration, ticks: u32) -> Outcome
+    ensures { λ r. ⌜ r ≡ outcomeOf given (waitOf (now (file .entry)) given ticks) ⌝ }
+{
+    let f = checked(file);
+    let verdict = f.verdict;
+    let Checked::Passed = verdict else {
+        return Outcome {
+            answer: verdict,
+            configuration: given,
+        };
+    };
+    let counts = f.counts;
+    let tree = f.tree;
+    wait_checked(&file[3..file.len()], counts, tree, given, ticks)
+}

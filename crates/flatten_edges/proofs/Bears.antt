@@ -1,0 +1,161 @@
+-- Laws of the edges that bear transitions.
+use mathlib.Core.Path.{_≡_, refl, sym, ap, _∙_, subst}
+use mathlib.Core.Bool.{Bool, true, false, cond, not, _&&_}
+use mathlib.Core.List.{List, [], _∷_, map, List·Memᴰ as Mem}
+use Prim.Native.Nat.{ℕ, _+_, _^_, _≤_, _<_}
+use native.Mathlib.Omega.{arith}
+use native.Mathlib.Decide.{decLt}
+use borrow.Author.Tests.{eq-eqb, ne-eqb, lt-ltb}
+use lib.Bits as Words
+use lib.Dec.{eqb, ltb}
+use lib.ListN.{length, getD, take, length-map}
+use lib.Seq.{getD-take}
+use Rattle.expr.specs.Lists.{has, concat}
+use Rattle.expr.specs.Label.{Label}
+use Rattle.expr.proofs.Bools.{clash, not-yes}
+use Rattle.expr.proofs.Lists.{getD-mem}
+use Rattle.expr.proofs.Bits.{has-ext, has-and, has-bits, has-high}
+use Rattle.chart.specs.Chart.{Chart, transitionAt, basic}
+use Rattle.chart.specs.Tree.{sequentials}
+use Rattle.chart.specs.Table.{Tabled}
+use Rattle.chart.specs.Laid.{Laid}
+use Rattle.chart.specs.declared.header.Counts.{Counts}
+use Rattle.chart.proofs.Tree.{size}
+use Rattle.chart.proofs.Rules.{Passed}
+use Rattle.chart.proofs.Ranges.{Ranges}
+use Rattle.network.specs.Network.{Edge}
+use Rattle.flattening.specs.Flatten.{Place, child, hasExit, allPlaces, number, atExit, initialPlace, choicesFrom, alternatives, onValues, edge, bearing}
+use Rattle.flattening.proofs.Numbers.{all-places-by}
+use Rattle.flattening.proofs.Arrivals.{ends, source-composite, exit-lt, source-place}
+use Rattle.flattening.proofs.Printable.{alternative-lt}
+use Rattle.flatten_tables.specs.Tables.{Chartered, Automated}
+use Rattle.flatten_tables.specs.Walking.{Tabulated, Spread}
+use Rattle.flatten_tables.specs.declared.walk.Tables.{Tables}
+use Rattle.flatten_tables.proofs.Chartered.{passed-of, ranges-of}
+use Rattle.flatten_edges.specs.Choosing.{Held}
+use Rattle.flatten_edges.specs.Gathering.{headOf}
+use Rattle.flatten_edges.specs.Adding.{Adds}
+use Rattle.flatten_edges.specs.Ends.{Flagged, Joins, Signalled, startOff}
+use Rattle.flatten_edges.specs.Bearing.{BearsEach}
+use Rattle.flatten_edges.specs.declared.flag.Ends.{Ends}
+use Rattle.flatten_edges.specs.declared.flag.Signals.{Signals}
+use Rattle.flatten_edges.specs.declared.head.Head.{Head}
+use Rattle.flatten_edges.specs.declared.alternative.Sets.{Sets}
+use Rattle.flatten_edges.proofs.Gathers.{walk-more, walk-all, adds-over}
+use Rattle.flatten_edges.proofs.Walks.{flagged-of}
+
+-- the values that mean "at", of a set of automata
+pub needed-bits : (c : Chart) (e x : ℕ) → x < 2 ^ length (sequentials c) → length (sequentials c) ≤ 16 → Words.bitAnd x (startOff c e) ≡ onValues c e x
+unfolding startOff onValues
+needed-bits c e x h l = has-ext _ _ (λ a. has-and x _ a ∙ ap (λ (b : Bool). has x a && b) (has-bits f n a) ∙ go a (has x a) refl ∙ sym (has-bits (λ a. has x a && f a) 16 a))
+  where
+    n : ℕ
+    n = length (sequentials c)
+
+    f : ℕ → Bool
+    f a = not (atExit c (initialPlace c (getD (sequentials c) a 0)) e)
+
+    none : (b : Bool) → false ≡ (b && false)
+    none true = refl
+    none false = refl
+
+    go : (a : ℕ) (b : Bool) → has x a ≡ b → (b && (ltb a n && f a)) ≡ (ltb a 16 && (b && f a))
+    go a true z = elim (decLt a n) [
+      | yes k ↦ rw (lt-ltb a n k, lt-ltb a 16 (omega arith))
+      | no k ↦ clash z (has-high n x a h (omega arith))
+    ]
+    go a false z = none (ltb a 16)
+
+-- an edge for each set
+abbrev pub setEdge : Chart → Place → Place → Label → ℕ → ℕ → ℕ → List Edge
+setEdge c p q l transition exit x = edge c p q transition exit x l ∷ []
+
+map-ones : {A B : Type 0} (f : A → B) (xs : List A) → concat (λ x. f x ∷ []) xs ≡ map f xs
+unfolding concat
+map-ones f [] = refl
+map-ones f (x ∷ xs) = ap (λ l. f x ∷ l) (map-ones f xs)
+
+module _ (c : Chart) (p q : Place) (l : Label) (xs : List ℕ) (e : Ends) (s : Signals) (transition exit off : ℕ) (sets : List ℕ) (size : ℕ) (B : BearsEach c p q l xs e s exit off sets size) where
+  pub set-more : (k tested needed : ℕ) {h : Head} {b g j : List ℕ} {n m i : ℕ} → Adds b n g m (concat (setEdge c p q l transition exit) (take k xs)) → k < size → tested ≡ getD sets k 0 → needed ≡ Words.bitAnd tested off
+      → ((c : Chart) (p q : Place) (l : Label) → Joins c p q e → Signalled l s → needed ≡ cond (eqb exit 255) 0 (onValues c exit tested) → h ≡ headOf (edge c p q transition exit tested l))
+      → ((e : Edge) → h ≡ headOf e → Adds g m j i (e ∷ [])) → Adds b n j i (concat (setEdge c p q l transition exit) (take (k + 1) xs))
+  set-more k tested needed {g = g} {j = j} {m = m} {i = i} W z t d H A =
+      let known : k < length xs = omega (arith, B .counted) in
+      let x : tested ≡ getD xs k 0 = t ∙ sym (getD-take size sets k 0 z) ∙ ap (λ (y : List ℕ). getD y k 0) (B .stand) in
+      let small : tested < 2 ^ length (sequentials c) = subst (λ (y : ℕ). y < 2 ^ length (sequentials c)) (sym x) (B .small _ (getD-mem xs k 0 known)) in
+      let value : needed ≡ cond (eqb exit 255) 0 (onValues c exit tested) = d ∙ ap (Words.bitAnd tested) (B .off-is) ∙ needed-bits c exit tested small (B .automata-few) ∙ rw (ne-eqb exit 255 (λ y. omega (arith, B .exit-known))) in
+      walk-more (setEdge c p q l transition exit) xs k 0 W known (subst (λ (y : ℕ). Adds g m j i (setEdge c p q l transition exit y)) x (A _ (H c p q l (B .joins) (B .signals) value)))
+
+  pub set-all : (k : ℕ) {b g : List ℕ} {n m : ℕ} → Adds b n g m (concat (setEdge c p q l transition exit) (take k xs)) → size ≤ k → Adds b n g m (map (λ x. edge c p q transition exit x l) xs)
+  set-all k {b} {g} {n} {m} W z = subst (Adds b n g m) (map-ones (λ x. edge c p q transition exit x l) xs) (walk-all (setEdge c p q l transition exit) xs k W (omega (arith, B .counted)))
+
+module _ (c : Chart) (t : Tables) (exits homes : List ℕ) (T : Tabulated c t) (S : Spread c exits homes) (counts : Counts) (rest offsets : List ℕ) (L : Laid rest counts offsets c)
+    (u : ℕ) (h : u < length (c .transitions)) (i j : ℕ) (q : Place) (f : i ≡ number c (child (transitionAt c u .source))) (g : j ≡ number c q) (m : Mem q (allPlaces c)) {e : Ends} {s : Signals}
+    (J : (c : Chart) (p q : Place) → Flagged c exits homes (t .initials) → Mem p (allPlaces c) → Mem q (allPlaces c) → i ≡ number c p → j ≡ number c q → Joins c p q e)
+    (G : (c : Chart) (n : Counts) → Laid rest n offsets c → u < n .transitions → Signalled (transitionAt c u .label) s)
+    (exit : ℕ) (x : exit ≡ getD (t .transitions .exits) u 0) where
+  passed : Passed c
+  passed = passed-of (T .chart)
+
+  ranges : Ranges c
+  ranges = ranges-of (T .chart)
+
+  joins : Joins c (child (transitionAt c u .source)) q e
+  joins = J c _ q (flagged-of c t exits homes T S) (all-places-by c (source-place c passed ranges u h .is-place)) m f g
+
+  signals : Signalled (transitionAt c u .label) s
+  signals = G c counts L (omega (arith, L .transitions))
+
+  exit-is : exit ≡ transitionAt c u .exit
+  exit-is = x ∙ T .transitions .exit u h
+
+  -- without an exit there is one edge
+  pub bear-none : {b k : List ℕ} {n d : ℕ} {w : Head} → exit ≡ 255
+      → ((c : Chart) (p q : Place) (l : Label) → Joins c p q e → Signalled l s → 0 ≡ cond (eqb 255 255) 0 (onValues c 255 0) → w ≡ headOf (edge c p q u 255 0 l))
+      → ((e : Edge) → w ≡ headOf e → Adds b n k d (e ∷ [])) → Adds b n k d (bearing c q u)
+  unfolding bearing hasExit
+  bear-none {b} {k} {n} {d} z H A = rw (eq-eqb (transitionAt c u .exit) 255 (sym exit-is ∙ z)) (A _ (H c _ q _ joins signals refl))
+
+  module _ (some : exit ≡ 255 → ⊥) where
+    has-exit : hasExit c u ≡ true
+    unfolding hasExit
+    has-exit = not-yes (ne-eqb (transitionAt c u .exit) 255 (λ z. some (exit-is ∙ z)))
+
+    all-sets : bearing c q u ≡ map (λ x. edge c (child (transitionAt c u .source)) q u exit x (transitionAt c u .label)) (alternatives c (transitionAt c u .source) (transitionAt c u .exit))
+    unfolding bearing
+    all-sets = rw has-exit (ap (λ (y : ℕ). map (λ x. edge c (child (transitionAt c u .source)) q u y x (transitionAt c u .label)) (alternatives c (transitionAt c u .source) (transitionAt c u .exit))) (sym exit-is))
+
+    module _ {source : ℕ} {sets : Sets} (from : source ≡ getD (t .transitions .sources) u 0)
+        (A : (c : Chart) → Chartered c → Tabled c (t .tree) → Automated c (t .automata) → source < size c → basic c source ≡ false → Held sets (choicesFrom (size c) c exit source)) where
+      source-is : source ≡ transitionAt c u .source
+      source-is = from ∙ T .transitions .source u h
+
+      held : Held sets (choicesFrom (size c) c (transitionAt c u .exit) (transitionAt c u .source))
+      held = subst (λ (y : ℕ). Held sets (choicesFrom (size c) c y (transitionAt c u .source))) exit-is (subst (λ (y : ℕ). Held sets (choicesFrom (size c) c exit y)) source-is
+          (A c (T .chart) (T .tree) (T .automata) (omega (arith, source-is, ends c passed ranges u h .from .known)) (ap (basic c) source-is ∙ source-composite c passed ranges u h has-exit)))
+
+      -- too many sets
+      pub bear-over : (b : List ℕ) (n : ℕ) → sets .over ≡ true → Adds b n b 1025 (bearing c q u)
+      unfolding alternatives
+      bear-over b n o = subst (Adds b n b 1025) (sym all-sets) (adds-over b n _ (simp length-map (held .more o)))
+
+      -- an edge for each set
+      pub bear-some : {b k : List ℕ} {n d off : ℕ} → sets .over ≡ false
+          → ((c : Chart) (homes : List ℕ) → Flagged c exits homes (t .initials) → t .automata .count ≡ length (sequentials c) → exit < 8 → off ≡ startOff c exit)
+          → ((c : Chart) (p q : Place) (l : Label) (xs : List ℕ) → BearsEach c p q l xs e s exit off (sets .items) (sets .count) → Adds b n k d (map (λ x. edge c p q u exit x l) xs))
+          → Adds b n k d (bearing c q u)
+      unfolding alternatives
+      bear-some {b} {k} {n} {d} {off} o O B =
+          let w = held .whole o in
+          let known : exit < 8 = omega (arith, exit-is, exit-lt c passed ranges u h has-exit, ranges .exits-few) in
+          subst (Adds b n k d) (sym all-sets) (B c _ q _ _ (record {
+            joins = joins;
+            signals = signals;
+            exit-known = known;
+            off-is = O c homes (flagged-of c t exits homes T S) (T .automata .count) known;
+            automata-few = passed .at-most;
+            few = omega (arith, w .0, w .1);
+            counted = w .0;
+            stand = w .2;
+            small = λ y k. alternative-lt c passed ranges u h has-exit k;
+          }))

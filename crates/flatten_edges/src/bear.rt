@@ -1,0 +1,106 @@
+// The edges that bear transitions.
+ghost use mathlib.Core.Path.{_≡_};
+ghost use mathlib.Core.List.{List, map, List·Memᴰ as Mem};
+ghost use Prim.Native.Nat.{ℕ, _<_};
+ghost use lib.ListN.{length};
+ghost use Rattle.expr.specs.Label.{Label};
+ghost use Rattle.chart.specs.Chart.{Chart, transitionAt};
+ghost use Rattle.chart.specs.Laid.{Laid};
+ghost use Rattle.chart.specs.declared.header.Counts.{Counts};
+ghost use Rattle.flattening.specs.Flatten.{Place, child, allPlaces, number, edge, bearing};
+ghost use Rattle.flatten_tables.specs.Walking.{Tabulated, Spread};
+ghost use Rattle.flatten_edges.specs.Adding.{Adds};
+ghost use Rattle.flatten_edges.specs.Ends.{Signalled};
+ghost use Rattle.flatten_edges.specs.Bearing.{BearsEach};
+use crate::alternative::alternatives;
+use crate::flag::Ends;
+use crate::flag::Signals;
+use crate::flag::bearing_head;
+use crate::flag::joining;
+use crate::flag::start_off;
+use crate::head::push;
+use chart::transition::channel_of;
+use chart::transition::resets_of;
+use chart::transition::signal_of;
+use flatten_tables::walk::Tables;
+use flatten_tables::walk::of_transition;
+
+// What a transition's label has before its body.
+fn signals_of(rest: &[u8], offsets: &[u32], t: u8) -> Signals
+    ensures { λ r. ⌜ ((c : Chart) (n : Counts) → Laid (now (rest .entry)) n (now (offsets .entry)) c → t < n .transitions → Signalled (transitionAt c t .label) r) ⌝ }
+{
+    Signals {
+        signal: signal_of(rest, offsets, t),
+        channel: channel_of(rest, offsets, t),
+        resets: resets_of(rest, offsets, t),
+    }
+}
+
+// The edges that bear a transition and test a set each, of so many sets; off is where the automata's first places are not
+// at the exit.
+fn bear_each(
+    heads: &mut [u8; 13312],
+    count: u16,
+    e: Ends,
+    s: Signals,
+    transition: u8,
+    exit: u8,
+    off: u16,
+    sets: &[u16; 1024],
+    size: u16,
+) -> u16
+    ensures { λ r. ⌜ ((c : Chart) (p q : Place) (l : Label) (xs : List ℕ) → BearsEach c p q l xs e s exit off (now (sets .entry)) size → Adds (now (heads .entry)) count (now (heads .exit)) r (map (λ x. edge c p q transition exit x l) xs)) ⌝ }
+{
+    if size > 1024 {
+        return count;
+    }
+    let mut n = count;
+    let mut k = 0;
+    while k < size {
+        let tested = sets[k as usize];
+        let h = bearing_head(e, s, transition, exit, tested, tested & off);
+        n = push(heads, n, h);
+        k += 1;
+    }
+    n
+}
+
+// The edges that bear the transition u: from its source, whose number is i, to the place with the number j. Where there
+// are too many edges already, no set is looked for.
+pub fn bear(
+    heads: &mut [u8; 13312],
+    count: u16,
+    t: Tables,
+    exits: &[u8; 192],
+    homes: &[u8; 192],
+    rest: &[u8],
+    offsets: &[u32],
+    i: u8,
+    j: u8,
+    u: u8,
+) -> u16
+    ensures { λ r. ⌜ ((c : Chart) (n : Counts) (q : Place) → Tabulated c t → Spread c (now (exits .entry)) (now (homes .entry)) → Laid (now (rest .entry)) n (now (offsets .entry)) c → u < length (c .transitions) → i ≡ number c (child (transitionAt c u .source)) → j ≡ number c q → Mem q (allPlaces c) → Adds (now (heads .entry)) count (now (heads .exit)) r (bearing c q u)) ⌝ }
+{
+    if count > 1024 {
+        return 1025;
+    }
+    let transitions = t.transitions;
+    let sources = transitions.sources;
+    let left_by = transitions.exits;
+    let initials = t.initials;
+    let e = joining(exits, homes, &initials, i, j);
+    let s = signals_of(rest, offsets, u);
+    let exit = of_transition(&left_by, u);
+    if exit == 255 {
+        return push(heads, count, bearing_head(e, s, u, 255, 0, 0));
+    }
+    let tree = t.tree;
+    let automata = t.automata;
+    let off = start_off(exits, &initials, automata.count, exit);
+    let sets = alternatives(tree, automata, of_transition(&sources, u), exit);
+    if sets.over {
+        return 1025;
+    }
+    let items = sets.items;
+    bear_each(heads, count, e, s, u, exit, off, &items, sets.count)
+}

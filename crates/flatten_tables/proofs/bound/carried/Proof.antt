@@ -1,0 +1,30 @@
+use borrow.Author.Needs.{needs}
+use Rattle.flatten_tables.proofs.Bounding.{carried-first, carried-none, carried-join}
+use Rattle.flatten_tables.proofs.bound.carried.Statement.{statement}
+use Rattle.flatten_tables.proofs.bound.carried.Tie as tie
+
+returns : tie.Need-returns
+returns c d R K h e f = carried-first d R (c .before .before .before .args .kinds .now) K _ h (c .if1 .taken) e
+
+byte-at-requires : tie.Need-byte-at-requires
+byte-at-requires c κs = search needs
+
+cast-q : tie.Need-cast-q
+cast-q c = search needs
+
+byte-at-requires-2 : tie.Need-byte-at-requires-2
+byte-at-requires-2 c κs = search needs
+
+returns-2 : tie.Need-returns-2
+returns-2 c d R K h e f = carried-none d R (c .before .before .before .before .before .before .args .kinds .now) K _ h (c .before .before .before .if1 .left) (c .before .before .byte-at .ensures) (c .before .byte-at2 .ensures) (c .if2 .taken)
+
+join-requires : tie.Need-join-requires
+join-requires c κs = search needs
+
+returns-3 : tie.Need-returns-3
+returns-3 c d R K h e f = carried-join d R (c .before .before .before .before .before .before .before .args .kinds .now) K _ h (c .before .before .before .before .if1 .left) (c .before .before .before .byte-at .ensures) (c .before .before .byte-at2 .ensures) (c .before .if2 .left) e f (c .join .ensures)
+
+pub carried-spec : {M : Type 1} → statement M
+carried-spec =
+    tie.close
+    (tie.spec returns byte-at-requires cast-q byte-at-requires-2 returns-2 join-requires returns-3)

@@ -1,0 +1,24 @@
+use borrow.Author.Needs.{needs}
+use mathlib.Core.Path.{refl}
+use Rattle.flatten_tables.proofs.Tabulates.{channels-small, enters-small, leaves-small, entering-small, summed}
+use Rattle.flatten_tables.proofs.tabulate.summary_of.Statement.{statement}
+use Rattle.flatten_tables.proofs.tabulate.summary_of.Tie as tie
+
+channel-of-requires : tie.Need-channel-of-requires
+channel-of-requires c κs = search needs
+
+channel-of-requires-2 : tie.Need-channel-of-requires-2
+channel-of-requires-2 c κs = search needs
+
+returns : tie.Need-returns
+returns c = (
+  λ d file S t l.
+      let e = enters-small d S (c .before .before .before .before .before .before .before .before .args .t) (c .before .before .before .before .before .before .before .before .args .places) t l in
+      let f = leaves-small d S (c .before .before .before .before .before .before .before .before .args .t) (c .before .before .before .before .before .before .before .before .args .places) t l in
+      let first = c .before .channel-of .ensures (channels-small d S .1) e in
+      summed d S (c .before .before .before .before .before .before .before .before .args .t) (c .before .before .before .before .before .before .before .before .args .places) t l first (c .channel-of2 .ensures (entering-small d S (c .before .before .before .before .before .before .before .before .args .t) (c .before .before .before .before .before .before .before .before .args .places) t l first) f),
+  (refl, refl),
+)
+
+pub summary-of-spec : {M : Type 1} → statement M
+summary-of-spec = tie.close (tie.spec channel-of-requires channel-of-requires-2 returns)

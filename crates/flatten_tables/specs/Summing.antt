@@ -1,0 +1,21 @@
+-- What the code has of a chart when it writes the network.
+use Prim.Native.Nat.{_+_}
+use mathlib.Core.Path.{_≡_}
+use lib.ListN.{length}
+use Rattle.chart.specs.Chart.{Chart}
+use Rattle.chart.specs.Tree.{sequentials}
+use Rattle.flattening.specs.Flatten.{allPlaces, enterPairs, exitPairs}
+use Rattle.flatten_tables.specs.Tables.{Chartered, Columned, Listed}
+use Rattle.flatten_tables.specs.Numbering.{Starting}
+use Rattle.flatten_tables.specs.declared.summary.Summary.{Summary}
+
+pub record Summed (c : Chart) (s : Summary) : Type 0 where
+  pub chartered : Chartered c
+  pub clocks : s .counts .clocks ≡ c .clocks
+  pub variables : s .counts .variables ≡ c .variables
+  pub rendezvous : s .counts .rendezvous ≡ c .rendezvous
+  pub columned : Columned c (s .transitions)
+  pub listed : Listed c (allPlaces c) (s .places)
+  pub starting : Starting c (s .initials)
+  pub automata : s .automata ≡ length (sequentials c)
+  pub broadcasts : s .broadcasts ≡ c .broadcasts + length (enterPairs c) + length (exitPairs c)

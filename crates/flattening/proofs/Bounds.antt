@@ -1,0 +1,337 @@
+-- Laws of bounds, over the eight clocks of a configuration. The main ones:
+-- bounds-of-children: the active states of a tree keep their own bounds, just when the active child of every active
+--   sequential state keeps its joined ones
+-- bounds-pictured: so a configuration keeps its bounds, just when the places of its picture keep theirs
+-- keeps-pre, keeps-departure: the place before an entry, and the one where a transition departs to, keep their bounds, just
+--   when every state that is entered keeps its joined ones
+-- bounds-of-departure: that is, its own, and those that are carried from above the transition's home
+-- bounds-after: after a step the bounds are kept, just when the places where its transitions depart to keep theirs
+use mathlib.Core.Path.{_≡_, refl, sym, ap, _∙_, subst}
+use mathlib.Core.Bool.{Bool, true, false, cond, not, _&&_}
+use mathlib.Core.Logic.{⊎-elim, _≢_}
+use mathlib.Core.List.{List, [], _∷_, map, List·Memᴰ as Mem, List·Memᴰ·head as here, List·Memᴰ·tail as there}
+use Prim.Native.Nat.{ℕ, zero, suc, _+_, _≤_, _<_}
+use native.Mathlib.Omega.{arith}
+use native.Mathlib.Decide.{ℕ-discrete}
+use borrow.Author.Tests.{eqb-true, eq-eqb, ne-eqb}
+use lib.Dec.{eqb}
+use lib.ListN.{length, getD}
+use Rattle.expr.specs.Lists.{all, keep, implies}
+use Rattle.expr.specs.Clocks.{free, join, keeps}
+use Rattle.expr.specs.Moves.{clocksAfter}
+use Rattle.expr.proofs.Bools.{clash, decided, and-l, and-r, both, implies-at, implies-by, same}
+use Rattle.expr.proofs.Lists.{all-at, all-by, all-same, all-map, all-keep, keep-at, map-at, map-by, getD-mem}
+use Rattle.expr.proofs.Clocks.{keeps-join}
+use Rattle.expr.proofs.Rows.{ClockValues, IsRow, free-row, join-row, keeps-free, keeps-clocks-after, values-clocks-after}
+use Rattle.chart.specs.Chart.{Chart, Transition, transitionAt, states, parentOf, basic, sequential, parallel, home}
+use Rattle.chart.specs.Tree.{children, sequentials, entered}
+use Rattle.chart_machine.specs.Machine.{isActive, isTree, boundsKept, after}
+use Rattle.chart_machine.specs.declared.configuration.Configuration.{Configuration}
+use Rattle.chart.proofs.Tree.{size, states-at, states-by, Child, children-at, own-child, Parents, tree-induction, child-above, sequential-not-parallel}
+use Rattle.chart.proofs.Entered.{Entry, allEntered, all-entered-at, all-entered-by, entered-alone, entered-top, entered-below-root, entered-parent}
+use Rattle.chart_machine.proofs.Active.{OneChild, one-child-by, IsTree, tree-at, bounds-kept-at, bounds-kept-by}
+use Rattle.chart.proofs.Rules.{Passed, kinds-left}
+use Rattle.chart.proofs.Ranges.{Ranges, kinds-of}
+use Rattle.chart_machine.proofs.After.{Fires, after-clocks, after-cases, after-entered}
+use Rattle.chart_machine.proofs.Step.{Together, together-fires, together-tree}
+use Rattle.flattening.specs.Flatten.{Pair, Place, idle, child, pre, post, hasExit, hasEntry, places, own, carriedFrom, joined, joinAll, preBounds, arrival, arrivalBounds, boundsOf, departure}
+use Rattle.flattening.specs.Picture.{pictured}
+use Rattle.flattening.proofs.Automata.{sequentials-at, sequentials-by}
+use Rattle.flattening.proofs.Numbers.{places-at}
+use Rattle.flattening.proofs.Joins.{join-all-has, carried-has, entered-have, bounds-have}
+
+-- rows: the bounds of states and places have a bound for each of eight clocks
+
+pub joinAll-row : (rows : List (List ℕ)) → ((r : List ℕ) → Mem r rows → IsRow r) → IsRow (joinAll rows)
+joinAll-row = join-all-has IsRow free-row join-row
+
+-- to keep the join of some rows is to keep each
+pub keeps-joinAll : (rows : List (List ℕ)) (cs : List ℕ) → ClockValues cs → ((r : List ℕ) → Mem r rows → IsRow r) → keeps (joinAll rows) cs ≡ all (λ r. keeps r cs) rows
+unfolding joinAll all
+keeps-joinAll [] cs v f = keeps-free cs v
+keeps-joinAll (r ∷ rs) cs v f =
+    keeps-join r (joinAll rs) cs (f r (here refl) ∙ sym (joinAll-row rs (λ x m. f x (there m))))
+    ∙ ap (λ (b : Bool). keeps r cs && b) (keeps-joinAll rs cs v (λ x m. f x (there m)))
+
+module _ (c : Chart) (ranges : Ranges c) where
+  pub own-row : (s : ℕ) → s < size c → IsRow (own c s)
+  unfolding own
+  own-row s h = ranges .of-state s h .bounds-row .long
+
+  pub carried-row : (n s : ℕ) → IsRow (carriedFrom n c s)
+  carried-row = carried-has IsRow free-row join-row c ranges own-row
+
+  entered-rows : (p : Pair) (r : List ℕ) → Mem r (map (joined c) (keep (entered c (p .state) (p .mark)) (states c))) → IsRow r
+  entered-rows = entered-have IsRow free-row join-row c ranges own-row
+
+  -- of every place of an automaton
+  pub places-row : (q : ℕ) (p : Place) → Mem p (places c q) → IsRow (boundsOf c p)
+  places-row q p m = bounds-have IsRow free-row join-row c ranges own-row p (places-at c q m .1)
+
+-- what the children of a state carry of the bounds above them
+unfoldable pub carriedBy : Chart → ℕ → List ℕ
+unfolding carriedFrom
+carriedBy c s = carriedFrom (suc s) c s
+
+pub carried-root : (c : Chart) → carriedBy c 0 ≡ own c 0
+unfolding carriedBy
+carried-root c = refl
+
+pub carried-none : (c : Chart) (s : ℕ) → s ≢ 0 → parallel c (parentOf c s) ≡ false → carriedBy c s ≡ free
+unfolding carriedBy
+carried-none c s d z = rw (ne-eqb s 0 d, z)
+
+module _ (c : Chart) (tree : Parents c) where
+  pub enough : (n m s : ℕ) → s < size c → s < n → s < m → carriedFrom n c s ≡ carriedFrom m c s
+  unfolding carriedFrom
+  enough zero m s h a b = absurd (omega arith)
+  enough (suc n) zero s h a b = absurd (omega arith)
+  enough (suc n) (suc m) s h a b = elim (ℕ-discrete s 0) [
+    | yes e ↦ rw (eq-eqb s 0 e)
+    | no d ↦ let l = tree .smaller s h d in
+        ap (λ (r : List ℕ). cond (eqb s 0) (own c 0) (cond (parallel c (parentOf c s)) (join (own c s) r) free)) (enough n m (parentOf c s) (omega arith) (omega arith) (omega arith))
+  ]
+
+  pub carried-parallel : (s : ℕ) → s < size c → s ≢ 0 → parallel c (parentOf c s) ≡ true → carriedBy c s ≡ join (own c s) (carriedBy c (parentOf c s))
+  unfolding carriedBy
+  carried-parallel s h d z =
+      let l = tree .smaller s h d in
+      rw (ne-eqb s 0 d, z) (ap (join (own c s)) (enough s (suc (parentOf c s)) (parentOf c s) (omega arith) l (omega arith)))
+
+  pub joined-is : (s : ℕ) → s < size c → s ≢ 0 → joined c s ≡ join (own c s) (carriedBy c (parentOf c s))
+  unfolding joined carriedBy
+  joined-is s h d = let l = tree .smaller s h d in ap (join (own c s)) (enough (suc s) (suc (parentOf c s)) (parentOf c s) (omega arith) (omega arith) (omega arith))
+
+-- the active child of a sequential state
+abbrev pub activeChild : Chart → (ℕ → Bool) → ℕ → ℕ
+activeChild c p q = getD (keep p (children c q)) 0 0
+
+pub active-child : (c : Chart) (p : ℕ → Bool) (q : ℕ) → (o : OneChild c p q) → activeChild c p q ≡ o .child
+active-child c p q o =
+    let k = keep-at p (children c q) (getD-mem (keep p (children c q)) 0 0 (omega (arith, one-child-by c p q o))) in
+    o .alone _ (children-at c q (k .0)) (k .1)
+
+-- a state that is not the root, nor a parallel state's child, hands nothing down
+keeps-none : (c : Chart) (cs : List ℕ) → ClockValues cs → (s : ℕ) → s ≢ 0 → parallel c (parentOf c s) ≡ false → keeps (carriedBy c s) cs ≡ true
+keeps-none c cs values s d z = ap (λ (r : List ℕ). keeps r cs) (carried-none c s d z) ∙ keeps-free cs values
+
+module _ (c : Chart) (passed : Passed c) (ranges : Ranges c) (cs : List ℕ) where
+  same-rows : (s n : ℕ) → s < size c → length (own c s) ≡ length (carriedBy c n)
+  unfolding carriedBy
+  same-rows s n h = own-row c ranges s h ∙ sym (carried-row c ranges (suc n) n)
+
+  -- a state keeps its joined bounds just when it keeps its own and those that it carries
+  pub keeps-joined : (s : ℕ) → s < size c → s ≢ 0 → keeps (joined c s) cs ≡ (keeps (own c s) cs && keeps (carriedBy c (parentOf c s)) cs)
+  keeps-joined s h d = ap (λ (r : List ℕ). keeps r cs) (joined-is c (passed .tree) s h d) ∙ keeps-join (own c s) (carriedBy c (parentOf c s)) cs (same-rows s (parentOf c s) h)
+
+  -- of a parallel state's child
+  keeps-carried : (s : ℕ) → s < size c → s ≢ 0 → parallel c (parentOf c s) ≡ true → keeps (carriedBy c s) cs ≡ (keeps (own c s) cs && keeps (carriedBy c (parentOf c s)) cs)
+  keeps-carried s h d z = ap (λ (r : List ℕ). keeps r cs) (carried-parallel c (passed .tree) s h d z) ∙ keeps-join (own c s) (carriedBy c (parentOf c s)) cs (same-rows s (parentOf c s) h)
+
+  parent-known : (s : ℕ) → s < size c → s ≢ 0 → parentOf c s < size c
+  parent-known s h d = omega (arith, passed .tree .smaller s h d)
+
+  module _ (values : ClockValues cs) (p : ℕ → Bool) (active : IsTree c p) where
+    -- where the active states keep their own bounds, they keep those that are carried
+    module _ (keep-own : (s : ℕ) → s < size c → p s ≡ true → keeps (own c s) cs ≡ true) where
+      active-carried : (s : ℕ) → s < size c → p s ≡ true → keeps (carriedBy c s) cs ≡ true
+      active-carried = tree-induction c (passed .tree) (λ s. p s ≡ true → keeps (carriedBy c s) cs ≡ true)
+          (λ a. ap (λ (r : List ℕ). keeps r cs) (carried-root c) ∙ keep-own 0 (omega (arith, ranges .states-some)) a)
+          (λ s h d f a. ⊎-elim (λ z. keeps-carried s h d z ∙ both (keep-own s h a) (f (active .up s h d a))) (λ z. keeps-none c cs values s d z) (decided (parallel c (parentOf c s))))
+
+      pub active-joined : (s : ℕ) → s < size c → s ≢ 0 → p s ≡ true → keeps (joined c s) cs ≡ true
+      active-joined s h d a = keeps-joined s h d ∙ both (keep-own s h a) (active-carried (parentOf c s) (parent-known s h d) (active .up s h d a))
+
+    -- where the active children of sequential states keep their joined bounds, each active state keeps its own
+    module _ (keep-joined : (q s : ℕ) → Child c q s → sequential c q ≡ true → p s ≡ true → keeps (joined c s) cs ≡ true) where
+      child-carried : (q s : ℕ) → Child c q s → sequential c q ≡ true → p s ≡ true → keeps (carriedBy c q) cs ≡ true
+      child-carried q s k z a = ap (λ (x : ℕ). keeps (carriedBy c x) cs) (sym (k .parent-is)) ∙ and-r (keeps (own c s) cs) _ (sym (keeps-joined s (k .known) (k .below-root)) ∙ keep-joined q s k z a)
+
+      root-composite : basic c 0 ≡ false
+      root-composite =
+          let l : 1 < size c = omega (arith, ranges .states-some) in
+          ap (basic c) (let e : 0 ≡ parentOf c 1 = omega (arith, passed .tree .smaller 1 l (omega arith)) in e) ∙ passed .tree .composite 1 l (omega arith)
+
+      carried-down : (n s : ℕ) → size c ≤ n + s → s < size c → p s ≡ true → keeps (carriedBy c s) cs ≡ true
+      carried-down zero s l h a = absurd (omega arith)
+      carried-down (suc n) s l h a = ⊎-elim
+          (λ b. elim (ℕ-discrete s 0) [
+            | yes e ↦ clash (ap (basic c) (sym e) ∙ b) root-composite
+            | no d ↦ ⊎-elim (λ z. clash b (passed .no-basic (parentOf c s) s (own-child c h d) z)) (λ z. keeps-none c cs values s d z) (decided (parallel c (parentOf c s)))
+          ])
+          (λ b. ⊎-elim
+          (λ z. let r = passed .tree .fertile s h b in
+          let k = r .1 in
+          let g = child-above c (passed .tree) k in
+          ap (λ (x : ℕ). keeps (carriedBy c x) cs) (sym (k .parent-is))
+          ∙ and-r (keeps (own c (r .0)) cs) _ (sym (keeps-carried (r .0) (k .known) (k .below-root) (ap (parallel c) (k .parent-is) ∙ z)) ∙ carried-down n (r .0) (omega arith) (k .known) (active .every s (r .0) k z a)))
+          (λ z. let y = kinds-left c (kinds-of ranges) s h b z in let o = active .one s h y a in child-carried s (o .child) (o .is-child) y (o .passes))
+          (decided (parallel c s))) (decided (basic c s))
+
+      pub active-own : (s : ℕ) → s < size c → p s ≡ true → keeps (own c s) cs ≡ true
+      active-own s h a = elim (ℕ-discrete s 0) [
+        | yes e ↦ subst (λ (x : ℕ). keeps (own c x) cs ≡ true) (sym e) (ap (λ (r : List ℕ). keeps r cs) (sym (carried-root c)) ∙ carried-down (size c) 0 (omega arith) (omega arith) (active .root))
+        | no d ↦ ⊎-elim
+            (λ z. and-l (keeps (own c s) cs) _ (sym (keeps-carried s h d z) ∙ carried-down (size c) s (omega arith) h a))
+            (λ z. let y = kinds-left c (kinds-of ranges) (parentOf c s) (parent-known s h d) (passed .tree .composite s h d) z in
+            and-l (keeps (own c s) cs) _ (sym (keeps-joined s h d) ∙ keep-joined (parentOf c s) s (own-child c h d) y a))
+            (decided (parallel c (parentOf c s)))
+      ]
+
+    -- every active state keeps its own bounds, just when the active child of every active sequential state keeps its joined ones
+    pub bounds-of-children : all (λ s. implies (p s) (keeps (own c s) cs)) (states c) ≡ all (λ q. implies (p q) (keeps (joined c (activeChild c p q)) cs)) (sequentials c)
+    bounds-of-children = same _ _
+        (λ h. all-by _ (sequentials c) (λ q m. implies-by (p q) _ (λ a.
+        let g = sequentials-at c m in
+        let o = active .one q (g .known) (g .is-sequential) a in
+        ap (λ (x : ℕ). keeps (joined c x) cs) (active-child c p q o)
+        ∙ active-joined (λ s k b. implies-at (p s) _ (all-at _ (states c) h (states-by c k)) b) (o .child) (o .is-child .known) (o .is-child .below-root) (o .passes))))
+        (λ h. all-by _ (states c) (λ s m. implies-by (p s) _ (active-own (λ q s k z b.
+        let l = parent-known s (k .known) (k .below-root) in
+        let a = ap p (sym (k .parent-is)) ∙ active .up s (k .known) (k .below-root) b in
+        let g : q < size c = omega (arith, k .parent-is) in
+        let o = active .one q g z a in
+        ap (λ (x : ℕ). keeps (joined c x) cs) (o .alone s k b ∙ sym (active-child c p q o))
+        ∙ implies-at (p q) _ (all-at _ (sequentials c) h (sequentials-by c (record { known = g; is-sequential = z }))) a) s (states-at c m))))
+
+-- a configuration keeps its bounds, just when the places of its picture keep theirs
+pub bounds-pictured : (c : Chart) → Passed c → Ranges c → (σ : Configuration) → isTree c σ ≡ true → ClockValues (σ .clocks)
+    → boundsKept c σ ≡ all (λ q. keeps (boundsOf c (pictured c σ q)) (σ .clocks)) (sequentials c)
+unfolding boundsKept own pictured boundsOf implies
+bounds-pictured c passed ranges σ tree values =
+    bounds-of-children c passed ranges (σ .clocks) values (isActive σ) (tree-at c σ tree)
+    ∙ all-same _ _ (sequentials c) (λ q m. at-place q (isActive σ q))
+  where
+    at-place : (q : ℕ) (b : Bool) → implies b (keeps (joined c (activeChild c (isActive σ) q)) (σ .clocks)) ≡ keeps (boundsOf c (cond b (child (activeChild c (isActive σ) q)) (idle q))) (σ .clocks)
+    at-place q true = refl
+    at-place q false = sym (keeps-free (σ .clocks) values)
+
+-- an exit changes no bounds: those where a transition departs to are those where it arrives
+pub departure-arrives : (c : Chart) (t : ℕ) → boundsOf c (departure c t) ≡ boundsOf c (arrival c t)
+unfolding departure boundsOf
+departure-arrives c t = go (hasExit c t)
+  where
+    p : Pair
+    p = record { state = transitionAt c t .destination; mark = transitionAt c t .entry }
+
+    alike : (b : Bool) → arrivalBounds c (cond b (pre p) (child (transitionAt c t .destination))) ≡ boundsOf c (cond b (pre p) (child (transitionAt c t .destination)))
+    alike true = unfold arrivalBounds in refl
+    alike false = unfold arrivalBounds in refl
+
+    go : (b : Bool) → boundsOf c (cond b (post t) (arrival c t)) ≡ boundsOf c (arrival c t)
+    go true = unfold arrival in alike (hasEntry c t)
+    go false = refl
+
+module _ (c : Chart) (ranges : Ranges c) (cs : List ℕ) (values : ClockValues cs) where
+  -- to keep the bounds before an entry is to keep the joined bounds of every state that it enters
+  pub keeps-pre : (p : Pair) → keeps (preBounds c p) cs ≡ allEntered c (p .state) (p .mark) (λ s. keeps (joined c s) cs)
+  unfolding preBounds
+  keeps-pre p = keeps-joinAll _ cs values (entered-rows c ranges p) ∙ all-map (λ r. keeps r cs) (joined c) _ ∙ all-keep _ (entered c (p .state) (p .mark)) (states c)
+
+  -- a destination without an entry is entered alone
+  keeps-alone : (d e : ℕ) → d < size c → e ≡ 255 → keeps (joined c d) cs ≡ allEntered c d e (λ s. keeps (joined c s) cs)
+  keeps-alone d e h z = same _ _
+      (λ k. all-entered-by c d e (λ s. keeps (joined c s) cs) (λ s l a. ap (λ (x : ℕ). keeps (joined c x) cs) (eqb-true s d (sym (entered-alone c d e s z) ∙ a)) ∙ k))
+      (λ k. all-entered-at c d e (λ s. keeps (joined c s) cs) k d h (entered-alone c d e d z ∙ eq-eqb d d refl))
+
+  -- to keep the bounds where a transition departs to is to keep the joined bounds of every state that it enters
+  pub keeps-departure : (t : ℕ) → transitionAt c t .destination < size c
+      → keeps (boundsOf c (departure c t)) cs ≡ allEntered c (transitionAt c t .destination) (transitionAt c t .entry) (λ s. keeps (joined c s) cs)
+  unfolding arrival boundsOf hasEntry
+  keeps-departure t h = ap (λ (r : List ℕ). keeps r cs) (departure-arrives c t) ∙ go (eqb e 255) refl
+    where
+      d : ℕ
+      d = transitionAt c t .destination
+
+      e : ℕ
+      e = transitionAt c t .entry
+
+      go : (b : Bool) → eqb e 255 ≡ b → keeps (boundsOf c (cond (not b) (pre (record { state = d; mark = e })) (child d))) cs ≡ allEntered c d e (λ s. keeps (joined c s) cs)
+      go true z = keeps-alone d e h (eqb-true e 255 z)
+      go false z = keeps-pre (record { state = d; mark = e })
+
+-- a state d and those that are entered with it, below the sequential state q
+module _ (c : Chart) (passed : Passed c) (ranges : Ranges c) (cs : List ℕ) (values : ClockValues cs) (d e : ℕ) {q : ℕ} (to : Child c q d) (home-is : sequential c q ≡ true) (entry : Entry c d e) where
+  not-root : (s : ℕ) → entered c d e s ≡ true → s ≢ 0
+  not-root s a = entered-below-root c (passed .tree) (passed .entry-marks) d (to .known) s entry (to .below-root) a
+
+  with-parent : (s : ℕ) → s < size c → s ≢ d → entered c d e s ≡ true → entered c d e (parentOf c s) ≡ true
+  with-parent s h x a = entered-parent c (passed .tree) (passed .entry-marks) d (to .known) s entry h x a .1
+
+  module _ (keep-own : (s : ℕ) → s < size c → entered c d e s ≡ true → keeps (own c s) cs ≡ true) (keep-above : keeps (carriedBy c q) cs ≡ true) where
+    entered-carried : (s : ℕ) → s < size c → entered c d e s ≡ true → keeps (carriedBy c s) cs ≡ true
+    entered-carried = tree-induction c (passed .tree) (λ s. entered c d e s ≡ true → keeps (carriedBy c s) cs ≡ true)
+        (λ a. absurd (not-root 0 a refl))
+        (λ s h z f a. ⊎-elim
+        (λ y. keeps-carried c passed ranges cs s h z y ∙ both (keep-own s h a) (f (with-parent s h (λ x. clash y (ap (parallel c) (ap (parentOf c) x ∙ to .parent-is) ∙ sequential-not-parallel c q home-is)) a)))
+        (λ y. keeps-none c cs values s z y)
+        (decided (parallel c (parentOf c s))))
+
+    entered-joined : (s : ℕ) → s < size c → entered c d e s ≡ true → keeps (joined c s) cs ≡ true
+    entered-joined s h a = keeps-joined c passed ranges cs s h (not-root s a) ∙ both (keep-own s h a) (elim (ℕ-discrete s d) [
+      | yes x ↦ ap (λ (x : ℕ). keeps (carriedBy c x) cs) (ap (parentOf c) x ∙ to .parent-is) ∙ keep-above
+      | no x ↦ entered-carried (parentOf c s) (parent-known c passed ranges cs s h (not-root s a)) (with-parent s h x a)
+    ])
+
+  -- they keep their joined bounds, just when they keep their own and what is carried below q is kept
+  pub keeps-entered : allEntered c d e (λ s. keeps (joined c s) cs) ≡ (allEntered c d e (λ s. keeps (own c s) cs) && keeps (carriedBy c q) cs)
+  keeps-entered = same _ _
+      (λ k. both
+      (all-entered-by c d e (λ s. keeps (own c s) cs) (λ s h a. and-l (keeps (own c s) cs) _ (each k s h a)))
+      (ap (λ (x : ℕ). keeps (carriedBy c x) cs) (sym (to .parent-is)) ∙ and-r (keeps (own c d) cs) _ (each k d (to .known) (entered-top c (passed .tree) (passed .entry-marks) d (to .known) entry))))
+      (λ k. all-entered-by c d e (λ s. keeps (joined c s) cs) (entered-joined (all-entered-at c d e (λ s. keeps (own c s) cs) (and-l (all _ (states c)) _ k)) (and-r (all _ (states c)) _ k)))
+    where
+      each : allEntered c d e (λ s. keeps (joined c s) cs) ≡ true → (s : ℕ) → s < size c → entered c d e s ≡ true → (keeps (own c s) cs && keeps (carriedBy c (parentOf c s)) cs) ≡ true
+      each k s h a = sym (keeps-joined c passed ranges cs s h (not-root s a)) ∙ all-entered-at c d e (λ s. keeps (joined c s) cs) k s h a
+
+module _ (c : Chart) (passed : Passed c) (ranges : Ranges c) where
+  -- of a transition that fires: the states that it enters keep their own bounds, and what is carried below its home is kept
+  pub bounds-of-departure : (cs : List ℕ) → ClockValues cs → (p : ℕ → Bool) (m : ℕ) → Fires c p (transitionAt c m)
+      → keeps (boundsOf c (departure c m)) cs ≡ (allEntered c (transitionAt c m .destination) (transitionAt c m .entry) (λ s. keeps (own c s) cs) && keeps (carriedBy c (home c m)) cs)
+  unfolding home
+  bounds-of-departure cs values p m f = keeps-departure c ranges cs values m (f .to .known) ∙ keeps-entered c passed ranges cs values (transitionAt c m .destination) (transitionAt c m .entry) (f .to) (f .home-is) (f .entry-is)
+
+  -- transitions that are taken together
+  module _ (σ : Configuration) (ms : List ℕ) (tree : isTree c σ ≡ true) (values : ClockValues (σ .clocks)) (together : Together c σ ms) where
+    abbrev next : Configuration
+    next = after c (map (transitionAt c) ms) σ
+
+    enters : ℕ → ℕ → Bool
+    enters m s = entered c (transitionAt c m .destination) (transitionAt c m .entry) s
+
+    next-values : ClockValues (next .clocks)
+    next-values = subst ClockValues (sym (after-clocks c σ ms)) (values-clocks-after _ (σ .clocks) values)
+
+    next-departure : (m : ℕ) → Mem m ms → keeps (boundsOf c (departure c m)) (next .clocks) ≡ allEntered c (transitionAt c m .destination) (transitionAt c m .entry) (λ s. keeps (joined c s) (next .clocks))
+    next-departure m n = keeps-departure c ranges (next .clocks) next-values m (together-fires c passed ranges σ ms together m n .to .known)
+
+    next-below-root : (m : ℕ) → Mem m ms → (s : ℕ) → enters m s ≡ true → s ≢ 0
+    unfolding enters
+    next-below-root m n s a = let f = together-fires c passed ranges σ ms together m n in entered-below-root c (passed .tree) (passed .entry-marks) _ (f .to .known) s (f .entry-is) (f .to .below-root) a
+
+    -- what is entered is active then, and so keeps its joined bounds
+    departure-kept : boundsKept c next ≡ true → (m : ℕ) → Mem m ms → keeps (boundsOf c (departure c m)) (next .clocks) ≡ true
+    unfolding own enters
+    departure-kept k m n = next-departure m n ∙ all-entered-by c _ _ (λ s. keeps (joined c s) (next .clocks)) (λ s h a.
+        active-joined c passed ranges (next .clocks) next-values (isActive next) (tree-at c next (together-tree c passed ranges σ ms tree together)) (bounds-kept-at c next k)
+        s h (next-below-root m n s a) (after-entered c σ _ (ranges .states-few) (map-by (transitionAt c) n) s h a))
+
+    -- what is active then was active, and no reset breaks its bounds, or is entered
+    active-kept : boundsKept c σ ≡ true → all (λ m. keeps (boundsOf c (departure c m)) (next .clocks)) ms ≡ true → (s : ℕ) → s < size c → isActive next s ≡ true → keeps (own c s) (next .clocks) ≡ true
+    unfolding own enters
+    active-kept kept k s h a = ⊎-elim
+        (λ b. subst (λ (cs : List ℕ). keeps (own c s) cs ≡ true) (sym (after-clocks c σ ms)) (keeps-clocks-after _ (own c s) (σ .clocks) (bounds-kept-at c σ kept s h b)))
+        (λ b. let r = map-at (transitionAt c) ms (b .1) in arrived (r .0) (r .1) (ap (λ (t : Transition). entered c (t .destination) (t .entry) s) (sym (r .2)) ∙ b .2))
+        (after-cases c σ (map (transitionAt c) ms) (ranges .states-few) s a)
+      where
+        arrived : (m : ℕ) → Mem m ms → enters m s ≡ true → keeps (own c s) (next .clocks) ≡ true
+        arrived m n b = and-l (keeps (own c s) (next .clocks)) _ (sym (keeps-joined c passed ranges (next .clocks) s h (next-below-root m n s b))
+            ∙ all-entered-at c _ _ (λ s. keeps (joined c s) (next .clocks)) (sym (next-departure m n) ∙ all-at _ ms k n) s h b)
+
+    -- if the bounds were kept, they are kept then, just when those of the places are where the transitions depart to
+    pub bounds-after : boundsKept c σ ≡ true
+        → boundsKept c (after c (map (transitionAt c) ms) σ) ≡ all (λ m. keeps (boundsOf c (departure c m)) (clocksAfter (map (λ m. transitionAt c m .label) ms) (σ .clocks))) ms
+    unfolding own
+    bounds-after kept =
+        same _ _ (λ k. all-by _ ms (λ m n. departure-kept k m n)) (λ k. bounds-kept-by c next (active-kept kept k))
+        ∙ ap (λ (cs : List ℕ). all (λ m. keeps (boundsOf c (departure c m)) cs) ms) (after-clocks c σ ms)

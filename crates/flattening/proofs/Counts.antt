@@ -1,0 +1,84 @@
+-- How many pairs, places and automata a chart has: what is counted is matched with the chart's transitions and states.
+use mathlib.Core.Path.{_≡_, sym, _∙_}
+use mathlib.Core.Bool.{false}
+use mathlib.Core.List.{List, _++_, map, List·Memᴰ as Mem, Memᴰ·append-left as append-left, Memᴰ·append-right as append-right}
+use Prim.Native.Nat.{ℕ, _+_, _-_, _≤_, _<_}
+use native.Mathlib.Omega.{arith}
+use lib.ListN.{length, length-append, length-map}
+use Rattle.expr.specs.Lists.{range, below}
+use Rattle.expr.proofs.Bools.{fails}
+use Rattle.expr.proofs.Lists.{map-by, range-by, below-by, length-range, length-below, mem-some, partners-length, within-length}
+use Rattle.chart.specs.Chart.{Chart, transitionAt, parentOf, basic, parallel}
+use Rattle.chart.specs.Tree.{sequentials}
+use Rattle.chart.proofs.Tree.{size, own-child}
+use Rattle.chart.proofs.Rules.{Passed, kinds-left}
+use Rattle.chart.proofs.Ranges.{Ranges, kinds-of}
+use Rattle.flattening.specs.Flatten.{Pair, Place, idle, child, pre, post, enterPairs, exitPairs, allPlaces, placeHome}
+use Rattle.flattening.proofs.Automata.{Region, sequentials-by}
+use Rattle.flattening.proofs.Numbers.{IsPlace, idle-place, all-places-at, all-places-by, all-places-once}
+use Rattle.flattening.proofs.Channels.{enters-at, leaves-at, enter-pairs-at, enter-pairs-once, exit-pairs-at, exit-pairs-once, pre-enters}
+
+-- a transition names a pair: by what it has of a state and of a mark
+abbrev Names : (ℕ → ℕ) → (ℕ → ℕ) → Pair → ℕ → Type 0
+Names state mark p t = (state t ≡ p .state) × (mark t ≡ p .mark)
+
+names-one : (state mark : ℕ → ℕ) (p r : Pair) (t : ℕ) → Names state mark p t → Names state mark r t → p ≡ r
+names-one state mark p r t h k =
+    let s : p .state ≡ r .state = sym (h .0) ∙ k .0 in
+    let m : p .mark ≡ r .mark = sym (h .1) ∙ k .1 in
+    λ i. record { state = s i; mark = m i }
+
+-- each pair is named by some transition, so there are at most as many
+pub enter-pairs-few : (c : Chart) → length (enterPairs c) ≤ length (c .transitions)
+enter-pairs-few c = omega (
+  arith,
+  length-below (length (c .transitions)),
+  partners-length _ (enterPairs c) (below (length (c .transitions))) (enter-pairs-once c)
+      (λ p m. let t = enters-at c (p .state) (p .mark) (enter-pairs-at c m .2) in (t .0, below-by (t .1), (t .2, t .3)))
+      (names-one (λ t. transitionAt c t .destination) (λ t. transitionAt c t .entry)),
+)
+
+pub exit-pairs-few : (c : Chart) → length (exitPairs c) ≤ length (c .transitions)
+exit-pairs-few c = omega (
+  arith,
+  length-below (length (c .transitions)),
+  partners-length _ (exitPairs c) (below (length (c .transitions))) (exit-pairs-once c)
+      (λ p m. let t = leaves-at c (p .state) (p .mark) (exit-pairs-at c m .2) in (t .0, below-by (t .1), (t .2, t .3)))
+      (names-one (λ t. transitionAt c t .source) (λ t. transitionAt c t .exit)),
+)
+
+-- every place there can be: an idle sequential state, a state but the root, a pair that is entered, a transition
+candidates : Chart → List Place
+candidates c = map idle (sequentials c) ++ (map child (range 1 (size c - 1)) ++ (map pre (enterPairs c) ++ map post (below (length (c .transitions)))))
+
+candidate : (c : Chart) (p : Place) → IsPlace c p → Mem p (candidates c)
+unfolding candidates placeHome
+candidate c (idle q) k = append-left _ (map-by idle (sequentials-by c (k .region)))
+candidate c (child s) k = let j = k .stands in append-right (map idle (sequentials c)) (append-left _ (map-by child (range-by 1 (size c - 1) s (omega (arith, j .below-root)) (omega (arith, j .known)))))
+candidate c (pre p) k = append-right (map idle (sequentials c)) (append-right (map child (range 1 (size c - 1))) (append-left _ (map-by pre (pre-enters c k))))
+candidate c (post t) k = append-right (map idle (sequentials c)) (append-right (map child (range 1 (size c - 1))) (append-right (map pre (enterPairs c)) (map-by post (below-by (k .stands .0)))))
+
+candidates-length : (c : Chart) → length (candidates c) ≡ length (sequentials c) + ((size c - 1) + (length (enterPairs c) + length (c .transitions)))
+unfolding candidates
+candidates-length c = simp (length-append, length-map, length-range, length-below)
+
+module _ (c : Chart) (passed : Passed c) (ranges : Ranges c) where
+  pub all-places-few : length (allPlaces c) ≤ 191
+  all-places-few = omega (arith, within-length (allPlaces c) (candidates c) (all-places-once c) (λ p m. candidate c p (all-places-at c m)), candidates-length c, enter-pairs-few c, passed .at-most, ranges .states-some, ranges .states-few, ranges .transitions-few)
+
+  -- the last state is basic, and its parent sequential
+  pub some-region : (q : ℕ) × Region c q
+  some-region =
+      let s = size c - 1 in
+      let h : s < size c = omega (arith, ranges .states-some) in
+      let n : s ≡ 0 → ⊥ = λ e. omega (arith, ranges .states-some) in
+      let l = passed .tree .smaller s h n in
+      let leaf : basic c s ≡ false → ⊥ = λ b. let k = passed .tree .fertile s h b in omega (arith, k .1 .known, passed .tree .smaller (k .0) (k .1 .known) (k .1 .below-root), k .1 .parent-is) in
+      let flat : parallel c (parentOf c s) ≡ false = fails _ (λ e. leaf (passed .no-basic (parentOf c s) s (own-child c h n) e)) in
+      (parentOf c s, record { known = omega arith; is-sequential = kinds-left c (kinds-of ranges) (parentOf c s) (omega arith) (passed .tree .composite s h n) flat })
+
+  pub automata-some : 1 ≤ length (sequentials c)
+  automata-some = mem-some (sequentials-by c (some-region .1))
+
+  pub all-places-some : 1 ≤ length (allPlaces c)
+  all-places-some = mem-some (all-places-by c (idle-place c (some-region .1) .is-place))

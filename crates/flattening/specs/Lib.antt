@@ -1,0 +1,4 @@
+pub mod Flatten
+pub mod Picture
+pub mod File
+pub mod Samples

@@ -1,0 +1,1 @@
+// Flattening as the paper fixes it: definitions and their laws alone, no function.

@@ -1,0 +1,68 @@
+/*
+ * The network machine, on a configuration that the caller keeps.
+ *
+ * Link with libnetwork_machine.a (x86-64 Linux), which `rt staticlib network_machine` writes to target/staticlib. It
+ * needs no other library, keeps nothing between calls, allocates nothing, and calls nothing back.
+ *
+ * A network file passes as its first byte and its length. It is read, never written, and every call checks it from its
+ * first byte to its last. The file, the configuration and the list are the caller's before, during and after a call. During
+ * a call nobody else may write any of them, and nobody else may read the configuration. No two of them may share memory.
+ * A pointer is never null; where the length is 0, any pointer that is not null and is aligned will do.
+ */
+#ifndef FIGRUMMY_NETWORK_H
+#define FIGRUMMY_NETWORK_H
+
+#include <stddef.h>
+#include <stdint.h>
+
+#ifdef __cplusplus
+extern "C" {
+#endif
+
+#ifndef FIGRUMMY_SIZES
+#define FIGRUMMY_SIZES
+enum {
+    FIGRUMMY_AUTOMATA = 16,
+    FIGRUMMY_VARIABLES = 16,
+    FIGRUMMY_CLOCKS = 8
+};
+#endif
+
+/* 128 bytes, no padding. What the network does not declare is 0. */
+struct figrummy_configuration {
+    uint8_t locations[FIGRUMMY_AUTOMATA]; /* where each automaton is */
+    uint8_t flags[FIGRUMMY_AUTOMATA];     /* of each automaton eight flags, bit i for exit i */
+    int32_t variables[FIGRUMMY_VARIABLES];
+    uint32_t clocks[FIGRUMMY_CLOCKS];
+};
+
+/*
+ * Each function answers 0 if the configuration was moved on, and otherwise the number of the refusal. On a refusal the
+ * configuration is as it was, each byte of it. Refusals of the file come first, then in the order in which they stand here:
+ *   24  version, a count or a length of the file is wrong
+ *   25  a field of the file is out of range; of 24 and 25 the first from left to right. Then also: the file breaks a rule
+ *   26  the configuration is not one of this network, or breaks a bound (step and wait)
+ *   18  the list is not 1 to 16 numbers of edges, strictly ascending (step)
+ *   19  an edge of the list is not active (step)
+ *   22  no ticks, or a clock would pass 2,147,483,647 (wait)
+ *   27  an urgent location is occupied: no edge of the list leaves one (step), or a wait
+ *   20  the edges of the list are not an allowed set (step)
+ *   21  the new configuration would break a bound (step and wait)
+ */
+
+/* The configuration in which the network starts. What stands in *configuration before does not matter. */
+uint8_t start_in_place(const uint8_t *file, size_t file_length, struct figrummy_configuration *configuration);
+
+/* One step along the edges whose numbers, from 0 in the order of the file, are in the list. */
+uint8_t step_in_place(const uint8_t *file, size_t file_length, struct figrummy_configuration *configuration,
+                      const uint16_t *list, size_t list_length);
+
+/* A wait of so many ticks. */
+uint8_t wait_in_place(const uint8_t *file, size_t file_length, struct figrummy_configuration *configuration,
+                      uint32_t ticks);
+
+#ifdef __cplusplus
+}
+#endif
+
+#endif

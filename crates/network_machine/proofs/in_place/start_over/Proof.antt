@@ -1,0 +1,31 @@
+use Rattle.network_machine.specs.Machine.{startOf}
+use Rattle.network_machine.specs.Answers.{zeroConfiguration}
+use mathlib.Core.Path.{_∙_}
+use Rattle.network_machine.proofs.Verdicts.{over-done, over-refused}
+use borrow.Author.Needs.{needs}
+use Rattle.network_machine.proofs.in_place.start_over.Statement.{statement}
+use Rattle.network_machine.proofs.in_place.start_over.Tie as tie
+
+start-requires : tie.Need-start-requires
+start-requires c κs = search needs
+
+enum-told : tie.Need-enum-told
+enum-told c = search needs
+
+enum-known-v : tie.Need-enum-known-v
+enum-known-v c = search needs
+
+refused-requires : tie.Need-refused-requires
+refused-requires c κs = search needs
+
+returns : tie.Need-returns
+returns c = let a = c .before .before .before .before .args in over-done zeroConfiguration (a .c) (startOf (a .file .now)) (c .before .before .start .ensures) (c .enum-told .given .1)
+
+returns-2 : tie.Need-returns-2
+returns-2 c = let v = c .before .before in
+    let a = v .before .before .before .before .args in
+    c .refused .ensures ∙ over-refused zeroConfiguration (a .c) (startOf (a .file .now)) (v .before .before .start .ensures) (v .v .given .1)
+
+pub start-over-spec : {M : Type 1} → statement M
+start-over-spec =
+    tie.close (tie.spec start-requires enum-told enum-known-v refused-requires returns returns-2)

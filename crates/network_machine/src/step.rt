@@ -1,0 +1,85 @@
+// Taking edges.
+ghost use mathlib.Core.Path.{_≡_};
+ghost use mathlib.Core.Bool.{true};
+ghost use lib.Dec.{ltb};
+ghost use Rattle.expr.specs.Lists.{all, any, implies};
+ghost use Rattle.expr.specs.Moves.{known};
+ghost use Rattle.network.specs.Network.{Network, urgentAt, edgeAt};
+ghost use Rattle.network_machine.specs.Machine.{urgent, isConfiguration, step};
+ghost use Rattle.network_machine.specs.Answers.{outcomeOf};
+ghost use Rattle.network.specs.Layout.{Laid};
+use crate::active::all_active;
+use crate::active::any_urgent;
+use crate::after::configuration_after;
+use crate::choice::is_allowed;
+use crate::configuration::Configuration;
+use crate::configuration::bounds_kept;
+use crate::configuration::is_configuration;
+use crate::configuration::urgent;
+use crate::outcome::Outcome;
+use crate::outcome::Verdict;
+use crate::outcome::refused;
+use network::header::Counts;
+
+// Whether an edge of the list leaves an urgent location, if one is occupied.
+fn urgency_kept(
+    rest: &[u8],
+    counts: Counts,
+    offsets: &[u32; 1024],
+    c: Configuration,
+    list: &[u16],
+) -> bool
+    ensures { λ r. ⌜ ((n : Network) → Laid (now (rest .entry)) counts (now (offsets .entry)) n → all (λ m. ltb m (counts .edges)) (now (list .entry)) ≡ true → r ≡ implies (urgent n c) (any (λ m. urgentAt n (edgeAt n m .source)) (now (list .entry)))) ⌝ }
+{
+    let occupied = urgent(rest, counts, c);
+    let left = any_urgent(rest, counts, offsets, list);
+    !occupied | left
+}
+
+// A step from a configuration of the network, along edges that are known.
+fn step_along(
+    rest: &[u8],
+    counts: Counts,
+    offsets: &[u32; 1024],
+    c: Configuration,
+    list: &[u16],
+) -> Outcome
+    ensures { λ r. ⌜ ((n : Network) → Laid (now (rest .entry)) counts (now (offsets .entry)) n → isConfiguration n c ≡ true → known (counts .edges) (now (list .entry)) ≡ true → r ≡ outcomeOf c (step n c (now (list .entry)))) ⌝ }
+{
+    if !all_active(rest, counts, offsets, c, list) {
+        return refused(19, c);
+    }
+    if !urgency_kept(rest, counts, offsets, c, list) {
+        return refused(27, c);
+    }
+    if !is_allowed(rest, counts, offsets, c, list) {
+        return refused(20, c);
+    }
+    let next = configuration_after(rest, counts, offsets, list, c);
+    if !bounds_kept(rest, counts, next) {
+        return refused(21, c);
+    }
+    Outcome {
+        verdict: Verdict::Done,
+        configuration: next,
+    }
+}
+
+// A step on a checked file.
+pub fn step_checked(
+    rest: &[u8],
+    counts: Counts,
+    offsets: &[u32; 1024],
+    c: Configuration,
+    list: &[u16],
+) -> Outcome
+    ensures { λ r. ⌜ ((n : Network) → Laid (now (rest .entry)) counts (now (offsets .entry)) n → r ≡ outcomeOf c (step n c (now (list .entry)))) ⌝ }
+{
+    if !is_configuration(rest, counts, c) {
+        return refused(26, c);
+    }
+    if !expr::step::known(list, counts.edges as usize) {
+        return refused(18, c);
+    }
+    step_along(rest, counts, offsets, c, list)
+}
