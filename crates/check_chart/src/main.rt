@@ -4,7 +4,7 @@ use chart::rule::Checked;
 fn verdict(file: &[u8]) {
     let answer = chart::check::check(file);
     match answer {
-        Checked::Passed => console::print::text(b"  passes\n"),
+        Checked::Passed => console::print::text(b"passes\n"),
         Checked::Refused(k) => console::sentence::refusal(k),
     }
 }

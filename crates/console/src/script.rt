@@ -309,7 +309,7 @@ pub fn is_call(call: Call, text: &[u8], number: u64) -> bool
             mistake(
                 number,
                 text,
-                b"' has a word that is no number, or a number too many",
+                b"' lacks a number, has one too many, or has a word that is no number up to 4,294,967,295",
             );
             return false;
         }

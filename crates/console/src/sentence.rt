@@ -52,7 +52,7 @@ fn of_calls(k: u8) {
 
 // A line with the number of a refusal and its sentence.
 pub fn refusal(k: u8) {
-    text(b"  refused");
+    text(b"refused");
     number(k as u64);
     text(b": ");
     if k <= 9 {
@@ -63,4 +63,10 @@ pub fn refusal(k: u8) {
         of_calls(k);
     }
     line_end();
+}
+
+// The same below the call that is refused.
+pub fn refused_call(k: u8) {
+    text(b"  ");
+    refusal(k);
 }

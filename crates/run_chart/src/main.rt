@@ -11,7 +11,7 @@ fn shown(file: &[u8], o: Outcome) -> Configuration {
     let c = o.configuration;
     match answer {
         Checked::Passed => chart_calls::show(file, c),
-        Checked::Refused(k) => console::sentence::refusal(k),
+        Checked::Refused(k) => console::sentence::refused_call(k),
     }
     c
 }

@@ -11,7 +11,7 @@ fn shown(file: &[u8], m: Outcome) -> Configuration {
     let c = m.configuration;
     match verdict {
         Verdict::Done => network_calls::show(file, c),
-        Verdict::Refused(k) => console::sentence::refusal(k),
+        Verdict::Refused(k) => console::sentence::refused_call(k),
     }
     c
 }

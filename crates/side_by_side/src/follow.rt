@@ -28,12 +28,12 @@ fn shown(bytes: &[u8], f: Followed) -> Run {
     let answer = f.answer;
     let r = f.run;
     if let Verdict::Refused(k) = verdict {
-        console::sentence::refusal(k);
+        console::sentence::refused_call(k);
     }
     show_network(bytes, r.network);
     show_call(reading, carried);
     if let Checked::Refused(k) = answer {
-        console::sentence::refusal(k);
+        console::sentence::refused_call(k);
     }
     r
 }
