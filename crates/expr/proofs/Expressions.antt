@@ -4,20 +4,22 @@ use mathlib.Core.Path.{_≡_, refl, sym, ap, _∙_}
 use mathlib.Core.Bool.{true}
 use mathlib.Core.List.{List}
 use mathlib.Core.Logic.{_≢_}
-use Prim.Native.Nat.{ℕ, zero, suc, _-_, _≤_, _<_}
+use Prim.Native.Nat.{ℕ, zero, suc, _+_, _-_, _≤_, _<_}
 use native.Mathlib.Omega.{arith}
 use native.Mathlib.Numerals.{sub-one}
 use borrow.Author.Tests.{lt-ltb, le-ltb, eq-eqb, ne-eqb}
 use lib.Dec.{ltb}
 use lib.IntN.{ℤ}
-use lib.ListN.{length, getD}
-use Rattle.expr.specs.Reading.{length-fault, range-fault, Read, got, fault, Reader, yield, next, _>>=_, byte, byte4, such, mapped}
+use lib.ListN.{length, getD, take, drop}
+use Rattle.reading.specs.Reading.{Fault, length-fault, range-fault, Read, got, fault, Reader, yield, next, _>>=_, byte, byte4, such, mapped}
 use Rattle.expr.specs.Integer.{signed, isDivisor, floorDiv, floorMod}
-use Rattle.expr.specs.Expression.{Expr, constant, variable, sum, difference, product, quotient, remainder, Code, constant-code, variable-code, sum-code, difference-code, product-code, quotient-code, remainder-code, codes, divisor, two, by, after, expression, value, combined, divided}
-use Rattle.expr.specs.Places.{onward}
-use Rattle.expr.proofs.Reading.{such-at, mapped-fault, mapped-yield}
-use Rattle.expr.proofs.InFront.{InFront, yield-front, fault-front, bind-front, such-front, byte-front, byte4-front}
-use Rattle.expr.proofs.Places.{onward-all, byte-some, byte-none, bind-got, bind-fault, such-got, such-not, such-fault}
+use Rattle.expr.specs.Expression.{Expr, constant, variable, sum, difference, product, quotient, remainder, Code, constant-code}
+use Rattle.expr.specs.Expression.{variable-code, sum-code, difference-code, product-code, quotient-code, remainder-code, codes}
+use Rattle.expr.specs.Expression.{divisor, two, by, after, expression, value, combined, divided}
+use Rattle.reading.specs.Places.{onward}
+use Rattle.reading.proofs.Reading.{such-at, mapped-fault, mapped-yield}
+use Rattle.reading.proofs.InFront.{InFront, yield-front, fault-front, bind-front, such-front, byte-front, byte4-front}
+use Rattle.reading.proofs.Places.{onward-all, part-got, part-fault, byte-some, byte-none, bind-got, bind-fault, such-got, such-not, such-fault}
 
 -- codes 2, 3 and 4, and codes 5 and 6
 abbrev pub operator : ℕ → Expr → Expr → Expr
@@ -58,7 +60,8 @@ module _ (v : ℕ) (r : Reader Expr) where
   after-by (suc (suc (suc (suc (suc (suc (suc n))))))) h l = absurd (omega arith)
 
 -- the value of an operator's expression, from those of its arguments
-pub operator-value : (vars : List ℤ) (c : ℕ) → c ≢ 0 → c ≢ 1 → c < 5 → (a b : Expr) → value vars (operator c a b) ≡ combined c (value vars a) (value vars b)
+pub operator-value : (vars : List ℤ) (c : ℕ) → c ≢ 0 → c ≢ 1 → c < 5 → (a b : Expr) →
+    value vars (operator c a b) ≡ combined c (value vars a) (value vars b)
 unfolding value combined
 operator-value vars zero h k l a b = absurd (h refl)
 operator-value vars (suc zero) h k l a b = absurd (k refl)
@@ -93,7 +96,8 @@ divisor-in s h = such-at byte4 _ s h .0
 
 -- an operator's two arguments, one read after the other, and an argument with its divisor
 module _ {A : Type 0} (f : Expr → A) (r : Reader Expr) (s : List ℕ) where
-  two-mapped : (g : Expr → Expr → Expr) (h : A → A → A) → ((a b : Expr) → f (g a b) ≡ h (f a) (f b)) → mapped f (two g r s) ≡ ((λ t. mapped f (r t)) >>= λ x. (λ t. mapped f (r t)) >>= λ y. yield (h x y)) s
+  two-mapped : (g : Expr → Expr → Expr) (h : A → A → A) → ((a b : Expr) → f (g a b) ≡ h (f a) (f b)) →
+      mapped f (two g r s) ≡ ((λ t. mapped f (r t)) >>= λ x. (λ t. mapped f (r t)) >>= λ y. yield (h x y)) s
   unfolding two _>>=_ next yield mapped
   two-mapped g h e = go (r s)
     where
@@ -101,11 +105,14 @@ module _ {A : Type 0} (f : Expr → A) (r : Reader Expr) (s : List ℕ) where
       inner a (got b u) = ap (λ x. got x u) (e a b)
       inner a (fault x) = refl
 
-      go : (q : Read Expr) → mapped f (next q (λ a t. next (r t) (λ b. yield (g a b)))) ≡ next (mapped f q) (λ x t. next (mapped f (r t)) (λ y. yield (h x y)))
+      go : (q : Read Expr) →
+          mapped f (next q (λ a t. next (r t) (λ b. yield (g a b))))
+          ≡ next (mapped f q) (λ x t. next (mapped f (r t)) (λ y. yield (h x y)))
       go (got a t) = inner a (r t)
       go (fault x) = refl
 
-  by-mapped : (g : Expr → ℕ → Expr) (h : A → ℕ → A) → ((a : Expr) (d : ℕ) → f (g a d) ≡ h (f a) d) → mapped f (by g r s) ≡ ((λ t. mapped f (r t)) >>= λ x t. mapped (h x) (divisor t)) s
+  by-mapped : (g : Expr → ℕ → Expr) (h : A → ℕ → A) → ((a : Expr) (d : ℕ) → f (g a d) ≡ h (f a) d) →
+      mapped f (by g r s) ≡ ((λ t. mapped f (r t)) >>= λ x t. mapped (h x) (divisor t)) s
   unfolding by _>>=_ next yield mapped
   by-mapped g h e = go (r s)
     where
@@ -116,6 +123,26 @@ module _ {A : Type 0} (f : Expr → A) (r : Reader Expr) (s : List ℕ) where
       go : (q : Read Expr) → mapped f (next q (λ a t. next (divisor t) (λ d. yield (g a d)))) ≡ next (mapped f q) (λ x t. mapped (h x) (divisor t))
       go (got a t) = inner a (divisor t)
       go (fault x) = refl
+
+-- An operator's arguments, each read of the part of the slice where it starts: the first, and after it the second.
+abbrev part : List ℕ → ℕ → List ℕ
+part s a = take (length s - a) (drop a s)
+
+module _ {A B : Type 0} (r : Reader A) (s : List ℕ) (k : A → Reader B) where
+  pub first-fault : {f : Fault} → r (part s 1) ≡ fault f → (r >>= k) (onward s 1) ≡ fault f
+  first-fault h = bind-fault r k _ (part-fault r s 1 h)
+
+  pub first-got : {x : A} (n : ℕ) → r (part s 1) ≡ got x (onward (part s 1) n) → (r >>= k) (onward s 1) ≡ k x (onward s (1 + n))
+  first-got n h = bind-got r k _ (part-got r s 1 n h)
+
+module _ {A : Type 0} (r : Reader A) (s : List ℕ) (h : A → A → A) {x : A} (n : ℕ) (first : r (part s 1) ≡ got x (onward (part s 1) n)) where
+  pub second-fault : {f : Fault} → r (part s (1 + n)) ≡ fault f → (r >>= λ x. r >>= λ y. yield (h x y)) (onward s 1) ≡ fault f
+  second-fault e = first-got r s _ n first ∙ bind-fault r _ _ (part-fault r s (1 + n) e)
+
+  pub both-got : {y : A} (m : ℕ) → r (part s (1 + n)) ≡ got y (onward (part s (1 + n)) m) →
+      (r >>= λ x. r >>= λ y. yield (h x y)) (onward s 1) ≡ got (h x y) (onward s (1 + n + m))
+  unfolding yield
+  both-got m e = first-got r s _ n first ∙ bind-got r _ _ (part-got r s (1 + n) m e)
 
 -- an expression by its first byte
 module _ (s : List ℕ) where
@@ -141,7 +168,8 @@ module _ (v : ℕ) (s : List ℕ) where
   expression-unknown zero h l = expression-deep zero h refl
   expression-unknown (suc k) h l = bind-fault _ _ s (such-not _ _ s (first-byte s h) (le-ltb _ _ l))
 
-  expression-after : (k : ℕ) → length s ≢ 0 → k ≢ 0 → getD s 0 0 < 7 → expression v k s ≡ after v (expression v (k - 1)) (getD codes (getD s 0 0) constant-code) (onward s 1)
+  expression-after : (k : ℕ) → length s ≢ 0 → k ≢ 0 → getD s 0 0 < 7 →
+      expression v k s ≡ after v (expression v (k - 1)) (getD codes (getD s 0 0) constant-code) (onward s 1)
   unfolding expression
   expression-after zero h n l = absurd (n refl)
   expression-after (suc k) h n l = bind-got _ _ s (such-got _ _ s (first-byte s h) (lt-ltb _ _ l)) ∙ rw sub-one
@@ -157,6 +185,10 @@ module _ {A : Type 0} (f : Expr → A) (v k : ℕ) (s : List ℕ) (some : length
   pub read-unknown : 7 ≤ getD s 0 0 → mapped f (expression v k s) ≡ fault range-fault
   read-unknown h = mapped-fault f (expression-unknown v s k some h)
 
+-- an argument, as f has it
+abbrev each : {A : Type 0} → (Expr → A) → ℕ → ℕ → Reader A
+each f v k s = mapped f (expression v k s)
+
 -- where a level is left and the code is known
 module _ {A : Type 0} (f : Expr → A) (v k : ℕ) (s : List ℕ) (some : length s ≢ 0) (left : k ≢ 0) where
   pub read-constant : getD s 0 0 ≡ 0 → mapped f (expression v k s) ≡ mapped (λ x. f (constant (signed x))) (byte4 (onward s 1))
@@ -167,11 +199,21 @@ module _ {A : Type 0} (f : Expr → A) (v k : ℕ) (s : List ℕ) (some : length
   unfolding after codes
   read-variable h = ap (mapped f) (expression-after v s k some left (omega arith) ∙ rw h) ∙ mapped-yield f variable (such byte (λ i. ltb i v)) (onward s 1)
 
-  pub read-two : (h : A → A → A) → ((a b : Expr) → f (operator (getD s 0 0) a b) ≡ h (f a) (f b)) → getD s 0 0 ≢ 0 → getD s 0 0 ≢ 1 → getD s 0 0 < 5 → mapped f (expression v k s) ≡ ((λ t. mapped f (expression v (k - 1) t)) >>= λ x. (λ t. mapped f (expression v (k - 1) t)) >>= λ y. yield (h x y)) (onward s 1)
-  read-two h e n m l = ap (mapped f) (expression-after v s k some left (omega arith) ∙ ap (λ (r : Reader Expr). r (onward s 1)) (after-two v _ _ n m l)) ∙ two-mapped f _ _ _ h e
+  pub read-two : (h : A → A → A) → ((a b : Expr) → f (operator (getD s 0 0) a b) ≡ h (f a) (f b)) →
+      getD s 0 0 ≢ 0 → getD s 0 0 ≢ 1 → getD s 0 0 < 5 →
+      each f v k s ≡ (each f v (k - 1) >>= λ x. each f v (k - 1) >>= λ y. yield (h x y)) (onward s 1)
+  read-two h e n m l =
+      let known = after-two v (expression v (k - 1)) _ n m l in
+      ap (mapped f) (expression-after v s k some left (omega arith) ∙ ap (λ (r : Reader Expr). r (onward s 1)) known)
+      ∙ two-mapped f _ _ _ h e
 
-  pub read-by : (h : A → ℕ → A) → ((a : Expr) (d : ℕ) → f (division (getD s 0 0) a d) ≡ h (f a) d) → 5 ≤ getD s 0 0 → getD s 0 0 < 7 → mapped f (expression v k s) ≡ ((λ t. mapped f (expression v (k - 1) t)) >>= λ x t. mapped (h x) (divisor t)) (onward s 1)
-  read-by h e n l = ap (mapped f) (expression-after v s k some left l ∙ ap (λ (r : Reader Expr). r (onward s 1)) (after-by v _ _ n l)) ∙ by-mapped f _ _ _ h e
+  pub read-by : (h : A → ℕ → A) → ((a : Expr) (d : ℕ) → f (division (getD s 0 0) a d) ≡ h (f a) d) →
+      5 ≤ getD s 0 0 → getD s 0 0 < 7 →
+      each f v k s ≡ (each f v (k - 1) >>= λ x t. mapped (h x) (divisor t)) (onward s 1)
+  read-by h e n l =
+      let known = after-by v (expression v (k - 1)) _ n l in
+      ap (mapped f) (expression-after v s k some left l ∙ ap (λ (r : Reader Expr). r (onward s 1)) known)
+      ∙ by-mapped f _ _ _ h e
 
 -- an expression is read in front, whatever follows it
 divisor-front : InFront divisor
@@ -200,4 +242,5 @@ module _ (r : Reader Expr) (p : InFront r) where
 pub expression-front : (v k : ℕ) → InFront (expression v k)
 unfolding expression
 expression-front v zero = bind-front _ _ byte-front λ c. fault-front _
-expression-front v (suc k) = bind-front _ _ (such-front byte _ byte-front) λ c. after-front (expression v k) (expression-front v k) v (getD codes c constant-code)
+expression-front v (suc k) = bind-front _ _ (such-front byte _ byte-front)
+    λ c. after-front (expression v k) (expression-front v k) v (getD codes c constant-code)

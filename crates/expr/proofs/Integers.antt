@@ -15,8 +15,8 @@ use mir.Syntax.{Width, w32, w64}
 use mir.Val.{SFits, ofZ, toZ}
 use mir.ValLaws.{toZ-ofZ, toZ-pos}
 use Rattle.expr.specs.Integer.{signed, residue, wrap, isDivisor, floorDiv, floorMod}
-use Rattle.expr.specs.Guard.{lt, relations}
-use Rattle.expr.proofs.Bools.{clash, and-l, and-r, cond-yes}
+use Rattle.expr.specs.Relation.{lt, relations}
+use Rattle.lists.proofs.Bools.{clash, and-l, and-r, cond-yes}
 
 -- what the machine reads of a number in 32 bits, and of one cast to 64 bits
 pub read-back : (z : ℤ) → mag z < 2 ^ 31 → toZ w32 (ofZ w32 z) ≡ z

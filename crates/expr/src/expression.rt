@@ -4,25 +4,26 @@ ghost use Prim.Native.Nat.{_≤_, _<_};
 ghost use lib.IntN.{pos};
 ghost use lib.ListN.{length, getD};
 ghost use lib.Dec.{ltb};
-ghost use Rattle.expr.specs.Reading.{byte, byte4, such, mapped, skipped};
+ghost use Rattle.reading.specs.Reading.{byte, byte4, such, mapped, skipped};
+ghost use Rattle.expr.specs.Integer.{signed};
 ghost use Rattle.expr.specs.Expression.{divisor, expression, value, combined, divided};
-ghost use Rattle.expr.specs.Places.{onward, byteOf, byteEnd, wordOf, wordEnd, valueOf, valueEnd, reached, reachedEnd, byteReached, wordReached};
-use crate::field::ByteRead;
-use crate::field::Fault;
-use crate::field::Reached;
-use crate::field::ValueRead;
-use crate::field::WordRead;
-use crate::field::byte_fault;
-use crate::field::read_below;
-use crate::field::read_signed;
-use crate::field::read_word;
-use crate::field::word_fault;
+ghost use Rattle.reading.specs.Places.{onward, byteOf, byteEnd, wordOf, wordEnd, valueOf, valueEnd, reached, reachedEnd, byteReached, wordReached};
 use crate::signed::difference;
 use crate::signed::is_divisor;
 use crate::signed::product;
 use crate::signed::quotient;
 use crate::signed::remainder;
+use crate::signed::signed;
 use crate::signed::sum;
+use reading::field::ByteRead;
+use reading::field::Fault;
+use reading::field::Reached;
+use reading::field::ValueRead;
+use reading::field::WordRead;
+use reading::field::byte_fault;
+use reading::field::read_below;
+use reading::field::read_word;
+use reading::field::word_fault;
 
 fn byte_reached(b: ByteRead) -> Reached
     ensures { λ r. ⌜ r ≡ byteReached b ⌝ }
@@ -40,6 +41,18 @@ fn word_reached(w: WordRead) -> Reached
         WordRead::Value(_, next) => Reached::At(next),
         WordRead::Fault(f) => Reached::Fault(f),
     }
+}
+
+// The signed number whose bits are the four bytes.
+fn read_signed(s: &[u8], at: usize) -> ValueRead
+    ensures means { λ r. ⌜ valueOf (now (s .entry)) r ≡ mapped signed (byte4 (onward (now (s .entry)) at)) ⌝ }
+    ensures within { λ r. ⌜ valueEnd r ≤ length (now (s .entry)) ⌝ }
+{
+    let w = read_word(s, at);
+    let WordRead::Value(x, next) = w else {
+        return ValueRead::Fault(word_fault(w));
+    };
+    ValueRead::Value(signed(x), next)
 }
 
 // A constant of four bytes.

@@ -8,7 +8,7 @@ ghost use lib.IntN.{pos, negsuc, natAbs, _+ℤ_, _-ℤ_, _*ℤ_};
 ghost use lib.Signed.{mag, ltZ, leZ};
 ghost use lib.ListN.{getD};
 ghost use Rattle.expr.specs.Integer.{signed, wrap, isDivisor, floorDiv, floorMod};
-ghost use Rattle.expr.specs.Guard.{lt, relations, compareℕ, compareℤ};
+ghost use Rattle.expr.specs.Relation.{lt, relations, compareℕ, compareℤ};
 
 fn below_zero(x: i64) -> bool
     ensures { λ r. ⌜ r ≡ ltZ x (pos 0) ⌝ }

@@ -4,13 +4,15 @@ use Prim.Native.Nat.{ℕ, _+_, _-_, _≤_, _<_}
 use native.Mathlib.Omega.{arith}
 use lib.IntN.{ℤ}
 use lib.ListN.{length, getD}
-use Rattle.expr.specs.Reading.{Reader, yield, _>>=_, mapped}
+use Rattle.reading.specs.Reading.{Reader, yield, _>>=_, mapped}
 use Rattle.expr.specs.Expression.{divisor, expression, value, combined, divided}
-use Rattle.expr.specs.Places.{onward, valueOf, valueEnd}
-use Rattle.expr.specs.declared.field.ValueRead.the-variants as Vl
-use Rattle.expr.proofs.Places.{part-got, part-fault, part-end, bind-got, bind-fault, answered}
+use Rattle.reading.specs.Places.{onward, valueOf, valueEnd}
+use Rattle.reading.specs.declared.field.ValueRead.the-variants as Vl
+use Rattle.lists.proofs.Parts.{part-end}
+use Rattle.reading.proofs.Places.{answered}
 use Rattle.expr.proofs.Integers.{read-back}
-use Rattle.expr.proofs.Expressions.{read-empty, read-deep, read-unknown, read-constant, read-variable, read-two, read-by, operator-value, division-value}
+use Rattle.expr.proofs.Expressions.{read-empty, read-deep, read-unknown, read-constant, read-variable, read-two, read-by}
+use Rattle.expr.proofs.Expressions.{first-fault, first-got, second-fault, both-got, operator-value, division-value}
 use borrow.Fn.Kinds.{In}
 use borrow.Fn.PlainCycle.{Measures, is, falls, and}
 use Rattle.expr.proofs.expression.evaluate.Reads as evaluate
@@ -19,7 +21,7 @@ use Rattle.expr.proofs.expression.+evaluate.Lts-evaluate as evaluate-lt
 use Rattle.expr.proofs.expression.combine.Reads as combine-reads
 use Rattle.expr.proofs.expression.divide.Reads as divide-reads
 use Rattle.expr.proofs.expression.evaluate_variable.Reads as evaluate-variable-reads
-use Rattle.expr.proofs.field.read_signed.Reads as read-signed-reads
+use Rattle.expr.proofs.expression.read_signed.Reads as read-signed-reads
 use Rattle.expr.proofs.expression.+evaluate.{statement}
 use Rattle.expr.proofs.expression.+evaluate.Tie.{close}
 
@@ -34,7 +36,18 @@ evaluate-below t =
     and 2 evaluate-kinds.ps (falls 2 evaluate-kinds.ps _<_ μ-evaluate t) evaluate.Pre
 
 abbrev evaluate-cs : ℕ → evaluate-lts.Claims
-evaluate-cs t = (read-signed-reads.Asked, read-signed-reads.Learnt, evaluate-variable-reads.Asked, evaluate-variable-reads.Learnt, evaluate-below t, evaluate.Post, combine-reads.Asked, combine-reads.Learnt, divide-reads.Asked, divide-reads.Learnt)
+evaluate-cs t = (
+  read-signed-reads.Asked,
+  read-signed-reads.Learnt,
+  evaluate-variable-reads.Asked,
+  evaluate-variable-reads.Learnt,
+  evaluate-below t,
+  evaluate.Post,
+  combine-reads.Asked,
+  combine-reads.Learnt,
+  divide-reads.Asked,
+  divide-reads.Learnt,
+)
 
 -- the value of an expression and where it ends, or its fault
 abbrev values : List ℤ → ℕ → ℕ → Reader ℤ
@@ -44,32 +57,54 @@ values vars v k s = mapped (value vars) (expression v k s)
 operands : (t : ℕ) (c : evaluate-lts.After-evaluate (evaluate-cs t) (evaluate-at t) evaluate.Post) →
     let a = c .before .before .before .before .before .before .before .before .args in
     let r = values (a .values .now) (a .variables) (a .levels - 1) in
-    values (a .values .now) (a .variables) (a .levels) (a .s .now) ≡ (r >>= λ x. r >>= λ y. yield (combined (getD (a .s .now) 0 0) x y)) (onward (a .s .now) 1)
+    values (a .values .now) (a .variables) (a .levels) (a .s .now)
+    ≡ (r >>= λ x. r >>= λ y. yield (combined (getD (a .s .now) 0 0) x y)) (onward (a .s .now) 1)
 operands t c =
-    let n = c .before .before .before .match .rest .0 .1 in
-    let m = c .before .before .before .match .rest .1 in
+    let at-match = c .before .before .before in
+    let at-if1 = at-match .before .before .before in
+    let n = at-match .match .rest .0 .1 in
+    let m = at-match .match .rest .1 in
     let l = c .before .before .if3 .taken in
-    read-two _ _ _ _ (c .before .before .before .before .before .before .if1 .left) (c .before .before .before .before .before .if2 .left) _ (operator-value _ _ n m l) n m l
+    read-two _ _ _ _ (at-if1 .if1 .left) (at-match .before .before .if2 .left) _ (operator-value _ _ n m l) n m l
 
 -- the first argument ends within the bytes
-first-in : (t : ℕ) (c : evaluate-lts.After-evaluate (evaluate-cs t) (evaluate-at t) evaluate.Post) {z : ℤ} (n : ℕ) → c .evaluate .result ≡ Vl.Value z n → 1 + n ≤ length (c .before .before .before .before .before .before .before .before .args .s .now)
-first-in t c n q = part-end (c .before .before .before .before .before .before .before .before .args .s .now) (1) (omega arith) (ap valueEnd q) (c .evaluate .ensures .1)
+first-in : (t : ℕ) (c : evaluate-lts.After-evaluate (evaluate-cs t) (evaluate-at t) evaluate.Post) {z : ℤ} (n : ℕ) →
+    let start = c .before .before .before .before .before .before .before .before in
+    c .evaluate .result ≡ Vl.Value z n → 1 + n ≤ length (start .args .s .now)
+first-in t c n q =
+    let start = c .before .before .before .before .before .before .before .before in
+    part-end (start .args .s .now) 1 (omega arith) (ap valueEnd q) (c .evaluate .ensures .1)
 
 -- and so does the second
-second-in : (t : ℕ) (c : evaluate-lts.After-evaluate2 (evaluate-cs t) (evaluate-at t) evaluate.Post) {z : ℤ} (n : ℕ) → c .evaluate2 .result ≡ Vl.Value z n → 1 + c .before .before .before .first .given .0 .1 .0 + n ≤ length (c .before .before .before .before .before .before .before .before .before .before .before .before .before .args .s .now)
-second-in t c n q = part-end (c .before .before .before .before .before .before .before .before .before .before .before .before .before .args .s .now) (1 + c .before .before .before .first .given .0 .1 .0) (first-in t (c .before .before .before .before .before) _ (c .before .before .before .first .given .1)) (ap valueEnd q) (c .evaluate2 .ensures .1)
+second-in : (t : ℕ) (c : evaluate-lts.After-evaluate2 (evaluate-cs t) (evaluate-at t) evaluate.Post) {z : ℤ} (n : ℕ) →
+    let at-first = c .before .before .before in
+    let start = at-first .before .before .before .before .before .before .before .before .before .before in
+    c .evaluate2 .result ≡ Vl.Value z n → 1 + at-first .first .given .0 .1 .0 + n ≤ length (start .args .s .now)
+second-in t c n q =
+    let at-first = c .before .before .before in
+    let start = at-first .before .before .before .before .before .before .before .before .before .before in
+    part-end (start .args .s .now) (1 + at-first .first .given .0 .1 .0)
+    (first-in t (at-first .before .before) _ (at-first .first .given .1)) (ap valueEnd q) (c .evaluate2 .ensures .1)
 
 -- a quotient or remainder: its argument, then the divisor
 dividend : (t : ℕ) (c : evaluate-lts.After-evaluate3 (evaluate-cs t) (evaluate-at t) evaluate.Post) →
     let a = c .before .before .before .before .before .before .before .before .before .args in
-    values (a .values .now) (a .variables) (a .levels) (a .s .now) ≡ (values (a .values .now) (a .variables) (a .levels - 1) >>= λ x t. mapped (divided (getD (a .s .now) 0 0) x) (divisor t)) (onward (a .s .now) 1)
+    values (a .values .now) (a .variables) (a .levels) (a .s .now)
+    ≡ (values (a .values .now) (a .variables) (a .levels - 1)
+    >>= λ x t. mapped (divided (getD (a .s .now) 0 0) x) (divisor t)) (onward (a .s .now) 1)
 dividend t c =
-    let n = c .before .before .before .if3 .left in
+    let at-if3 = c .before .before .before in
+    let at-if2 = at-if3 .before .before .before in
+    let n = at-if3 .if3 .left in
     let l = c .before .before .if4 .taken in
-    read-by _ _ _ _ (c .before .before .before .before .before .before .before .if1 .left) (c .before .before .before .before .before .before .if2 .left) _ (division-value _ _ n l) n l
+    read-by _ _ _ _ (at-if2 .before .if1 .left) (at-if2 .if2 .left) _ (division-value _ _ n l) n l
 
-dividend-in : (t : ℕ) (c : evaluate-lts.After-evaluate3 (evaluate-cs t) (evaluate-at t) evaluate.Post) {z : ℤ} (n : ℕ) → c .evaluate3 .result ≡ Vl.Value z n → 1 + n ≤ length (c .before .before .before .before .before .before .before .before .before .args .s .now)
-dividend-in t c n q = part-end (c .before .before .before .before .before .before .before .before .before .args .s .now) (1) (omega arith) (ap valueEnd q) (c .evaluate3 .ensures .1)
+dividend-in : (t : ℕ) (c : evaluate-lts.After-evaluate3 (evaluate-cs t) (evaluate-at t) evaluate.Post) {z : ℤ} (n : ℕ) →
+    let start = c .before .before .before .before .before .before .before .before .before in
+    c .evaluate3 .result ≡ Vl.Value z n → 1 + n ≤ length (start .args .s .now)
+dividend-in t c n q =
+    let start = c .before .before .before .before .before .before .before .before .before in
+    part-end (start .args .s .now) 1 (omega arith) (ap valueEnd q) (c .evaluate3 .ensures .1)
 
 evaluate-returns : (t : ℕ) → evaluate-lts.Need-returns (evaluate-cs t) (evaluate-at t) evaluate.Post
 evaluate-returns t c = (sym (read-empty _ _ _ _ (c .if1 .taken)), omega arith)
@@ -108,7 +143,11 @@ evaluate-enum-told : (t : ℕ) → evaluate-lts.Need-enum-told (evaluate-cs t) (
 evaluate-enum-told t c = c .match2 .keys2
 
 evaluate-returns-3 : (t : ℕ) → evaluate-lts.Need-returns-3 (evaluate-cs t) (evaluate-at t) evaluate.Post
-evaluate-returns-3 t c = (ap (valueOf _) (c .enum-told .given .1) ∙ sym (operands t (c .before .before) ∙ bind-fault _ _ _ (part-fault (values _ _ _) _ _ (answered (valueOf _) (c .before .before .evaluate .ensures .0) (c .enum-told .given .1)))), omega (arith, ap valueEnd (c .enum-told .given .1)))
+evaluate-returns-3 t c =
+    let fails = answered (valueOf _) (c .before .before .evaluate .ensures .0) (c .enum-told .given .1) in (
+      ap (valueOf _) (c .enum-told .given .1) ∙ sym (operands t (c .before .before) ∙ first-fault (values _ _ _) _ _ fails),
+      omega (arith, ap valueEnd (c .enum-told .given .1)),
+    )
 
 evaluate-add-evaluate : (t : ℕ) → evaluate-lts.Need-add-evaluate (evaluate-cs t) (evaluate-at t) evaluate.Post
 evaluate-add-evaluate t c = omega (arith, first-in t (c .before .before .before) _ (c .before .first .given .1))
@@ -135,16 +174,29 @@ evaluate-enum-told-2 : (t : ℕ) → evaluate-lts.Need-enum-told-2 (evaluate-cs 
 evaluate-enum-told-2 t c = c .match3 .keys2
 
 evaluate-returns-4 : (t : ℕ) → evaluate-lts.Need-returns-4 (evaluate-cs t) (evaluate-at t) evaluate.Post
-evaluate-returns-4 t c = (ap (valueOf _) (c .enum-told2 .given .1) ∙ sym (operands t (c .before .before .before .before .before .before .before) ∙ bind-got _ _ _ (part-got (values _ _ _) _ _ _ (answered (valueOf _) (c .before .before .before .before .before .before .before .evaluate .ensures .0) (c .before .before .before .before .before .first .given .1))) ∙ bind-fault _ _ _ (part-fault (values _ _ _) _ _ (answered (valueOf _) (c .before .before .evaluate2 .ensures .0) (c .enum-told2 .given .1)))), omega (arith, ap valueEnd (c .enum-told2 .given .1)))
+evaluate-returns-4 t c =
+    let at-first = c .before .before .before .before .before in
+    let read-first = answered (valueOf _) (at-first .before .before .evaluate .ensures .0) (at-first .first .given .1) in
+    let fails = answered (valueOf _) (c .before .before .evaluate2 .ensures .0) (c .enum-told2 .given .1) in (
+      ap (valueOf _) (c .enum-told2 .given .1)
+          ∙ sym (operands t (at-first .before .before) ∙ second-fault (values _ _ _) _ _ _ read-first fails),
+      omega (arith, ap valueEnd (c .enum-told2 .given .1)),
+    )
 
 evaluate-combine-requires : (t : ℕ) → evaluate-lts.Need-combine-requires (evaluate-cs t) (evaluate-at t) evaluate.Post
 evaluate-combine-requires t c κs = tt
 
 evaluate-add-t24 : (t : ℕ) → evaluate-lts.Need-add-t24 (evaluate-cs t) (evaluate-at t) evaluate.Post
-evaluate-add-t24 t c = omega (arith, second-in t (c .before .before .before .before) _ (c .before .before .second .given .1), c .before .before .before .before .before .before .before .before .before .before .before .before .before .before .before .before .before .good .0 .0)
+evaluate-add-t24 t c =
+    let start = c .before .before .before .before .before .before .before .before .before .before .before .before .before .before .before .before .before in
+    omega
+    (arith, second-in t (c .before .before .before .before) _ (c .before .before .second .given .1), start .good .0 .0)
 
 evaluate-add-t29 : (t : ℕ) → evaluate-lts.Need-add-t29 (evaluate-cs t) (evaluate-at t) evaluate.Post
-evaluate-add-t29 t c = omega (arith, second-in t (c .before .before .before .before) _ (c .before .before .second .given .1), c .before .before .before .before .before .before .before .before .before .before .before .before .before .before .before .before .before .good .0 .0)
+evaluate-add-t29 t c =
+    let start = c .before .before .before .before .before .before .before .before .before .before .before .before .before .before .before .before .before in
+    omega
+    (arith, second-in t (c .before .before .before .before) _ (c .before .before .second .given .1), start .good .0 .0)
 
 evaluate-sub-evaluate-5 : (t : ℕ) → evaluate-lts.Need-sub-evaluate-5 (evaluate-cs t) (evaluate-at t) evaluate.Post
 evaluate-sub-evaluate-5 t c = omega arith
@@ -168,33 +220,59 @@ evaluate-enum-told-3 : (t : ℕ) → evaluate-lts.Need-enum-told-3 (evaluate-cs 
 evaluate-enum-told-3 t c = c .match4 .keys2
 
 evaluate-returns-5 : (t : ℕ) → evaluate-lts.Need-returns-5 (evaluate-cs t) (evaluate-at t) evaluate.Post
-evaluate-returns-5 t c = (ap (valueOf _) (c .enum-told3 .given .1) ∙ sym (dividend t (c .before .before) ∙ bind-fault _ _ _ (part-fault (values _ _ _) _ _ (answered (valueOf _) (c .before .before .evaluate3 .ensures .0) (c .enum-told3 .given .1)))), omega (arith, ap valueEnd (c .enum-told3 .given .1)))
+evaluate-returns-5 t c =
+    let fails = answered (valueOf _) (c .before .before .evaluate3 .ensures .0) (c .enum-told3 .given .1) in (
+      ap (valueOf _) (c .enum-told3 .given .1) ∙ sym (dividend t (c .before .before) ∙ first-fault (values _ _ _) _ _ fails),
+      omega (arith, ap valueEnd (c .enum-told3 .given .1)),
+    )
 
 evaluate-add-divide : (t : ℕ) → evaluate-lts.Need-add-divide (evaluate-cs t) (evaluate-at t) evaluate.Post
-evaluate-add-divide t c = omega (arith, dividend-in t (c .before .before .before) _ (c .before .first2 .given .1), c .before .before .before .before .before .before .before .before .before .before .before .before .good .0 .0)
+evaluate-add-divide t c =
+    let start = c .before .before .before .before .before .before .before .before .before .before .before .before in
+    omega (arith, dividend-in t (c .before .before .before) _ (c .before .first2 .given .1), start .good .0 .0)
 
 evaluate-divide-requires : (t : ℕ) → evaluate-lts.Need-divide-requires (evaluate-cs t) (evaluate-at t) evaluate.Post
 evaluate-divide-requires t c κs = tt
 
 evaluate-returns-6 : (t : ℕ) → evaluate-lts.Need-returns-6 (evaluate-cs t) (evaluate-at t) evaluate.Post
 unfolding value
-evaluate-returns-6 t c = (c .read-signed .ensures .0 ∙ sym (read-constant _ _ _ _ (c .before .before .before .before .if1 .left) (c .before .before .before .if2 .left) (c .before .match .keys1)), c .read-signed .ensures .1)
+evaluate-returns-6 t c =
+    let at-if2 = c .before .before .before in (
+      c .read-signed .ensures .0
+          ∙ sym (read-constant _ _ _ _ (at-if2 .before .if1 .left) (at-if2 .if2 .left) (c .before .match .keys1)),
+      c .read-signed .ensures .1,
+    )
 
 evaluate-returns-7 : (t : ℕ) → evaluate-lts.Need-returns-7 (evaluate-cs t) (evaluate-at t) evaluate.Post
 unfolding value
-evaluate-returns-7 t c = (c .evaluate-variable .ensures .0 ∙ sym (read-variable _ _ _ _ (c .before .before .before .before .if1 .left) (c .before .before .before .if2 .left) (c .before .match .keys2)), c .evaluate-variable .ensures .1)
+evaluate-returns-7 t c =
+    let at-if2 = c .before .before .before in (
+      c .evaluate-variable .ensures .0
+          ∙ sym (read-variable _ _ _ _ (at-if2 .before .if1 .left) (at-if2 .if2 .left) (c .before .match .keys2)),
+      c .evaluate-variable .ensures .1,
+    )
 
 evaluate-returns-8 : (t : ℕ) → evaluate-lts.Need-returns-8 (evaluate-cs t) (evaluate-at t) evaluate.Post
-unfolding yield
-evaluate-returns-8 t c = (
-  rw (read-back (c .combine .result) (c .combine .ok), c .combine .ensures, read-back (c .before .before .before .before .before .before .before .first .given .0 .0) (c .before .before .before .before .before .before .known-told .given .0 .1), read-back (c .before .before .second .given .0 .0) (c .before .known-told2 .given .0 .1))
-      (sym (operands t (c .before .before .before .before .before .before .before .before .before) ∙ bind-got _ _ _ (part-got (values _ _ _) _ _ _ (answered (valueOf _) (c .before .before .before .before .before .before .before .before .before .evaluate .ensures .0) (c .before .before .before .before .before .before .before .first .given .1))) ∙ bind-got _ _ _ (part-got (values _ _ _) _ _ _ (answered (valueOf _) (c .before .before .before .before .evaluate2 .ensures .0) (c .before .before .second .given .1))))),
-  second-in t (c .before .before .before .before) _ (c .before .before .second .given .1),
-)
+evaluate-returns-8 t c =
+    let at-second = c .before .before in
+    let at-first = at-second .before .before .before .before .before in
+    let read-first = answered (valueOf _) (at-first .before .before .evaluate .ensures .0) (at-first .first .given .1) in
+    let read-second = answered (valueOf _) (at-second .before .before .evaluate2 .ensures .0) (at-second .second .given .1) in
+    let first-back = read-back (at-first .first .given .0 .0) (at-second .before .before .before .before .known-told .given .0 .1) in
+    let second-back = read-back (at-second .second .given .0 .0) (c .before .known-told2 .given .0 .1) in (
+      rw (read-back (c .combine .result) (c .combine .ok), c .combine .ensures, first-back, second-back)
+          (sym (operands t (at-first .before .before) ∙ both-got (values _ _ _) _ _ _ read-first _ read-second)),
+      second-in t (at-second .before .before) _ (at-second .second .given .1),
+    )
 
 evaluate-returns-9 : (t : ℕ) → evaluate-lts.Need-returns-9 (evaluate-cs t) (evaluate-at t) evaluate.Post
 evaluate-returns-9 t c =
-    ((rw (read-back (c .before .before .first2 .given .0 .0) (c .before .known-told3 .given .0 .1)) at (c .divide .ensures .0)) ∙ sym (dividend t (c .before .before .before .before) ∙ bind-got _ _ _ (part-got (values _ _ _) _ _ _ (answered (valueOf _) (c .before .before .before .before .evaluate3 .ensures .0) (c .before .before .first2 .given .1)))), c .divide .ensures .1)
+    let at-first = c .before .before in
+    let read-first = answered (valueOf _) (at-first .before .before .evaluate3 .ensures .0) (at-first .first2 .given .1) in (
+      (rw (read-back (at-first .first2 .given .0 .0) (c .before .known-told3 .given .0 .1)) at (c .divide .ensures .0))
+          ∙ sym (dividend t (at-first .before .before) ∙ first-got (values _ _ _) _ _ _ read-first),
+      c .divide .ensures .1,
+    )
 
 evaluate-returns-10 : (t : ℕ) → evaluate-lts.Need-returns-10 (evaluate-cs t) (evaluate-at t) evaluate.Post
 evaluate-returns-10 t c = (sym (read-unknown _ _ _ _ (c .before .before .before .before .before .if1 .left) (c .if4 .left)), omega arith)

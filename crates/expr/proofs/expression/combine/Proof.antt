@@ -19,15 +19,30 @@ product-requires c κs = search needs
 
 returns : tie.Need-returns
 unfolding combined
-returns c = let s = c .before .before .fits in read-back _ (c .sum .ok) ∙ c .sum .ensures ∙ read-both (λ x y. wrap (x +ℤ y)) (s .x) (s .y) ∙ rw (c .before .match .keys1)
+returns c =
+    let s = c .before .before .fits in
+    read-back _ (c .sum .ok)
+    ∙ c .sum .ensures
+    ∙ read-both (λ x y. wrap (x +ℤ y)) (s .x) (s .y)
+    ∙ rw (c .before .match .keys1)
 
 returns-2 : tie.Need-returns-2
 unfolding combined
-returns-2 c = let s = c .before .before .fits in read-back _ (c .difference .ok) ∙ c .difference .ensures ∙ read-both (λ x y. wrap (x -ℤ y)) (s .x) (s .y) ∙ rw (c .before .match .keys2)
+returns-2 c =
+    let s = c .before .before .fits in
+    read-back _ (c .difference .ok)
+    ∙ c .difference .ensures
+    ∙ read-both (λ x y. wrap (x -ℤ y)) (s .x) (s .y)
+    ∙ rw (c .before .match .keys2)
 
 returns-3 : tie.Need-returns-3
 unfolding combined
-returns-3 c = let s = c .before .before .fits in read-back _ (c .product .ok) ∙ c .product .ensures ∙ read-both (λ x y. wrap (x *ℤ y)) (s .x) (s .y) ∙ rw (ne-eqb _ 2 (c .before .match .rest .0 .1), ne-eqb _ 3 (c .before .match .rest .1))
+returns-3 c =
+    let s = c .before .before .fits in
+    read-back _ (c .product .ok)
+    ∙ c .product .ensures
+    ∙ read-both (λ x y. wrap (x *ℤ y)) (s .x) (s .y)
+    ∙ rw (ne-eqb _ 2 (c .before .match .rest .0 .1), ne-eqb _ 3 (c .before .match .rest .1))
 
 pub combine-spec : {M : Type 1} → statement M
 combine-spec =

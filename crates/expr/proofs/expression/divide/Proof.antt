@@ -1,11 +1,11 @@
 use mathlib.Core.Path.{_≡_, sym, ap, _∙_}
 use native.Mathlib.Omega.{arith}
-use Rattle.expr.specs.Reading.{got, fault}
+use Rattle.reading.specs.Reading.{got}
 use Rattle.expr.specs.Expression.{divisor}
-use Rattle.expr.specs.Places.{onward, wordOf, wordEnd, faultOf, wordFault}
-use Rattle.expr.proofs.Reading.{mapped-got, mapped-fault}
-use Rattle.expr.proofs.Places.{answered}
-use Rattle.expr.proofs.Bools.{cond-yes}
+use Rattle.reading.specs.Places.{onward, wordOf, wordEnd, wordFault}
+use Rattle.reading.proofs.Reading.{mapped-got, mapped-fault}
+use Rattle.reading.proofs.Places.{handed-on, answered}
+use Rattle.lists.proofs.Bools.{cond-yes}
 use Rattle.expr.proofs.Integers.{read-back}
 use Rattle.expr.proofs.Expressions.{divisor-in, divided-quotient, divided-remainder}
 use borrow.Author.Needs.{needs}
@@ -13,7 +13,10 @@ use Rattle.expr.proofs.expression.divide.Statement.{statement}
 use Rattle.expr.proofs.expression.divide.Tie as tie
 
 -- the divisor that was read
-taken : (c : tie.After-known-told) → divisor (onward (c .before .before .before .before .before .args .s .now) (c .before .before .before .before .before .args .at)) ≡ got (c .before .w .given .0 .0) (onward (c .before .before .before .before .before .args .s .now) (c .before .w .given .0 .1 .0))
+taken : (c : tie.After-known-told) →
+    let start = c .before .before .before .before .before in
+    divisor (onward (start .args .s .now) (start .args .at))
+    ≡ got (c .before .w .given .0 .0) (onward (start .args .s .now) (c .before .w .given .0 .1 .0))
 taken c = answered (wordOf _) (c .before .before .before .read-divisor .ensures .0) (c .before .w .given .1)
 
 read-divisor-requires : tie.Need-read-divisor-requires
@@ -29,7 +32,12 @@ word-fault-requires : tie.Need-word-fault-requires
 word-fault-requires c κs = search needs
 
 returns : tie.Need-returns
-returns c = (ap (λ f. fault (faultOf f)) (c .word-fault .ensures ∙ ap wordFault (c .before .enum-told .given .1)) ∙ sym (mapped-fault _ (answered (wordOf _) (c .before .before .before .read-divisor .ensures .0) (c .before .enum-told .given .1))), omega arith)
+returns c =
+    let at-read-divisor = c .before .before .before in
+    let fails = answered (wordOf _) (at-read-divisor .read-divisor .ensures .0) (c .before .enum-told .given .1) in (
+      handed-on wordFault (c .word-fault .ensures) (c .before .enum-told .given .1) (mapped-fault _ fails),
+      omega arith,
+    )
 
 quotient-requires : tie.Need-quotient-requires
 quotient-requires c κs = search needs
@@ -39,15 +47,35 @@ remainder-requires c κs = search needs
 
 returns-2 : tie.Need-returns-2
 returns-2 c =
-    let x = c .before .before .before .before .before .before .before .args .x in
-    let d = c .before .before .before .w .given .0 .0 in
-    (rw (read-back (c .quotient .result) (c .quotient .ok), c .quotient .ensures ∙ cond-yes _ _ (divisor-in _ (taken (c .before .before))), read-back x (c .before .before .before .before .before .before .before .fits .x .sfits), ← divided-quotient x d (c .before .if1 .taken)) (sym (mapped-got _ (taken (c .before .before)))), omega (arith, ap wordEnd (c .before .before .before .w .given .1), c .before .before .before .before .before .read-divisor .ensures .1))
+    let at-w = c .before .before .before in
+    let start = at-w .before .before .before .before in
+    let x = start .args .x in
+    let d = at-w .w .given .0 .0 in (
+      rw (
+        read-back (c .quotient .result) (c .quotient .ok),
+        c .quotient .ensures ∙ cond-yes _ _ (divisor-in _ (taken (c .before .before))),
+        read-back x (start .fits .x .sfits),
+        ← divided-quotient x d (c .before .if1 .taken),
+      )
+          (sym (mapped-got _ (taken (c .before .before)))),
+      omega (arith, ap wordEnd (at-w .w .given .1), at-w .before .before .read-divisor .ensures .1),
+    )
 
 returns-3 : tie.Need-returns-3
 returns-3 c =
-    let x = c .before .before .before .before .before .before .before .args .x in
-    let d = c .before .before .before .w .given .0 .0 in
-    (rw (read-back (c .remainder .result) (c .remainder .ok), c .remainder .ensures ∙ cond-yes _ _ (divisor-in _ (taken (c .before .before))), read-back x (c .before .before .before .before .before .before .before .fits .x .sfits), ← divided-remainder x d (c .before .if1 .left)) (sym (mapped-got _ (taken (c .before .before)))), omega (arith, ap wordEnd (c .before .before .before .w .given .1), c .before .before .before .before .before .read-divisor .ensures .1))
+    let at-w = c .before .before .before in
+    let start = at-w .before .before .before .before in
+    let x = start .args .x in
+    let d = at-w .w .given .0 .0 in (
+      rw (
+        read-back (c .remainder .result) (c .remainder .ok),
+        c .remainder .ensures ∙ cond-yes _ _ (divisor-in _ (taken (c .before .before))),
+        read-back x (start .fits .x .sfits),
+        ← divided-remainder x d (c .before .if1 .left),
+      )
+          (sym (mapped-got _ (taken (c .before .before)))),
+      omega (arith, ap wordEnd (at-w .w .given .1), at-w .before .before .read-divisor .ensures .1),
+    )
 
 pub divide-spec : {M : Type 1} → statement M
 divide-spec =

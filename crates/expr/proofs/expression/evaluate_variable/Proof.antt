@@ -1,9 +1,8 @@
-use mathlib.Core.Path.{sym, ap, _∙_}
+use mathlib.Core.Path.{sym, ap}
 use native.Mathlib.Omega.{arith}
-use Rattle.expr.specs.Reading.{fault}
-use Rattle.expr.specs.Places.{byteOf, byteEnd, faultOf, byteFault}
-use Rattle.expr.proofs.Reading.{mapped-got, mapped-fault}
-use Rattle.expr.proofs.Places.{answered}
+use Rattle.reading.specs.Places.{byteOf, byteEnd, byteFault}
+use Rattle.reading.proofs.Reading.{mapped-got, mapped-fault}
+use Rattle.reading.proofs.Places.{handed-on, answered}
 use Rattle.expr.proofs.Integers.{read-back}
 use borrow.Author.Needs.{needs}
 use Rattle.expr.proofs.expression.evaluate_variable.Statement.{statement}
@@ -22,16 +21,25 @@ byte-fault-requires : tie.Need-byte-fault-requires
 byte-fault-requires c κs = search needs
 
 returns : tie.Need-returns
-returns c = (ap (λ f. fault (faultOf f)) (c .byte-fault .ensures ∙ ap byteFault (c .before .enum-told .given .1)) ∙ sym (mapped-fault _ (answered (byteOf _) (c .before .before .before .read-below .ensures .0) (c .before .enum-told .given .1))), omega arith)
+returns c =
+    let at-read-below = c .before .before .before in
+    let fails = answered (byteOf _) (at-read-below .read-below .ensures .0) (c .before .enum-told .given .1) in (
+      handed-on byteFault (c .byte-fault .ensures) (c .before .enum-told .given .1) (mapped-fault _ fails),
+      omega arith,
+    )
 
 variable-value-requires : tie.Need-variable-value-requires
 variable-value-requires c κs = search needs
 
 returns-2 : tie.Need-returns-2
 returns-2 c =
-    let r = c .before .before .before .before .before .read-below in
-    let w = c .before .before .before .b .given in
-    (rw (read-back (c .variable-value .result) (c .variable-value .ok), c .variable-value .ensures) (sym (mapped-got _ (answered (byteOf _) (r .ensures .0) (w .1)))), omega (arith, ap byteEnd (w .1), r .ensures .1))
+    let at-b = c .before .before .before in
+    let r = at-b .before .before .read-below in
+    let w = at-b .b .given in (
+      rw (read-back (c .variable-value .result) (c .variable-value .ok), c .variable-value .ensures)
+          (sym (mapped-got _ (answered (byteOf _) (r .ensures .0) (w .1)))),
+      omega (arith, ap byteEnd (w .1), r .ensures .1),
+    )
 
 pub evaluate-variable-spec : {M : Type 1} → statement M
 evaluate-variable-spec =

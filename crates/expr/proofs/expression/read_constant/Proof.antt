@@ -1,4 +1,4 @@
-use Rattle.expr.proofs.Places.{word-skipped, word-skipped-end}
+use Rattle.reading.proofs.Places.{word-skipped, word-skipped-end}
 use borrow.Author.Needs.{needs}
 use Rattle.expr.proofs.expression.read_constant.Statement.{statement}
 use Rattle.expr.proofs.expression.read_constant.Tie as tie
@@ -10,7 +10,10 @@ word-reached-requires : tie.Need-word-reached-requires
 word-reached-requires c κs = search needs
 
 returns : tie.Need-returns
-returns c = (word-skipped _ (c .before .read-word .result) (c .word-reached .ensures) (c .before .read-word .ensures .0), word-skipped-end (c .before .read-word .result) _ (c .word-reached .ensures) (c .before .read-word .ensures .1))
+returns c = (
+  word-skipped _ (c .before .read-word .result) (c .word-reached .ensures) (c .before .read-word .ensures .0),
+  word-skipped-end (c .before .read-word .result) _ (c .word-reached .ensures) (c .before .read-word .ensures .1),
+)
 
 pub read-constant-spec : {M : Type 1} → statement M
 read-constant-spec = tie.close (tie.spec read-word-requires word-reached-requires returns)

@@ -29,12 +29,18 @@ add-result : tie.Need-add-result
 add-result c = record { fits = omega (arith, small (c .before .before) .1) }
 
 returns : tie.Need-returns
-returns c = let s = c .before .before .before in
-    absolute-below (s .args .x) (rw (read-wide (s .args .x) (s .fits .x)) at (sym (c .before .below-zero .ensures) ∙ c .if1 .taken)) (small (c .before .before) .0)
+returns c =
+    let s = c .before .before .before in
+    absolute-below (s .args .x)
+    (rw (read-wide (s .args .x) (s .fits .x)) at (sym (c .before .below-zero .ensures) ∙ c .if1 .taken))
+    (small (c .before .before) .0)
 
 returns-2 : tie.Need-returns-2
-returns-2 c = let s = c .before .before .before in
-    absolute-not (s .args .x) (rw (read-wide (s .args .x) (s .fits .x)) at (sym (c .before .below-zero .ensures) ∙ c .if1 .left)) (small (c .before .before) .0)
+returns-2 c =
+    let s = c .before .before .before in
+    absolute-not (s .args .x)
+    (rw (read-wide (s .args .x) (s .fits .x)) at (sym (c .before .below-zero .ensures) ∙ c .if1 .left))
+    (small (c .before .before) .0)
 
 pub absolute-spec : {M : Type 1} → statement M
 absolute-spec =

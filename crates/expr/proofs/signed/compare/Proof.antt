@@ -3,7 +3,7 @@ use mathlib.Core.Path.{_∙_, ap}
 use mathlib.Core.Bool.{not, _&&_}
 use lib.Signed.{ltZ, leZ}
 use borrow.Author.Needs.{needs}
-use Rattle.expr.specs.Guard.{relations, compareℤ}
+use Rattle.expr.specs.Relation.{relations, compareℤ}
 use Rattle.expr.proofs.Integers.{read-both, first-relation}
 use Rattle.expr.proofs.signed.compare.Statement.{statement}
 use Rattle.expr.proofs.signed.compare.Tie as tie
@@ -28,11 +28,13 @@ returns-3 c = rw (c .match .keys3) (read-both leZ (c .before .fits .y) (c .befor
 
 returns-4 : tie.Need-returns-4
 unfolding compareℤ relations
-returns-4 c = rw (c .before .match .keys4) (c .equal .ensures ∙ read-both (λ a b. leZ a b && leZ b a) (c .before .before .fits .x) (c .before .before .fits .y))
+returns-4 c = rw (c .before .match .keys4)
+    (c .equal .ensures ∙ read-both (λ a b. leZ a b && leZ b a) (c .before .before .fits .x) (c .before .before .fits .y))
 
 returns-5 : tie.Need-returns-5
 unfolding compareℤ relations
-returns-5 c = rw (c .before .match .keys5) (ap not (c .equal2 .ensures ∙ read-both (λ a b. leZ a b && leZ b a) (c .before .before .fits .x) (c .before .before .fits .y)))
+returns-5 c = rw (c .before .match .keys5) (ap not (c .equal2 .ensures
+    ∙ read-both (λ a b. leZ a b && leZ b a) (c .before .before .fits .x) (c .before .before .fits .y)))
 
 returns-6 : tie.Need-returns-6
 unfolding compareℤ relations

@@ -1,5 +1,5 @@
 -- One arm for each relation.
-use Rattle.expr.specs.Guard.{relations, compareℕ}
+use Rattle.expr.specs.Relation.{relations, compareℕ}
 use Rattle.expr.proofs.Integers.{first-relation}
 use Rattle.expr.proofs.signed.compare_clocks.Statement.{statement}
 use Rattle.expr.proofs.signed.compare_clocks.Tie as tie

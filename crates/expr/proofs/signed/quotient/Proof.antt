@@ -9,7 +9,7 @@ use lib.Signed.{ltZ}
 use mir.Syntax.{w32}
 use mir.Val.{toZ, ofZ}
 use borrow.Author.Tests.{not-true, not-false}
-use Rattle.expr.proofs.Bools.{cond-yes, cond-no}
+use Rattle.lists.proofs.Bools.{cond-yes, cond-no}
 use Rattle.expr.specs.Integer.{isDivisor}
 use Rattle.expr.proofs.Integers.{read-back, divisor-range, size-fits, natural-fits, natural-read, opposite-fits, opposite-read, quotient-negative, quotient-not-negative}
 use borrow.Author.Needs.{needs}
@@ -23,10 +23,17 @@ sized : (c : tie.After-absolute) → c .absolute .result ≡ natAbs (c .before .
 sized c = let s = c .before .before .before .before in c .absolute .ensures ∙ ap natAbs (read-back (s .args .x) (s .fits .x .sfits))
 
 small : (c : tie.After-only-where) → c .before .absolute .result + c .only-where .result < 2 ^ 32
-small c = let s = c .before .before .before .before .before in size-fits (s .args .x) (s .args .d) (s .fits .x .sfits) (divides (c .before .before .before)) (sized (c .before)) (c .only-where .ensures .1)
+small c =
+    let s = c .before .before .before .before .before in
+    size-fits (s .args .x) (s .args .d) (s .fits .x .sfits) (divides (c .before .before .before)) (sized (c .before))
+    (c .only-where .ensures .1)
 
-small-quotient : (c : tie.After-only-where) → (c .before .absolute .result + c .only-where .result) / c .before .before .before .before .before .args .d < 2 ^ 32
-small-quotient c = omega (arith, small c, div-le-self (c .before .absolute .result + c .only-where .result) (c .before .before .before .before .before .args .d))
+small-quotient : (c : tie.After-only-where) →
+    let start = c .before .before .before .before .before in
+    (c .before .absolute .result + c .only-where .result) / start .args .d < 2 ^ 32
+small-quotient c =
+    let start = c .before .before .before .before .before in
+    omega (arith, small c, div-le-self (c .before .absolute .result + c .only-where .result) (start .args .d))
 
 read : (c : tie.Start) → ltZ (c .args .x) (pos 0) ≡ ltZ (toZ w32 (ofZ w32 (c .args .x))) (pos 0)
 read c = ap (λ z. ltZ z (pos 0)) (sym (read-back (c .args .x) (c .fits .x .sfits)))
@@ -71,15 +78,23 @@ returns-2 : tie.Need-returns-2
 returns-2 c =
     let s = c .before .before .before .before .before .before .before in
     let n = c .before .before .before .before in
-    read-back _ (c .wrap .ok) ∙ c .wrap .ensures
-    ∙ rw (opposite-read _ (small-quotient (c .before .before))) (quotient-negative (s .args .x) (s .args .d) (s .fits .x .sfits) (divides (n .before)) (sized (c .before .before .before)) (read s ∙ sym (n .is-negative .ensures) ∙ c .before .if2 .taken) (c .before .before .only-where .ensures .0 ∙ cond-yes _ _ (c .before .if2 .taken)))
+    read-back _ (c .wrap .ok)
+    ∙ c .wrap .ensures
+    ∙ rw (opposite-read _ (small-quotient (c .before .before)))
+    (quotient-negative (s .args .x) (s .args .d) (s .fits .x .sfits) (divides (n .before))
+    (sized (c .before .before .before)) (read s ∙ sym (n .is-negative .ensures) ∙ c .before .if2 .taken)
+    (c .before .before .only-where .ensures .0 ∙ cond-yes _ _ (c .before .if2 .taken)))
 
 returns-3 : tie.Need-returns-3
 returns-3 c =
     let s = c .before .before .before .before .before .before .before in
     let n = c .before .before .before .before in
-    read-back _ (c .wrap2 .ok) ∙ c .wrap2 .ensures
-    ∙ rw (natural-read _ (small-quotient (c .before .before))) (quotient-not-negative (s .args .x) (s .args .d) (s .fits .x .sfits) (divides (n .before)) (sized (c .before .before .before)) (read s ∙ sym (n .is-negative .ensures) ∙ c .before .if2 .left) (c .before .before .only-where .ensures .0 ∙ cond-no _ _ (c .before .if2 .left)))
+    read-back _ (c .wrap2 .ok)
+    ∙ c .wrap2 .ensures
+    ∙ rw (natural-read _ (small-quotient (c .before .before)))
+    (quotient-not-negative (s .args .x) (s .args .d) (s .fits .x .sfits) (divides (n .before))
+    (sized (c .before .before .before)) (read s ∙ sym (n .is-negative .ensures) ∙ c .before .if2 .left)
+    (c .before .before .only-where .ensures .0 ∙ cond-no _ _ (c .before .if2 .left)))
 
 pub quotient-spec : {M : Type 1} → statement M
 quotient-spec =

@@ -9,7 +9,7 @@ use mir.Val.{toZ, ofZ}
 use borrow.Author.Tests.{not-true, not-false}
 use borrow.Author.Needs.{needs}
 use Rattle.expr.specs.Integer.{isDivisor}
-use Rattle.expr.proofs.Bools.{cond-yes, cond-no}
+use Rattle.lists.proofs.Bools.{cond-yes, cond-no}
 use Rattle.expr.proofs.Integers.{read-back, read-wide, cast-fits, divisor-range, remainder-negative, remainder-not-negative}
 use Rattle.expr.proofs.signed.remainder.Statement.{statement}
 use Rattle.expr.proofs.signed.remainder.Tie as tie
@@ -39,7 +39,9 @@ sub-with-sign : tie.Need-sub-with-sign
 sub-with-sign c = divisor-range _ (divides (c .before .before .before)) .0
 
 -- the remainder is below the divisor, which fits
-less : (c : tie.After-below-zero) → (c .before .magnitude .result % c .before .before .before .before .args .d < c .before .before .before .before .args .d) × (c .before .before .before .before .args .d < 2 ^ 31)
+less : (c : tie.After-below-zero) →
+    let start = c .before .before .before .before in
+    (c .before .magnitude .result % start .args .d < start .args .d) × (start .args .d < 2 ^ 31)
 less c = let r = divisor-range _ (divides (c .before .before)) in (mod-lt _ (r .0), r .1)
 
 cast-with-sign : tie.Need-cast-with-sign
@@ -62,17 +64,23 @@ read c = read-wide _ (c .fits .x)
 
 returns-2 : tie.Need-returns-2
 returns-2 c =
-    let s = c .before .before .before .before .before .before in
-    read-back _ (c .with-sign .ok) ∙ c .with-sign .ensures
-    ∙ rw (c .before .before .before .magnitude .ensures, read s) (remainder-negative _ _ (rw (read s) at (sym (c .before .before .below-zero .ensures) ∙ c .before .if2 .taken)))
-    ∙ sym (cond-yes _ _ (divides (c .before .before .before .before)))
+    let at-magnitude = c .before .before .before in
+    let s = at-magnitude .before .before .before in
+    read-back _ (c .with-sign .ok)
+    ∙ c .with-sign .ensures
+    ∙ rw (at-magnitude .magnitude .ensures, read s)
+    (remainder-negative _ _ (rw (read s) at (sym (c .before .before .below-zero .ensures) ∙ c .before .if2 .taken)))
+    ∙ sym (cond-yes _ _ (divides (at-magnitude .before)))
 
 returns-3 : tie.Need-returns-3
 returns-3 c =
-    let s = c .before .before .before .before .before .before in
-    read-back _ (c .with-sign2 .ok) ∙ c .with-sign2 .ensures
-    ∙ rw (c .before .before .before .magnitude .ensures, read s) (remainder-not-negative _ _ (rw (read s) at (sym (c .before .before .below-zero .ensures) ∙ c .before .if2 .left)))
-    ∙ sym (cond-yes _ _ (divides (c .before .before .before .before)))
+    let at-magnitude = c .before .before .before in
+    let s = at-magnitude .before .before .before in
+    read-back _ (c .with-sign2 .ok)
+    ∙ c .with-sign2 .ensures
+    ∙ rw (at-magnitude .magnitude .ensures, read s) (remainder-not-negative _ _
+    (rw (read s) at (sym (c .before .before .below-zero .ensures) ∙ c .before .if2 .left)))
+    ∙ sym (cond-yes _ _ (divides (at-magnitude .before)))
 
 pub remainder-spec : {M : Type 1} → statement M
 remainder-spec =

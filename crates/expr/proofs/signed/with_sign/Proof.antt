@@ -17,7 +17,8 @@ cast-result-2 : tie.Need-cast-result-2
 cast-result-2 c = search needs
 
 returns : tie.Need-returns
-returns c = rw (toZ-pos w32 (c .before .args .m) (c .before .pre), complement-pos, c .if1 .taken) (toZ-ofZ w32 (negsuc (c .before .args .m)) (record { sfits = c .before .pre }))
+returns c = rw (toZ-pos w32 (c .before .args .m) (c .before .pre), complement-pos, c .if1 .taken)
+    (toZ-ofZ w32 (negsuc (c .before .args .m)) (record { sfits = c .before .pre }))
 
 returns-2 : tie.Need-returns-2
 returns-2 c = rw (c .if1 .left) (toZ-pos w32 (c .before .args .m) (c .before .pre))

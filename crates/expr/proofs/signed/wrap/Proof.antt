@@ -36,16 +36,22 @@ read c = toZ-ofZ w64 _ (c .fits .x)
 returns : tie.Need-returns
 unfolding wrap
 returns c =
-    let s = c .before .before .before .before in
-    read-back _ (c .signed .ok) ∙ c .signed .ensures
-    ∙ rw (c .before .before .before .magnitude .ensures, read s) (ap signed (residue-negative (s .args .x) (rw (read s) at (sym (c .before .before .below-zero .ensures) ∙ c .before .if1 .taken))))
+    let at-magnitude = c .before .before .before in
+    let s = at-magnitude .before in
+    read-back _ (c .signed .ok)
+    ∙ c .signed .ensures
+    ∙ rw (at-magnitude .magnitude .ensures, read s) (ap signed (residue-negative (s .args .x)
+    (rw (read s) at (sym (c .before .before .below-zero .ensures) ∙ c .before .if1 .taken))))
 
 returns-2 : tie.Need-returns-2
 unfolding wrap
 returns-2 c =
-    let s = c .before .before .before .before in
-    read-back _ (c .signed2 .ok) ∙ c .signed2 .ensures
-    ∙ rw (c .before .before .before .magnitude .ensures, read s) (ap signed (residue-not-negative (s .args .x) (rw (read s) at (sym (c .before .before .below-zero .ensures) ∙ c .before .if1 .left))))
+    let at-magnitude = c .before .before .before in
+    let s = at-magnitude .before in
+    read-back _ (c .signed2 .ok)
+    ∙ c .signed2 .ensures
+    ∙ rw (at-magnitude .magnitude .ensures, read s) (ap signed (residue-not-negative (s .args .x)
+    (rw (read s) at (sym (c .before .before .below-zero .ensures) ∙ c .before .if1 .left))))
 
 pub wrap-spec : {M : Type 1} → statement M
 wrap-spec =

@@ -1,0 +1,4 @@
+-- Laws of the definitions of this crate.
+pub mod Clocks
+pub mod Ranges
+pub mod Rows

@@ -1,0 +1,2 @@
+// Clocks and rows of bounds.
+pub mod clock;

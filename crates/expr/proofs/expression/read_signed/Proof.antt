@@ -1,0 +1,57 @@
+use mathlib.Core.Path.{sym, ap}
+use native.Mathlib.Omega.{arith}
+use Rattle.reading.specs.Reading.{mapped}
+use Rattle.expr.specs.Integer.{signed}
+use Rattle.reading.specs.Places.{wordOf, wordEnd, wordFault}
+use Rattle.reading.proofs.Places.{handed-on, answered}
+use Rattle.expr.proofs.Integers.{read-back}
+use borrow.Author.Needs.{needs}
+use Rattle.expr.proofs.expression.read_signed.Statement.{statement}
+use Rattle.expr.proofs.expression.read_signed.Tie as tie
+
+read-word-requires : tie.Need-read-word-requires
+read-word-requires c κs = search needs
+
+enum-known-w : tie.Need-enum-known-w
+enum-known-w c = search needs
+
+enum-told : tie.Need-enum-told
+enum-told c = search needs
+
+word-fault-requires : tie.Need-word-fault-requires
+word-fault-requires c κs = search needs
+
+returns : tie.Need-returns
+unfolding mapped
+returns c =
+    let at-read-word = c .before .before .before in
+    let fails = answered (wordOf _) (at-read-word .read-word .ensures .0) (c .before .enum-told .given .1) in (
+      handed-on wordFault (c .word-fault .ensures) (c .before .enum-told .given .1) (ap (mapped signed) fails),
+      omega arith,
+    )
+
+signed-requires : tie.Need-signed-requires
+signed-requires c κs = search needs
+
+returns-2 : tie.Need-returns-2
+unfolding mapped
+returns-2 c =
+    let at-read-word = c .before .before .before .before in
+    let r = at-read-word .read-word in
+    let w = c .before .before .w .given in (
+      rw (read-back (c .signed .result) (c .signed .ok), c .signed .ensures)
+          (sym (ap (mapped signed) (answered (wordOf _) (r .ensures .0) (w .1)))),
+      omega (arith, ap wordEnd (w .1), r .ensures .1),
+    )
+
+pub read-signed-spec : {M : Type 1} → statement M
+read-signed-spec =
+    tie.close
+    (tie.spec
+    read-word-requires
+    enum-known-w
+    enum-told
+    word-fault-requires
+    returns
+    signed-requires
+    returns-2)

@@ -1,0 +1,4 @@
+-- Laws of the definitions of this crate.
+pub mod Guards
+pub mod LabelRanges
+pub mod Labels

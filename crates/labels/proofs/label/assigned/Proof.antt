@@ -1,0 +1,95 @@
+use mathlib.Core.Path.{sym, _∙_}
+use Rattle.reading.specs.Reading.{skipped}
+use Rattle.labels.specs.Guard.{update}
+use Rattle.labels.specs.Label.{body}
+use Rattle.reading.specs.Places.{byteOf, reached}
+use Rattle.reading.proofs.Places.{bind-got, bind-fault, answered}
+use Rattle.reading.proofs.Reading.{no-answer, got-rest, mapped-at, fault-at}
+use Rattle.labels.proofs.Labels.{body-parts}
+use borrow.Author.Needs.{needs}
+use Rattle.labels.proofs.label.assigned.Statement.{statement}
+use Rattle.labels.proofs.label.assigned.Tie as tie
+
+read-byte-requires : tie.Need-read-byte-requires
+read-byte-requires c κs = search needs
+
+enum-known-g : tie.Need-enum-known-g
+enum-known-g c = search needs
+
+enum-told : tie.Need-enum-told
+enum-told c = search needs
+
+returns : tie.Need-returns
+unfolding body skipped
+returns c = λ b t e. no-answer (sym (bind-fault _ _ _ (answered (byteOf _) (c .before .before .read-byte .ensures .0) (c .enum-told .given .1))) ∙ e)
+
+read-byte-requires-2 : tie.Need-read-byte-requires-2
+read-byte-requires-2 c κs = search needs
+
+enum-known-a : tie.Need-enum-known-a
+enum-known-a c = search needs
+
+enum-told-2 : tie.Need-enum-told-2
+enum-told-2 c = search needs
+
+returns-2 : tie.Need-returns-2
+unfolding body skipped
+returns-2 c =
+    let at-g = c .before .before .before .before in
+    let read-g = answered (byteOf _) (at-g .before .before .read-byte .ensures .0) (at-g .g .given .1) in
+    let fails = answered (byteOf _) (c .before .before .read-byte2 .ensures .0) (c .enum-told2 .given .1) in
+    λ b t e. no-answer (sym (bind-got _ _ _ read-g ∙ bind-fault _ _ _ fails) ∙ e)
+
+read-guards-requires : tie.Need-read-guards-requires
+read-guards-requires c κs = search needs
+
+enum-known-q : tie.Need-enum-known-q
+enum-known-q c = search needs
+
+enum-told-3 : tie.Need-enum-told-3
+enum-told-3 c = search needs
+
+returns-3 : tie.Need-returns-3
+unfolding body skipped
+returns-3 c =
+    let at-a = c .before .before .before .before in
+    let at-g = at-a .before .before .before .before in
+    let read-g = answered (byteOf _) (at-g .before .before .read-byte .ensures .0) (at-g .g .given .1) in
+    let read-a = answered (byteOf _) (at-a .before .before .read-byte2 .ensures .0) (at-a .a .given .1) in
+    let fails = answered (reached _ tt) (c .before .before .read-guards .ensures) (c .enum-told3 .given .1) in
+    λ b t e. let w = body-parts _ _ e read-g read-a in no-answer (sym (fault-at _ _ fails) ∙ w .1)
+
+all-assigned-requires : tie.Need-all-assigned-requires
+all-assigned-requires c κs = search needs
+
+returns-4 : tie.Need-returns-4
+unfolding body skipped update
+returns-4 c =
+    let at-q = c .before .before in
+    let at-a = at-q .before .before .before .before in
+    let at-g = at-a .before .before .before .before in
+    let read-g = answered (byteOf _) (at-g .before .before .read-byte .ensures .0) (at-g .g .given .1) in
+    let read-a = answered (byteOf _) (at-a .before .before .read-byte2 .ensures .0) (at-a .a .given .1) in
+    let read-q = answered (reached _ tt) (at-q .before .before .read-guards .ensures) (at-q .q .given .1) in
+    λ b t e.
+    let w = body-parts _ _ e read-g read-a in
+    let m = mapped-at _ _ read-q in c .all-assigned .ensures (b .updates) t (rw (got-rest (sym (m .1) ∙ w .1)) (w .2))
+
+pub assigned-spec : {M : Type 1} → statement M
+assigned-spec =
+    tie.close
+    (tie.spec
+    read-byte-requires
+    enum-known-g
+    enum-told
+    returns
+    read-byte-requires-2
+    enum-known-a
+    enum-told-2
+    returns-2
+    read-guards-requires
+    enum-known-q
+    enum-told-3
+    returns-3
+    all-assigned-requires
+    returns-4)

@@ -1,0 +1,4 @@
+-- The definitions of this crate.
+pub mod Guard
+pub mod Headings
+pub mod Label

@@ -1,0 +1,3 @@
+// Guards, assignments, and the labels of transitions and edges that hold them.
+pub mod guard;
+pub mod label;

@@ -1,0 +1,49 @@
+use mathlib.Core.Path.{sym, ap, _∙_}
+use Rattle.reading.specs.Places.{shortOf}
+use Rattle.reading.proofs.Places.{such-got, such-not, such-fault, answered}
+use borrow.Author.Needs.{needs}
+use Rattle.reading.proofs.field.read_long_marks.Statement.{statement}
+use Rattle.reading.proofs.field.read_long_marks.Tie as tie
+
+read-short-requires : tie.Need-read-short-requires
+read-short-requires c κs = search needs
+
+enum-known-h : tie.Need-enum-known-h
+enum-known-h c = search needs
+
+enum-told : tie.Need-enum-told
+enum-told c = search needs
+
+returns : tie.Need-returns
+returns c = ap (shortOf _) (c .enum-told .given .1) ∙ sym (such-fault _ _ _ (answered (shortOf _) (c .before .before .read-short .ensures .0) (c .enum-told .given .1)))
+
+cast-in-width : tie.Need-cast-in-width
+cast-in-width c = search needs
+
+in-width-requires : tie.Need-in-width-requires
+in-width-requires c κs = search needs
+
+returns-2 : tie.Need-returns-2
+returns-2 c =
+    let at-h = c .before .before .before in
+    let read-h = answered (shortOf _) (at-h .before .before .read-short .ensures .0) (at-h .h .given .1) in
+    sym (such-got _ _ _ read-h (sym (c .before .in-width .ensures) ∙ c .if1 .taken))
+
+returns-3 : tie.Need-returns-3
+returns-3 c =
+    let at-h = c .before .before .before in
+    let read-h = answered (shortOf _) (at-h .before .before .read-short .ensures .0) (at-h .h .given .1) in
+    sym (such-not _ _ _ read-h (sym (c .before .in-width .ensures) ∙ c .if1 .left))
+
+pub read-long-marks-spec : {M : Type 1} → statement M
+read-long-marks-spec =
+    tie.close
+    (tie.spec
+    read-short-requires
+    enum-known-h
+    enum-told
+    returns
+    cast-in-width
+    in-width-requires
+    returns-2
+    returns-3)

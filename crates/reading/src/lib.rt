@@ -1,0 +1,3 @@
+// Fields of records: each reader answers a value and the next place, or a fault. And what became of a call.
+pub mod field;
+pub mod verdict;

@@ -1,0 +1,6 @@
+-- Laws of the definitions of this crate.
+pub mod Kept
+pub mod Moves
+pub mod Sets
+pub mod Steps
+pub mod Turns

@@ -1,0 +1,22 @@
+-- Labels that are taken one by one: the resets and the assignments of the first, and then those of the others.
+use mathlib.Core.Path.{_≡_}
+use mathlib.Core.List.{List, _∷_, map}
+use Prim.Native.Nat.{ℕ}
+use lib.IntN.{ℤ}
+use Rattle.lists.specs.Lists.{concat}
+use Rattle.labels.specs.Guard.{assign}
+use Rattle.labels.specs.Label.{Label}
+use Rattle.clocks.specs.Clocks.{reset}
+use Rattle.steps.specs.Moves.{clocksAfter}
+use Rattle.labels.proofs.Labels.{assign-append}
+
+module _ {l rest : List ℕ} {m : ℕ} (f : ℕ → Label) (e : l ≡ m ∷ rest) where
+  pub clocks-next : (cs : List ℕ) → clocksAfter (map f l) cs ≡ clocksAfter (map f rest) (reset (f m .resets) cs)
+  unfolding clocksAfter
+  clocks-next cs = rw e
+
+  pub variables-next : (old vs : List ℤ) →
+      assign old (concat (λ l. l .body .updates) (map f l)) vs
+      ≡ assign old (concat (λ l. l .body .updates) (map f rest)) (assign old (f m .body .updates) vs)
+  unfolding concat
+  variables-next old vs = rw e (assign-append old (f m .body .updates) (concat (λ l. l .body .updates) (map f rest)) vs)

@@ -1,0 +1,2 @@
+// What the steps of charts and networks share.
+pub mod step;
