@@ -6,13 +6,12 @@ use Prim.Native.Nat.{ℕ, zero, suc, _-_, _≤_, _<_}
 use native.Mathlib.Omega.{arith}
 use lib.ListN.{length, getD, take, replicate, length-append, length-take, length-map, length-replicate, List·getD-eq-default}
 use lib.Seq.{getD-take, take-all}
-use Rattle.expr.specs.Lists.{keep, padded}
-use Rattle.expr.proofs.Lists.{take-map}
-use Rattle.network.specs.Network.{Edge, Network, edgeAt, key}
+use Rattle.lists.specs.Lists.{keep, padded}
+use Rattle.lists.proofs.Lists.{take-map}
+use Rattle.network_records.specs.Network.{Edge, Network, edgeAt}
 use Rattle.network.specs.Bearing.{transitionOf, transitionsOf}
-use Rattle.network.specs.Layout.{Laid, keyOf}
-use Rattle.network.specs.declared.header.Counts.{Counts}
-use Rattle.network.specs.declared.laid.Key.{Key}
+use Rattle.network_records.specs.Layout.{Laid}
+use Rattle.network_records.specs.declared.header.Counts.{Counts}
 
 module _ {A : Type 0} (d : A) where
   -- past a list that is padded with d stands d, as past its end
@@ -50,12 +49,8 @@ module _ {A : Type 0} (d : A) where
     unfolding padded
     keep-padded n l = keep-followed l (n - length l)
 
--- the edge of a number that the network has, by its key; and of any other
+-- the edge of a number that the network lacks
 module _ {rest : List ℕ} {k : Counts} {offsets : List ℕ} {n : Network} (L : Laid rest k offsets n) (m : ℕ) where
-  pub transition-key : (e : Key) → keyOf e ≡ key (edgeAt n m) → e .transition ≡ transitionOf n m
-  unfolding key
-  transition-key e h = ap (λ (l : List ℕ). getD l 2 0) h
-
   pub no-transition : k .edges ≤ m → 255 ≡ transitionOf n m
   unfolding edgeAt
   no-transition h = ap (λ (e : Edge). e .transition) (sym (List·getD-eq-default (n .edges) _ (let z : length (n .edges) ≤ m = omega (arith, L .edges) in z)))

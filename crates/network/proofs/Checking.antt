@@ -5,25 +5,25 @@ use mathlib.Core.List.{List}
 use Prim.Native.Nat.{ℕ, _-_, _≤_, _<_, _^_}
 use native.Mathlib.Omega.{arith}
 use lib.ListN.{length, take, drop}
-use Rattle.expr.specs.Lists.{all}
-use Rattle.expr.specs.Label.{assignsOnce}
-use Rattle.expr.specs.Reading.{Read, got, fault, yield, _>>_, byte, byte2, many, recorded, skipped, mapped}
-use Rattle.expr.specs.Places.{onward, faultOf}
-use Rattle.expr.specs.Answer.{Answer, done, refused, unless, _>>=_}
-use Rattle.expr.specs.declared.field.Fault.{Fault}
-use Rattle.expr.specs.declared.field.Fault.the-variants as Fl
-use Rattle.expr.proofs.Places.{bind-got, bind-fault, next-got, next-fault, end-none, end-some, onward-onward, length-onward, part-onward}
-use Rattle.expr.proofs.Reading.{mapped-at, fault-at, many-at}
-use Rattle.network.specs.Network.{Location, Edge, Network, location, inRange, records, numbered, sound, countsOf, readNetwork, networkOf}
-use Rattle.network.specs.Edges.{edgeIn, EdgesAt}
-use Rattle.network.specs.Layout.{Laid}
-use Rattle.network.specs.Checks.{faultNumber, soundOf, CheckedAs, FindingFits, HeaderFits}
-use Rattle.network.specs.declared.header.Counts.{Counts}
-use Rattle.network.specs.declared.header.HeaderRead.{HeaderRead}
-use Rattle.network.specs.declared.header.HeaderRead.the-variants as Hd
+use Rattle.lists.specs.Lists.{all}
+use Rattle.reading.specs.Reading.{Read, got, fault, yield, _>>_, byte, byte2, many, recorded, skipped, mapped}
+use Rattle.reading.specs.Places.{onward, faultOf}
+use Rattle.reading.specs.Answer.{Answer, done, refused, unless, _>>=_}
+use Rattle.reading.specs.declared.field.Fault.{Fault}
+use Rattle.reading.specs.declared.field.Fault.the-variants as Fl
+use Rattle.reading.proofs.Places.{bind-got, bind-fault, next-got, next-fault, end-none, end-some, onward-onward, length-onward, part-onward}
+use Rattle.reading.proofs.Reading.{mapped-at, fault-at, many-at}
+use Rattle.network_records.specs.Network.{Location, Edge, Network, location, inRange, records, numbered, sound, countsOf, readNetwork, networkOf}
+use Rattle.network_records.specs.Edges.{edgeIn, keepsOnce, EdgesAt}
+use Rattle.network_records.specs.Layout.{Laid}
+use Rattle.network.specs.Checks.{faultNumber, soundOf, CheckedAs, FindingFits}
+use Rattle.network_records.specs.Headers.{HeaderFits}
+use Rattle.network_records.specs.declared.header.Counts.{Counts}
+use Rattle.network_records.specs.declared.header.HeaderRead.{HeaderRead}
+use Rattle.network_records.specs.declared.header.HeaderRead.the-variants as Hd
 use Rattle.network.specs.declared.check.Finding.{Finding}
 use Rattle.network.specs.declared.check.Finding.the-variants as Fd
-use Rattle.network.proofs.Records.{located}
+use Rattle.network_records.proofs.Records.{located}
 
 sound-fault : {q : Read Network} (f : Fault) → q ≡ fault (faultOf f) → soundOf q ≡ refused (faultNumber f)
 unfolding numbered _>>=_
@@ -53,12 +53,12 @@ module _ (k : Counts) (rest : List ℕ) where
     unfolding skipped
     ls = let w = mapped-at _ _ g in (w .0, w .1)
 
-    pub edges-fault : (f : Fault) → mapped (all (λ e. assignsOnce (e .label))) (EdgesFrom at) ≡ fault (faultOf f) → soundOf (records k (onward rest 8)) ≡ refused (faultNumber f)
+    pub edges-fault : (f : Fault) → mapped (all keepsOnce) (EdgesFrom at) ≡ fault (faultOf f) → soundOf (records k (onward rest 8)) ≡ refused (faultNumber f)
     unfolding records
     edges-fault f h = sound-fault f (bind-got _ _ _ (ls .1) ∙ bind-fault _ _ _ (fault-at _ _ h))
 
-    module _ (to : ℕ) (once : Bool) (h : mapped (all (λ e. assignsOnce (e .label))) (EdgesFrom at) ≡ got once (onward rest to)) where
-      es : (es : List Edge) × (EdgesFrom at ≡ got es (onward rest to)) × (all (λ e. assignsOnce (e .label)) es ≡ once)
+    module _ (to : ℕ) (once : Bool) (h : mapped (all keepsOnce) (EdgesFrom at) ≡ got once (onward rest to)) where
+      es : (es : List Edge) × (EdgesFrom at ≡ got es (onward rest to)) × (all keepsOnce es ≡ once)
       es = mapped-at _ _ h
 
       pub rest-fault : to < length rest → soundOf (records k (onward rest 8)) ≡ refused 24
@@ -77,7 +77,7 @@ module _ (k : Counts) (rest : List ℕ) where
           placed = p (es .0) (onward rest to) (es .1);
         }
 
-        module _ (b : Bool) (s : (n : Network) → Laid rest k offsets n → all (λ e. assignsOnce (e .label)) (n .edges) ≡ once → b ≡ sound n) where
+        module _ (b : Bool) (s : (n : Network) → Laid rest k offsets n → all keepsOnce (n .edges) ≡ once → b ≡ sound n) where
           pub rules-broken : b ≡ false → soundOf (records k (onward rest 8)) ≡ refused 25
           unfolding unless
           rules-broken e = sound-got read ∙ ap (λ (x : Bool). unless 25 x (done (net (ls .0) (es .0)))) (sym (s _ laid (es .2)) ∙ e)

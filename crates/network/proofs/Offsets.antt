@@ -1,5 +1,5 @@
 -- The edges of a checked file, each at its offset.
-use mathlib.Core.Path.{_≡_, refl, sym, ap, ap₂, _∙_, subst}
+use mathlib.Core.Path.{_≡_, refl, sym, ap, ap₂, _∙_}
 use mathlib.Core.Bool.{Bool, true, false, _&&_, _||_, or-false, and-false}
 use mathlib.Core.List.{List, [], _∷_}
 use Prim.Native.Nat.{ℕ, _+_, _-_, _≤_, _<_}
@@ -7,20 +7,16 @@ use native.Mathlib.Omega.{arith}
 use borrow.Author.Tests.{eq-eqb, ne-eqb, le-ltb}
 use lib.Dec.{ltb, eqb}
 use lib.ListN.{length, getD, drop, length-drop, drop-of-length-le}
-use Rattle.expr.specs.Reading.{got, byte2, recorded}
-use Rattle.expr.specs.Places.{onward}
-use Rattle.expr.specs.declared.field.Fault.{Fault}
-use Rattle.expr.proofs.Reading.{no-answer, got-value}
-use Rattle.expr.proofs.Lists.{drop-next}
-use Rattle.network.specs.Network.{Edge, Network, locationAt, edgeAt, ownerOf, key, lexLess, edgesAscend}
-use Rattle.network.specs.Edges.{edgeIn, EdgeHere, Kept}
-use Rattle.network.specs.Layout.{Laid, keyOf}
-use Rattle.network.specs.declared.header.Counts.{Counts}
-use Rattle.network.specs.declared.laid.Key.{Key}
-use Rattle.network.specs.declared.edge.Edge as code
-use Rattle.network.specs.declared.edge.EdgeRead.{EdgeRead}
-use Rattle.network.specs.declared.edge.EdgeRead.the-variants as Ed
-use Rattle.network.proofs.Edges.{here-got, here-fault, few-edges}
+use Rattle.reading.specs.Reading.{got, byte2, recorded}
+use Rattle.reading.specs.Places.{onward}
+use Rattle.lists.proofs.Parts.{drop-next}
+use Rattle.network_records.specs.Network.{Edge, Network, locationAt, edgeAt, ownerOf, key, lexLess, edgesAscend}
+use Rattle.network_records.specs.Edges.{edgeIn, Kept}
+use Rattle.network_records.specs.Layout.{Laid}
+use Rattle.network.specs.Keys.{keyOf}
+use Rattle.network_records.specs.declared.header.Counts.{Counts}
+use Rattle.network_records.specs.declared.edge.Edge as code
+use Rattle.network_records.proofs.Edges.{few-edges}
 
 module _ {rest : List ℕ} {k : Counts} {offsets : List ℕ} {n : Network} (L : Laid rest k offsets n) where
   module _ (i : ℕ) (h : i < k .edges) where
@@ -32,13 +28,6 @@ module _ {rest : List ℕ} {k : Counts} {offsets : List ℕ} {n : Network} (L : 
       pub there : (t : List ℕ) × (recorded byte2 (edgeIn k) (onward rest place) ≡ got (edgeAt n i) t)
       there = let w = laid-edge in (w .0, ap (λ (p : ℕ). recorded byte2 (edgeIn k) (onward rest p)) (e (omega (arith, few-edges k (L .located .in-range)))) ∙ w .1)
 
-      -- the code reads the edge that the network has
-      pub laid-kept : {r : EdgeRead} {c : code.Edge} {m : ℕ} → EdgeHere k rest r (recorded byte2 (edgeIn k) (onward rest place)) → r ≡ Ed.Edge c m → Kept k rest c (edgeAt n i)
-      laid-kept {c = c} g q = let w = here-got k rest g q in subst (Kept k rest c) (got-value (sym (w .1) ∙ there .1)) (w .2)
-
-      pub laid-there : {X : Type 0} {r : EdgeRead} {f : Fault} → EdgeHere k rest r (recorded byte2 (edgeIn k) (onward rest place)) → r ≡ Ed.Fault f → X
-      laid-there g q = no-answer (sym (here-fault k rest g q) ∙ there .1)
-
   -- what a loop over the edges has left to see
   pub edges-next : (i : ℕ) → i < k .edges → drop i (n .edges) ≡ edgeAt n i ∷ drop (i + 1) (n .edges)
   unfolding edgeAt
@@ -47,10 +36,16 @@ module _ {rest : List ℕ} {k : Counts} {offsets : List ℕ} {n : Network} (L : 
   pub edges-end : (i : ℕ) → k .edges ≤ i → drop i (n .edges) ≡ []
   edges-end i h = drop-of-length-le (n .edges) {i = i} (omega (arith, L .edges))
 
-  -- whether an edge joins two locations of one automaton
-  pub edge-joins : (c : Key) (e : Edge) {b : Bool} → keyOf c ≡ key e → b ≡ eqb (locationAt n (c .source) .automaton) (locationAt n (c .target) .automaton) → eqb (ownerOf n e) (locationAt n (e .target) .automaton) ≡ b
-  unfolding ownerOf key
-  edge-joins c e K h = sym (h ∙ ap₂ (λ (x y : ℕ). eqb (locationAt n x .automaton) (locationAt n y .automaton)) (ap (λ (l : List ℕ). getD l 0 0) K) (ap (λ (l : List ℕ). getD l 1 0) K))
+  -- whether an edge joins two locations of one automaton, and what it is ordered by
+  module _ {c : code.Edge} {e : Edge} (K : Kept k rest c e) where
+    pub edge-joins : {b : Bool} → b ≡ eqb (locationAt n (c .source) .automaton) (locationAt n (c .target) .automaton)
+        → eqb (ownerOf n e) (locationAt n (e .target) .automaton) ≡ b
+    unfolding ownerOf
+    edge-joins h = sym (h ∙ ap₂ (λ (x y : ℕ). eqb (locationAt n x .automaton) (locationAt n y .automaton)) (K .source) (K .target))
+
+    pub kept-key : keyOf c ≡ key e
+    unfolding key
+    kept-key = λ j. K .source j ∷ K .target j ∷ K .transition j ∷ K .tested j ∷ K .channel j ∷ []
 
   -- the order of the edges, from a place on
   module _ (i : ℕ) (o : 1 ≤ i) (h : i < k .edges) where

@@ -1,29 +1,18 @@
 -- What the check of a file answers, and the reader of its header.
-use Prim.Native.Nat.{ℕ, _-_, _≤_, _<_, _^_}
+use Prim.Native.Nat.{ℕ, _-_, _≤_}
 use lib.ListN.{length}
 use mathlib.Core.Path.{_≡_}
 use mathlib.Core.List.{List}
-use Rattle.expr.specs.Reading.{Read}
-use Rattle.expr.specs.Answer.{Answer, done, refused, unless}
-use Rattle.expr.specs.Answer as answer
-use Rattle.expr.specs.declared.field.Fault.{Fault}
-use Rattle.expr.specs.declared.field.Fault.the-variants as Fl
-use Rattle.network.specs.Network.{Network, numbered, sound}
-use Rattle.network.specs.Layout.{Laid}
-use Rattle.network.specs.declared.header.Counts.{Counts}
-use Rattle.network.specs.declared.header.HeaderRead.{HeaderRead}
-use Rattle.network.specs.declared.header.HeaderRead.the-variants as Hd
+use Rattle.reading.specs.Reading.{Read}
+use Rattle.reading.specs.Answer.{Answer, done, refused, unless}
+use Rattle.reading.specs.Answer as answer
+use Rattle.reading.specs.declared.field.Fault.{Fault}
+use Rattle.reading.specs.declared.field.Fault.the-variants as Fl
+use Rattle.network_records.specs.Network.{Network, numbered, sound}
+use Rattle.network_records.specs.Layout.{Laid}
+use Rattle.network_records.specs.declared.header.Counts.{Counts}
 use Rattle.network.specs.declared.check.Finding.{Finding}
 use Rattle.network.specs.declared.check.Finding.the-variants as Fd
-
-abbrev pub headerOf : HeaderRead → Answer Counts
-headerOf (Hd.Counts k) = done k
-headerOf Hd.Refused = refused 24
-
--- the counts are there, and the places of what follows the length fit 32 bits
-abbrev pub HeaderFits : List ℕ → HeaderRead → Type 0
-HeaderFits file (Hd.Counts k) = (13 ≤ length file) × (length file - 5 < 2 ^ 32)
-HeaderFits file Hd.Refused = Unit
 
 -- 24 for a length, 25 for a field
 abbrev pub faultNumber : Fault → ℕ

@@ -2,14 +2,13 @@
 ghost use mathlib.Core.Path.{_≡_};
 ghost use mathlib.Core.List.{map};
 ghost use lib.ListN.{getD};
-ghost use Rattle.expr.specs.Answer.{done};
-ghost use Rattle.network.specs.Network.{Network, networkOf};
-ghost use Rattle.network.specs.Bearing.{transitionOf, transitionsOf};
-ghost use Rattle.network.specs.Layout.{Laid};
+ghost use Rattle.network_records.specs.Network.{Network, networkOf};
+ghost use Rattle.network.specs.Bearing.{transitionOf, transitionsOf, transitionsIn};
+ghost use Rattle.network_records.specs.Layout.{Laid};
 use crate::check::Finding;
 use crate::check::check;
-use crate::header::Counts;
-use crate::laid::key_of;
+use crate::laid::edge_of;
+use network_records::header::Counts;
 
 // The transition of an edge of a checked file, 255 for none and for an edge that the network lacks.
 fn transition_of(rest: &[u8], counts: Counts, offsets: &[u32; 1024], m: u16) -> u8
@@ -18,8 +17,8 @@ fn transition_of(rest: &[u8], counts: Counts, offsets: &[u32; 1024], m: u16) -> 
     if m >= counts.edges {
         return 255;
     }
-    let key = key_of(rest, offsets, m);
-    key.transition
+    let e = edge_of(rest, offsets, m);
+    e.transition
 }
 
 // The same of edge i of a list, 255 past its end.
@@ -47,12 +46,12 @@ fn transitions_at(rest: &[u8], counts: Counts, offsets: &[u32; 1024], list: &[u1
 // The same for a file: a step has at most sixteen edges. The file is checked once, for all of them. What is no network
 // has no edge that bears one.
 pub fn transitions_of(file: &[u8], list: &[u16]) -> [u8; 16]
-    ensures { λ r. ⌜ ((n : Network) → networkOf (now (file .entry)) ≡ done n → r ≡ transitionsOf n (now (list .entry))) ⌝ }
+    ensures { λ r. ⌜ r ≡ transitionsIn (networkOf (now (file .entry))) (now (list .entry)) ⌝ }
 {
-    let mut offsets = [0; 1024];
-    let finding = check(file, &mut offsets);
+    let checked = check(file);
+    let finding = checked.finding;
     let Finding::Counts(counts) = finding else {
         return [255; 16];
     };
-    transitions_at(&file[5..], counts, &offsets, list)
+    transitions_at(&file[5..], counts, &checked.offsets, list)
 }

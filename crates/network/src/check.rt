@@ -3,27 +3,33 @@ ghost use mathlib.Core.Path.{_≡_};
 ghost use mathlib.Core.Bool.{true};
 ghost use Prim.Native.Nat.{_<_, _^_};
 ghost use lib.ListN.{length};
-ghost use Rattle.expr.specs.Lists.{all};
-ghost use Rattle.expr.specs.Label.{assignsOnce};
-ghost use Rattle.expr.specs.Places.{onward};
-ghost use Rattle.network.specs.Network.{Network, inRange, records, sound, networkOf};
-ghost use Rattle.network.specs.Layout.{Laid};
+ghost use Rattle.lists.specs.Lists.{all};
+ghost use Rattle.reading.specs.Places.{onward};
+ghost use Rattle.network_records.specs.Network.{Network, inRange, records, sound, networkOf};
+ghost use Rattle.network_records.specs.Edges.{keepsOnce};
+ghost use Rattle.network_records.specs.Layout.{Laid};
 ghost use Rattle.network.specs.Checks.{faultNumber, soundOf, CheckedAs, findingNumber, FindingFits};
 use crate::edge_list::read_edges;
-use crate::header::Counts;
-use crate::header::HeaderRead;
-use crate::header::read_header;
 use crate::initial::one_initial_each;
 use crate::laid::all_ascend;
 use crate::laid::all_join;
-use crate::location::read_locations;
-use expr::field::Fault;
-use expr::field::Reached;
+use network_records::header::Counts;
+use network_records::header::HeaderRead;
+use network_records::header::read_header;
+use network_records::location::read_locations;
+use reading::field::Fault;
+use reading::field::Reached;
 
 // The counts of a file that is right, or the number of the refusal.
 pub enum Finding {
     Counts(Counts),
     Refused(u8),
+}
+
+// What a check finds, and the offset of each edge of a file that is right.
+pub struct Checked {
+    pub finding: Finding,
+    pub offsets: [u32; 1024],
 }
 
 // 24 for a length, 25 for a field.
@@ -48,7 +54,7 @@ pub fn finding_number(f: Finding) -> u8
 
 // The rules of a file whose records are read.
 fn keeps_rules(rest: &[u8], counts: Counts, offsets: &[u32; 1024], once: bool) -> bool
-    ensures { λ r. ⌜ ((n : Network) → Laid (now (rest .entry)) counts (now (offsets .entry)) n → all (λ e. assignsOnce (e .label)) (n .edges) ≡ once → r ≡ sound n) ⌝ }
+    ensures { λ r. ⌜ ((n : Network) → Laid (now (rest .entry)) counts (now (offsets .entry)) n → all keepsOnce (n .edges) ≡ once → r ≡ sound n) ⌝ }
 {
     let initial = one_initial_each(rest, counts);
     let joined = all_join(rest, counts, offsets);
@@ -63,12 +69,12 @@ fn check_rest(rest: &[u8], counts: Counts, offsets: &mut [u32; 1024]) -> Finding
 {
     let l = read_locations(rest, 8, counts);
     let Reached::At(at) = l else {
-        return Finding::Refused(number_of(expr::field::reached_fault(l)));
+        return Finding::Refused(number_of(reading::field::reached_fault(l)));
     };
     let e = read_edges(rest, at, counts, offsets);
     let q = e.reached;
     let Reached::At(to) = q else {
-        return Finding::Refused(number_of(expr::field::reached_fault(q)));
+        return Finding::Refused(number_of(reading::field::reached_fault(q)));
     };
     if to < rest.len() {
         return Finding::Refused(24);
@@ -80,14 +86,20 @@ fn check_rest(rest: &[u8], counts: Counts, offsets: &mut [u32; 1024]) -> Finding
     Finding::Counts(counts)
 }
 
-// A whole file. The offset of each edge is put down, from the sixth byte on.
-pub fn check(file: &[u8], offsets: &mut [u32; 1024]) -> Finding
-    ensures means { λ r. ⌜ (length (now (offsets .entry)) ≡ 1024 → CheckedAs (onward (now (file .entry)) 5) (now (offsets .exit)) (networkOf (now (file .entry))) r) ⌝ }
-    ensures within { λ r. ⌜ FindingFits (now (file .entry)) r ⌝ }
+// A whole file. The table of offsets is handed back by value, not lent, so that nothing is left open of it where a file is
+// refused; it counts from the sixth byte on.
+pub fn check(file: &[u8]) -> Checked
+    ensures means { λ r. ⌜ CheckedAs (onward (now (file .entry)) 5) (r .offsets) (networkOf (now (file .entry))) (r .finding) ⌝ }
+    ensures within { λ r. ⌜ FindingFits (now (file .entry)) (r .finding) ⌝ }
 {
+    let mut offsets = [0; 1024];
     let h = read_header(file);
     let HeaderRead::Counts(counts) = h else {
-        return Finding::Refused(24);
+        return Checked {
+            finding: Finding::Refused(24),
+            offsets,
+        };
     };
-    check_rest(&file[5..], counts, offsets)
+    let finding = check_rest(&file[5..], counts, &mut offsets);
+    Checked { finding, offsets }
 }

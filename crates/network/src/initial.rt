@@ -4,12 +4,12 @@ ghost use mathlib.Core.Bool.{cond, _&&_};
 ghost use mathlib.Core.List.{map};
 ghost use lib.Dec.{ltb, eqb};
 ghost use lib.ListN.{getD, length};
-ghost use Rattle.expr.specs.Lists.{all, below};
-ghost use Rattle.network.specs.Network.{Network, locationAt, initials};
-ghost use Rattle.network.specs.Layout.{Located};
-use crate::header::Counts;
-use crate::location::automaton_of;
-use crate::location::is_initial;
+ghost use Rattle.lists.specs.Lists.{all, below};
+ghost use Rattle.network_records.specs.Network.{Network, locationAt, initials};
+ghost use Rattle.network_records.specs.Layout.{Located};
+use network_records::header::Counts;
+use network_records::location::automaton_of;
+use network_records::location::is_initial;
 
 // Whether location i is one of the automaton's and has the initial mark.
 fn is_initial_of(rest: &[u8], counts: Counts, i: u8, automaton: u8) -> bool

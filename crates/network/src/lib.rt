@@ -2,9 +2,6 @@
 // by `edge`, `initial`, `laid` and `location`. `bearing` answers which transitions of a chart the edges of a step bear.
 pub mod bearing;
 pub mod check;
-pub mod edge;
 mod edge_list;
-pub mod header;
 pub mod initial;
 pub mod laid;
-pub mod location;

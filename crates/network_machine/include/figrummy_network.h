@@ -51,14 +51,14 @@ struct figrummy_configuration {
  */
 
 /* The configuration in which the network starts. What stands in *configuration before does not matter. */
-uint8_t start_in_place(const uint8_t *file, size_t file_length, struct figrummy_configuration *configuration);
+uint8_t figrummy_start_in_place(const uint8_t *file, size_t file_length, struct figrummy_configuration *configuration);
 
 /* One step along the edges whose numbers, from 0 in the order of the file, are in the list. */
-uint8_t step_in_place(const uint8_t *file, size_t file_length, struct figrummy_configuration *configuration,
+uint8_t figrummy_step_in_place(const uint8_t *file, size_t file_length, struct figrummy_configuration *configuration,
                       const uint16_t *list, size_t list_length);
 
 /* A wait of so many ticks. */
-uint8_t wait_in_place(const uint8_t *file, size_t file_length, struct figrummy_configuration *configuration,
+uint8_t figrummy_wait_in_place(const uint8_t *file, size_t file_length, struct figrummy_configuration *configuration,
                       uint32_t ticks);
 
 #ifdef __cplusplus

@@ -19,11 +19,11 @@ use denote.Struct.Laws as LL
 use denote.Triple.Statement.{Contract}
 use denote.Triple.Spec.{tripleOf}
 use denote.Triple.Clauses.{ensured, lasts}
-use Rattle.network_machine.specs.declared.configuration.Configuration.{Configuration}
+use Rattle.network_moves.specs.declared.configuration.Configuration.{Configuration}
 use Rattle.network_machine.specs.declared.outcome.Outcome.{Outcome}
-use Rattle.network_machine.specs.Answers.{verdictNumber}
-use Rattle.network_machine.proofs.configuration.Configuration as T
-use Rattle.network_machine.proofs.configuration.Configuration.Laws as T′
+use Rattle.reading.specs.Verdict.{verdictNumber}
+use Rattle.network_moves.proofs.configuration.Configuration as T
+use Rattle.network_moves.proofs.configuration.Configuration.Laws as T′
 use Rattle.network_machine.proofs.outcome.Outcome as R
 use Rattle.network_machine.proofs.outcome.configuration_of as config-of
 use Rattle.network_machine.proofs.outcome.number_of as answer-of

@@ -2,10 +2,10 @@
 use mathlib.Core.Path.{_≡_}
 use mathlib.Core.List.{List}
 use Prim.Native.Nat.{ℕ}
-use Rattle.expr.specs.Answer.{done, refused, _>>=_}
-use Rattle.network.specs.Network.{Network, networkOf}
-use Rattle.network_machine.specs.Machine.{start, step, wait, startOf, stepOf, waitOf}
-use Rattle.network_machine.specs.declared.configuration.Configuration.{Configuration}
+use Rattle.reading.specs.Answer.{done, refused, _>>=_}
+use Rattle.network_records.specs.Network.{Network, networkOf}
+use Rattle.network_moves.specs.Machine.{start, step, wait, startOf, stepOf, waitOf}
+use Rattle.network_moves.specs.declared.configuration.Configuration.{Configuration}
 
 module _ (file : List ℕ) where
   pub start-refused : {m : ℕ} → networkOf file ≡ refused m → startOf file ≡ refused m

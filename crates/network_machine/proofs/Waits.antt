@@ -5,11 +5,11 @@ use mathlib.Core.List.{List}
 use Prim.Native.Nat.{ℕ}
 use native.Mathlib.Omega.{arith}
 use borrow.Author.Tests.{le-leb, lt-leb}
-use Rattle.expr.specs.Answer.{done, refused, unless}
-use Rattle.expr.specs.Clocks.{later, inLimit}
-use Rattle.network.specs.Network.{Network}
-use Rattle.network_machine.specs.Machine.{isConfiguration, urgent, boundsKept, tested, wait}
-use Rattle.network_machine.specs.declared.configuration.Configuration.{Configuration}
+use Rattle.reading.specs.Answer.{done, refused, unless}
+use Rattle.clocks.specs.Clocks.{later, inLimit}
+use Rattle.network_records.specs.Network.{Network}
+use Rattle.network_moves.specs.Machine.{isConfiguration, urgent, boundsKept, tested, wait}
+use Rattle.network_moves.specs.declared.configuration.Configuration.{Configuration}
 
 abbrev pub withClocks : Configuration → List ℕ → Configuration
 withClocks c cs = record { locations = c .locations; flags = c .flags; variables = c .variables; clocks = cs }

@@ -1,22 +1,20 @@
 -- What the answers of the code stand for.
+use mathlib.Core.Path.{_≡_}
 use Prim.Native.Nat.{ℕ}
 use lib.ListN.{replicate}
 use lib.IntN.{pos}
-use Rattle.expr.specs.Answer.{Answer, done, refused}
-use Rattle.network_machine.specs.declared.configuration.Configuration.{Configuration}
-use Rattle.network_machine.specs.declared.outcome.Verdict.{Verdict}
-use Rattle.network_machine.specs.declared.outcome.Verdict.the-variants as Vd
+use Rattle.reading.specs.Answer.{Answer}
+use Rattle.reading.specs.Verdict.{verdictOf, verdictNumber, orKept}
+use Rattle.network_moves.specs.declared.configuration.Configuration.{Configuration}
 use Rattle.network_machine.specs.declared.outcome.Outcome.{Outcome}
 
 -- the configuration after a call on c: a call that is refused returns c
 abbrev pub outcomeOf : Configuration → Answer Configuration → Outcome
-outcomeOf c (done d) = record { verdict = Vd.Done; configuration = d }
-outcomeOf c (refused n) = record { verdict = Vd.Refused n; configuration = c }
+outcomeOf c a = record { verdict = verdictOf a; configuration = orKept c a }
 
--- the number of a refusal, and 0 where the call was done
-abbrev pub verdictNumber : Verdict → ℕ
-verdictNumber Vd.Done = 0
-verdictNumber (Vd.Refused n) = n
+-- what becomes of a configuration in place, and the number that the call answers with
+abbrev pub Moves : Configuration → Answer Configuration → Configuration → ℕ → Type 0
+Moves before d after number = (number ≡ verdictNumber (outcomeOf before d .verdict)) × (after ≡ outcomeOf before d .configuration)
 
 -- what stands for a configuration where no network is
 abbrev pub zeroConfiguration : Configuration

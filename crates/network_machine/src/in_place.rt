@@ -1,17 +1,17 @@
 // The board keeps one configuration and moves it on in place. Each call answers 0, or the number of the refusal, and then
 // leaves the configuration as it was.
 ghost use mathlib.Core.Path.{_≡_};
-ghost use Rattle.network_machine.specs.Machine.{startOf, stepOf, waitOf};
-ghost use Rattle.network_machine.specs.Answers.{outcomeOf, verdictNumber};
-use crate::configuration::Configuration;
+ghost use Rattle.network_moves.specs.Machine.{startOf, stepOf, waitOf};
+ghost use Rattle.network_machine.specs.Answers.{outcomeOf, Moves};
 use crate::operation::start;
 use crate::operation::step;
 use crate::operation::wait;
 use crate::outcome::Outcome;
-use crate::outcome::Verdict;
 use crate::outcome::configuration_of;
 use crate::outcome::number_of;
 use crate::outcome::refused;
+use network_moves::configuration::Configuration;
+use reading::verdict::Verdict;
 
 // The configuration in which a network starts, in the place of c.
 fn start_over(file: &[u8], c: Configuration) -> Outcome
@@ -26,8 +26,8 @@ fn start_over(file: &[u8], c: Configuration) -> Outcome
 }
 
 #[no_mangle]
-pub extern "C" fn start_in_place(file: &[u8], c: &mut Configuration) -> u8
-    ensures { λ r. ⌜ (r ≡ verdictNumber (outcomeOf (now (c .entry)) (startOf (now (file .entry))) .verdict)) × (now (c .exit) ≡ outcomeOf (now (c .entry)) (startOf (now (file .entry))) .configuration) ⌝ }
+pub extern "C" fn figrummy_start_in_place(file: &[u8], c: &mut Configuration) -> u8
+    ensures { λ r. ⌜ Moves (now (c .entry)) (startOf (now (file .entry))) (now (c .exit)) r ⌝ }
 {
     let m = start_over(file, *c);
     *c = configuration_of(m);
@@ -36,8 +36,8 @@ pub extern "C" fn start_in_place(file: &[u8], c: &mut Configuration) -> u8
 
 // Along the edges of a list.
 #[no_mangle]
-pub extern "C" fn step_in_place(file: &[u8], c: &mut Configuration, list: &[u16]) -> u8
-    ensures { λ r. ⌜ (r ≡ verdictNumber (outcomeOf (now (c .entry)) (stepOf (now (file .entry)) (now (c .entry)) (now (list .entry))) .verdict)) × (now (c .exit) ≡ outcomeOf (now (c .entry)) (stepOf (now (file .entry)) (now (c .entry)) (now (list .entry))) .configuration) ⌝ }
+pub extern "C" fn figrummy_step_in_place(file: &[u8], c: &mut Configuration, list: &[u16]) -> u8
+    ensures { λ r. ⌜ Moves (now (c .entry)) (stepOf (now (file .entry)) (now (c .entry)) (now (list .entry))) (now (c .exit)) r ⌝ }
 {
     let m = step(file, *c, list);
     *c = configuration_of(m);
@@ -46,8 +46,8 @@ pub extern "C" fn step_in_place(file: &[u8], c: &mut Configuration, list: &[u16]
 
 // So many ticks later.
 #[no_mangle]
-pub extern "C" fn wait_in_place(file: &[u8], c: &mut Configuration, ticks: u32) -> u8
-    ensures { λ r. ⌜ (r ≡ verdictNumber (outcomeOf (now (c .entry)) (waitOf (now (file .entry)) (now (c .entry)) ticks) .verdict)) × (now (c .exit) ≡ outcomeOf (now (c .entry)) (waitOf (now (file .entry)) (now (c .entry)) ticks) .configuration) ⌝ }
+pub extern "C" fn figrummy_wait_in_place(file: &[u8], c: &mut Configuration, ticks: u32) -> u8
+    ensures { λ r. ⌜ Moves (now (c .entry)) (waitOf (now (file .entry)) (now (c .entry)) ticks) (now (c .exit)) r ⌝ }
 {
     let m = wait(file, *c, ticks);
     *c = configuration_of(m);

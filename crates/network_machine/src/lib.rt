@@ -1,9 +1,5 @@
 // The network machine. The operations are in `operation`, and in place in `in_place`; what they answer with is in
 // `outcome` and `configuration`.
-mod active;
-mod after;
-mod choice;
-pub mod configuration;
 pub mod in_place;
 pub mod operation;
 pub mod outcome;

@@ -1,16 +1,16 @@
 // The operations on files, of any bytes.
 ghost use mathlib.Core.Path.{_≡_};
-ghost use Rattle.network_machine.specs.Machine.{startOf, stepOf, waitOf};
+ghost use Rattle.network_moves.specs.Machine.{startOf, stepOf, waitOf};
 ghost use Rattle.network_machine.specs.Answers.{outcomeOf, zeroConfiguration};
-use crate::configuration::Configuration;
 use crate::outcome::Outcome;
-use crate::outcome::Verdict;
 use crate::outcome::refused;
 use crate::step::step_checked;
 use crate::wait::wait_checked;
 use network::check::Finding;
 use network::check::check;
 use network::check::finding_number;
+use network_moves::configuration::Configuration;
+use reading::verdict::Verdict;
 
 // What stands for a configuration where there is no network.
 fn zero_configuration() -> Configuration
@@ -28,8 +28,8 @@ fn zero_configuration() -> Configuration
 pub fn start(file: &[u8]) -> Outcome
     ensures { λ r. ⌜ r ≡ outcomeOf zeroConfiguration (startOf (now (file .entry))) ⌝ }
 {
-    let mut offsets = [0; 1024];
-    let finding = check(file, &mut offsets);
+    let checked = check(file);
+    let finding = checked.finding;
     let Finding::Counts(counts) = finding else {
         return refused(finding_number(finding), zero_configuration());
     };
@@ -43,20 +43,20 @@ pub fn start(file: &[u8]) -> Outcome
 pub fn step(file: &[u8], c: Configuration, list: &[u16]) -> Outcome
     ensures { λ r. ⌜ r ≡ outcomeOf c (stepOf (now (file .entry)) c (now (list .entry))) ⌝ }
 {
-    let mut offsets = [0; 1024];
-    let finding = check(file, &mut offsets);
+    let checked = check(file);
+    let finding = checked.finding;
     let Finding::Counts(counts) = finding else {
         return refused(finding_number(finding), c);
     };
-    step_checked(&file[5..], counts, &offsets, c, list)
+    step_checked(&file[5..], counts, &checked.offsets, c, list)
 }
 
 // So many ticks later.
 pub fn wait(file: &[u8], c: Configuration, ticks: u32) -> Outcome
     ensures { λ r. ⌜ r ≡ outcomeOf c (waitOf (now (file .entry)) c ticks) ⌝ }
 {
-    let mut offsets = [0; 1024];
-    let finding = check(file, &mut offsets);
+    let checked = check(file);
+    let finding = checked.finding;
     let Finding::Counts(counts) = finding else {
         return refused(finding_number(finding), c);
     };

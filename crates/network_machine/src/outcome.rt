@@ -1,13 +1,10 @@
 // What a step or a wait answers.
 ghost use mathlib.Core.Path.{_≡_};
-ghost use Rattle.expr.specs.Answer.{refused};
-ghost use Rattle.network_machine.specs.Answers.{outcomeOf, verdictNumber};
-use crate::configuration::Configuration;
-
-pub enum Verdict {
-    Done,
-    Refused(u8),
-}
+ghost use Rattle.reading.specs.Answer.{refused};
+ghost use Rattle.reading.specs.Verdict.{verdictNumber};
+ghost use Rattle.network_machine.specs.Answers.{outcomeOf};
+use network_moves::configuration::Configuration;
+use reading::verdict::Verdict;
 
 // What became of a call, and the configuration after it.
 pub struct Outcome {
@@ -38,8 +35,5 @@ pub fn number_of(m: Outcome) -> u8
     ensures { λ r. ⌜ r ≡ verdictNumber (m .verdict) ⌝ }
 {
     let v = m.verdict;
-    match v {
-        Verdict::Done => 0,
-        Verdict::Refused(number) => number,
-    }
+    reading::verdict::number_of(v)
 }

@@ -1,25 +1,25 @@
 // Taking edges.
 ghost use mathlib.Core.Path.{_≡_};
 ghost use mathlib.Core.Bool.{true};
-ghost use lib.Dec.{ltb};
-ghost use Rattle.expr.specs.Lists.{all, any, implies};
-ghost use Rattle.expr.specs.Moves.{known};
-ghost use Rattle.network.specs.Network.{Network, urgentAt, edgeAt};
-ghost use Rattle.network_machine.specs.Machine.{urgent, isConfiguration, step};
+ghost use Rattle.lists.specs.Lists.{any, implies};
+ghost use Rattle.steps.specs.Moves.{known};
+ghost use Rattle.network_records.specs.Network.{Network, urgentAt, edgeAt};
+ghost use Rattle.network_moves.specs.Choices.{Known};
+ghost use Rattle.network_moves.specs.Machine.{urgent, isConfiguration, step};
 ghost use Rattle.network_machine.specs.Answers.{outcomeOf};
-ghost use Rattle.network.specs.Layout.{Laid};
-use crate::active::all_active;
-use crate::active::any_urgent;
-use crate::after::configuration_after;
-use crate::choice::is_allowed;
-use crate::configuration::Configuration;
-use crate::configuration::bounds_kept;
-use crate::configuration::is_configuration;
-use crate::configuration::urgent;
+ghost use Rattle.network_records.specs.Layout.{Laid};
 use crate::outcome::Outcome;
-use crate::outcome::Verdict;
 use crate::outcome::refused;
-use network::header::Counts;
+use network_moves::active::all_active;
+use network_moves::active::any_urgent;
+use network_moves::after::configuration_after;
+use network_moves::choice::is_allowed;
+use network_moves::configuration::Configuration;
+use network_moves::configuration::bounds_kept;
+use network_moves::configuration::is_configuration;
+use network_moves::configuration::urgent;
+use network_records::header::Counts;
+use reading::verdict::Verdict;
 
 // Whether an edge of the list leaves an urgent location, if one is occupied.
 fn urgency_kept(
@@ -29,7 +29,7 @@ fn urgency_kept(
     c: Configuration,
     list: &[u16],
 ) -> bool
-    ensures { λ r. ⌜ ((n : Network) → Laid (now (rest .entry)) counts (now (offsets .entry)) n → all (λ m. ltb m (counts .edges)) (now (list .entry)) ≡ true → r ≡ implies (urgent n c) (any (λ m. urgentAt n (edgeAt n m .source)) (now (list .entry)))) ⌝ }
+    ensures { λ r. ⌜ ((n : Network) → Laid (now (rest .entry)) counts (now (offsets .entry)) n → Known counts (now (list .entry)) → r ≡ implies (urgent n c) (any (λ m. urgentAt n (edgeAt n m .source)) (now (list .entry)))) ⌝ }
 {
     let occupied = urgent(rest, counts, c);
     let left = any_urgent(rest, counts, offsets, list);
@@ -78,7 +78,7 @@ pub fn step_checked(
     if !is_configuration(rest, counts, c) {
         return refused(26, c);
     }
-    if !expr::step::known(list, counts.edges as usize) {
+    if !steps::step::known(list, counts.edges as usize) {
         return refused(18, c);
     }
     step_along(rest, counts, offsets, c, list)

@@ -1,17 +1,17 @@
 // Waiting.
 ghost use mathlib.Core.Path.{_≡_};
-ghost use Rattle.network.specs.Network.{Network};
-ghost use Rattle.network_machine.specs.Machine.{wait};
+ghost use Rattle.network_records.specs.Network.{Network};
+ghost use Rattle.network_moves.specs.Machine.{wait};
 ghost use Rattle.network_machine.specs.Answers.{outcomeOf};
-ghost use Rattle.network.specs.Layout.{Located};
-use crate::configuration::Configuration;
-use crate::configuration::bounds_kept;
-use crate::configuration::is_configuration;
-use crate::configuration::urgent;
+ghost use Rattle.network_records.specs.Layout.{Located};
 use crate::outcome::Outcome;
-use crate::outcome::Verdict;
 use crate::outcome::refused;
-use network::header::Counts;
+use network_moves::configuration::Configuration;
+use network_moves::configuration::bounds_kept;
+use network_moves::configuration::is_configuration;
+use network_moves::configuration::urgent;
+use network_records::header::Counts;
+use reading::verdict::Verdict;
 
 // Every declared clock so many ticks later, on a checked file.
 pub fn wait_checked(rest: &[u8], counts: Counts, c: Configuration, ticks: u32) -> Outcome
@@ -24,7 +24,7 @@ pub fn wait_checked(rest: &[u8], counts: Counts, c: Configuration, ticks: u32) -
         return refused(22, c);
     }
     let clocks = c.clocks;
-    let delayed = expr::clock::later(counts.clocks as usize, ticks, clocks);
+    let delayed = clocks::clock::later(counts.clocks as usize, ticks, clocks);
     if !delayed.within {
         return refused(22, c);
     }

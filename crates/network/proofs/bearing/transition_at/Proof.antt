@@ -3,7 +3,7 @@ use mathlib.Core.List.{map}
 use Prim.Native.Nat.{_≤_}
 use native.Mathlib.Omega.{arith}
 use lib.ListN.{length, length-map, List·getD-eq-default}
-use Rattle.expr.proofs.Lists.{getD-map}
+use Rattle.lists.proofs.Lists.{getD-map}
 use Rattle.network.specs.Bearing.{transitionOf}
 use borrow.Author.Needs.{needs}
 use Rattle.network.proofs.bearing.transition_at.Statement.{statement}

@@ -2,10 +2,10 @@ use mathlib.Core.Path.{refl, sym, _∙_}
 use Prim.Native.Nat.{_-_}
 use native.Mathlib.Omega.{arith}
 use borrow.Author.Needs.{needs}
-use Rattle.expr.proofs.Loops.{Filled, filled-none, filled-more, filled-all}
-use Rattle.network.specs.Network.{Network}
+use Rattle.lists.proofs.Loops.{Filled, filled-none, filled-more, filled-all}
+use Rattle.network_records.specs.Network.{Network}
 use Rattle.network.specs.Bearing.{transitionsOf}
-use Rattle.network.specs.Layout.{Laid}
+use Rattle.network_records.specs.Layout.{Laid}
 use Rattle.network.proofs.Borne.{transitions-length, transitions-at}
 use Rattle.network.proofs.bearing.transitions_at.Statement.{statement}
 use Rattle.network.proofs.bearing.transitions_at.Tie as tie

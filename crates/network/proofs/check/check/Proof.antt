@@ -1,17 +1,21 @@
 use native.Mathlib.Omega.{arith}
-use Prim.Native.Nat.{_-_, _≤_, _<_, _^_}
-use lib.ListN.{length}
-use Rattle.expr.proofs.Places.{answered}
-use Rattle.network.specs.Checks.{headerOf}
-use Rattle.network.proofs.Headers.{counts-at}
+use Prim.Native.Nat.{ℕ, _-_, _≤_, _<_, _^_}
+use lib.ListN.{length, length-replicate}
+use Rattle.reading.proofs.Places.{answered}
+use Rattle.network_records.specs.Headers.{headerOf}
+use Rattle.network_records.proofs.Headers.{counts-at}
 use Rattle.network.proofs.Checking.{header-refused, checked-file, header-fits, rest-fits, finding-fits}
 use borrow.Author.Needs.{needs}
 use Rattle.network.proofs.check.check.Statement.{statement}
 use Rattle.network.proofs.check.check.Tie as tie
 
 -- the counts are there, and the places of what follows fit 32 bits
-fits : (k : tie.After-known-told) → (13 ≤ length (k .before .before .before .before .before .args .file .now)) × (length (k .before .before .before .before .before .args .file .now) - 5 < 2 ^ 32)
-fits k = header-fits _ (k .before .before .before .read-header .ensures .1) (k .before .h .given .1)
+module _ (k : tie.After-known-told) where
+  abbrev size : ℕ
+  size = length (k .before .before .before .before .before .args .file .now)
+
+  fits : (13 ≤ size) × (size - 5 < 2 ^ 32)
+  fits = header-fits _ (k .before .before .before .read-header .ensures .1) (k .before .h .given .1)
 
 read-header-requires : tie.Need-read-header-requires
 read-header-requires c κs = search needs
@@ -23,7 +27,7 @@ enum-told : tie.Need-enum-told
 enum-told c = search needs
 
 returns : tie.Need-returns
-returns c = (λ f. header-refused _ (answered headerOf (c .before .before .read-header .ensures .0) (c .enum-told .given .1)), tt)
+returns c = (header-refused _ (answered headerOf (c .before .before .read-header .ensures .0) (c .enum-told .given .1)), tt)
 
 sub-check-rest : tie.Need-sub-check-rest
 sub-check-rest c = omega (arith, fits c .0)
@@ -35,10 +39,15 @@ part-check-rest-end : tie.Need-part-check-rest-end
 part-check-rest-end c = search needs
 
 check-rest-requires : tie.Need-check-rest-requires
-check-rest-requires c κs = let k = c .before .before in (counts-at _ (answered headerOf (k .before .before .before .read-header .ensures .0) (k .before .h .given .1)) .1, rest-fits (k .before .before .before .before .before .args .file .now) (fits k))
+check-rest-requires c κs = let k = c .before .before in
+    let counted = answered headerOf (k .before .before .before .read-header .ensures .0) (k .before .h .given .1) in
+    (counts-at _ counted .1, rest-fits (k .before .before .before .before .before .args .file .now) (fits k))
 
 returns-2 : tie.Need-returns-2
-returns-2 c = let k = c .before .before .before in (λ f. checked-file _ (answered headerOf (k .before .before .before .read-header .ensures .0) (k .before .h .given .1)) _ (c .check-rest .result) (c .check-rest .ensures f), finding-fits _ (c .check-rest .result) (fits k .0))
+returns-2 c = let k = c .before .before .before in
+    let counted = answered headerOf (k .before .before .before .read-header .ensures .0) (k .before .h .given .1) in
+    let v = c .check-rest in
+    (checked-file _ counted _ (v .result) (v .ensures (length-replicate {A = ℕ} 1024 0)), finding-fits _ (v .result) (fits k .0))
 
 pub check-spec : {M : Type 1} → statement M
 check-spec =

@@ -1,7 +1,7 @@
 use mathlib.Core.Path.{sym, ap, _∙_}
-use Rattle.expr.specs.Places.{reached, reachedFault}
-use Rattle.expr.specs.Answer.{refused}
-use Rattle.expr.proofs.Places.{answered}
+use Rattle.reading.specs.Places.{reached, reachedFault}
+use Rattle.reading.specs.Answer.{refused}
+use Rattle.reading.proofs.Places.{answered}
 use borrow.Author.Tests.{not-true, not-false}
 use Rattle.network.specs.Checks.{faultNumber}
 use Rattle.network.proofs.Checking.{locations-fault, edges-fault, rest-fault, rules-broken, rules-kept}
@@ -50,15 +50,19 @@ returns-2 c = let t = c .before .before in
     let e = t .before .before .read-edges in
     let k = t .before .before .before .before in
     let a = k .before .before .before .before .before .args in
-    λ f. edges-fault (a .counts) (a .rest .now) _ (answered (reached _ tt) (k .before .before .before .read-locations .ensures) (k .before .l .given .1)) (t .enum-told2 .given .0 .0) (answered (reached _ (e .result .once)) (e .ensures .0) (t .enum-told2 .given .1))
-    ∙ ap refused (sym (c .number-of2 .ensures ∙ ap faultNumber (c .before .reached-fault2 .ensures ∙ ap reachedFault (t .enum-told2 .given .1))))
+    let told = c .number-of2 .ensures ∙ ap faultNumber (c .before .reached-fault2 .ensures ∙ ap reachedFault (t .enum-told2 .given .1)) in
+    let edges = answered (reached _ (e .result .once)) (e .ensures .0) (t .enum-told2 .given .1) in
+    let ls = answered (reached _ tt) (k .before .before .before .read-locations .ensures) (k .before .l .given .1) in
+    λ f. edges-fault (a .counts) (a .rest .now) _ ls (t .enum-told2 .given .0 .0) edges ∙ ap refused (sym told)
 
 returns-3 : tie.Need-returns-3
 returns-3 c = let d = c .before in
-    let e = d .before .before .before .read-edges in
     let k = d .before .before .before .before .before in
     let a = k .before .before .before .before .before .args in
-    λ f. rest-fault (a .counts) (a .rest .now) _ (answered (reached _ tt) (k .before .before .before .read-locations .ensures) (k .before .l .given .1)) _ _ (answered (reached _ (e .result .once)) (e .ensures .0) (d .before .q .given .1)) (c .if1 .taken)
+    let ls = answered (reached _ tt) (k .before .before .before .read-locations .ensures) (k .before .l .given .1) in
+    let e = d .before .before .before .read-edges in
+    let es = answered (reached _ (e .result .once)) (e .ensures .0) (d .before .q .given .1) in
+    λ f. rest-fault (a .counts) (a .rest .now) _ ls _ _ es (c .if1 .taken)
 
 keeps-rules-requires : tie.Need-keeps-rules-requires
 keeps-rules-requires c κs = search needs
@@ -66,18 +70,24 @@ keeps-rules-requires c κs = search needs
 returns-4 : tie.Need-returns-4
 returns-4 c = let r = c .before in
     let d = r .before .before .before in
-    let e = d .before .before .before .read-edges in
     let k = d .before .before .before .before .before in
-    let a = k .before .before .before .before .before .args in
-    λ f. rules-broken (a .counts) (a .rest .now) _ (answered (reached _ tt) (k .before .before .before .read-locations .ensures) (k .before .l .given .1)) _ _ (answered (reached _ (e .result .once)) (e .ensures .0) (d .before .q .given .1)) (r .before .before .if1 .left) (k .before .before .before .before .before .pre .0) _ (e .ensures .1 f) _ (r .keeps-rules .ensures) (not-true _ (c .if2 .taken))
+    let a = k .before .before .before .before .before in
+    let ls = answered (reached _ tt) (k .before .before .before .read-locations .ensures) (k .before .l .given .1) in
+    let e = d .before .before .before .read-edges in
+    let es = answered (reached _ (e .result .once)) (e .ensures .0) (d .before .q .given .1) in
+    λ f. rules-broken (a .args .counts) (a .args .rest .now) _ ls _ _ es (r .before .before .if1 .left) (a .pre .0) _
+    (e .ensures .1 f) _ (r .keeps-rules .ensures) (not-true _ (c .if2 .taken))
 
 returns-5 : tie.Need-returns-5
 returns-5 c = let r = c .before in
     let d = r .before .before .before in
-    let e = d .before .before .before .read-edges in
     let k = d .before .before .before .before .before in
-    let a = k .before .before .before .before .before .args in
-    λ f. rules-kept (a .counts) (a .rest .now) _ (answered (reached _ tt) (k .before .before .before .read-locations .ensures) (k .before .l .given .1)) _ _ (answered (reached _ (e .result .once)) (e .ensures .0) (d .before .q .given .1)) (r .before .before .if1 .left) (k .before .before .before .before .before .pre .0) _ (e .ensures .1 f) _ (r .keeps-rules .ensures) (not-false _ (c .if2 .left))
+    let a = k .before .before .before .before .before in
+    let ls = answered (reached _ tt) (k .before .before .before .read-locations .ensures) (k .before .l .given .1) in
+    let e = d .before .before .before .read-edges in
+    let es = answered (reached _ (e .result .once)) (e .ensures .0) (d .before .q .given .1) in
+    λ f. rules-kept (a .args .counts) (a .args .rest .now) _ ls _ _ es (r .before .before .if1 .left) (a .pre .0) _
+    (e .ensures .1 f) _ (r .keeps-rules .ensures) (not-false _ (c .if2 .left))
 
 pub check-rest-spec : {M : Type 1} → statement M
 check-rest-spec =

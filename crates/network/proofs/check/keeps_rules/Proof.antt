@@ -1,6 +1,6 @@
 use mathlib.Core.Path.{sym, ap₂}
 use mathlib.Core.Bool.{_&&_}
-use Rattle.network.specs.Network.{sound}
+use Rattle.network_records.specs.Network.{sound}
 use borrow.Author.Needs.{needs}
 use Rattle.network.proofs.check.keeps_rules.Statement.{statement}
 use Rattle.network.proofs.check.keeps_rules.Tie as tie

@@ -1,10 +1,11 @@
 use mathlib.Core.Path.{refl, sym, ap, _∙_}
 use Prim.Native.Nat.{_-_}
 use native.Mathlib.Omega.{arith}
-use Rattle.expr.proofs.Reading.{mapped-fault, no-answer}
-use Rattle.network.specs.Edges.{edgeFault}
-use Rattle.expr.proofs.Sizes.{recorded-before}
-use Rattle.network.proofs.Edges.{Edging, edging-none, edging-more, edging-stop, edging-all, edging-at, here-got, here-fault, few-edges}
+use Rattle.reading.proofs.Reading.{mapped-fault, mapped-at, no-answer}
+use Rattle.reading.specs.Places.{testOf, testFault}
+use Rattle.reading.proofs.Places.{answered}
+use Rattle.reading.proofs.Sizes.{recorded-before}
+use Rattle.network_records.proofs.Edges.{Edging, edging-none, edging-more, edging-stop, edging-all, edging-at, few-edges}
 use borrow.Author.Needs.{needs}
 use Rattle.network.proofs.edge_list.read_edges.Statement.{statement}
 use Rattle.network.proofs.edge_list.read_edges.Tie as tie
@@ -30,24 +31,29 @@ enum-known-e c = search needs
 enum-told : tie.Need-enum-told Inv-loop μ-loop
 enum-told c = search needs
 
-edge-fault-requires : tie.Need-edge-fault-requires Inv-loop μ-loop
-edge-fault-requires c κs = search needs
+test-fault-requires : tie.Need-test-fault-requires Inv-loop μ-loop
+test-fault-requires c κs = search needs
 
 returns : tie.Need-returns Inv-loop μ-loop
 returns c = let l = c .before .before .before in
-    let stop = edging-stop _ _ _ _ (l .before .before .loop .inv) (l .before .loop-test .taken) (here-fault _ _ (l .edge-at .ensures (l .before .before .before .before .before .pre .0)) (c .before .enum-told .given .1)) in
-    (rw (c .edge-fault .ensures ∙ ap edgeFault (c .before .enum-told .given .1)) (sym (mapped-fault _ stop)), λ f es t h. no-answer (sym stop ∙ h))
+    let a = l .before .before .before .before .before in
+    let here = answered (testOf _) (l .edge-at .ensures (a .pre .0)) (c .before .enum-told .given .1) in
+    let stop = edging-stop _ _ _ _ (l .before .before .loop .inv) (l .before .loop-test .taken) here in
+    (rw (c .test-fault .ensures ∙ ap testFault (c .before .enum-told .given .1)) (sym (mapped-fault _ stop)), λ f es t h. no-answer (sym stop ∙ h))
 
 cast-offsets : tie.Need-cast-offsets Inv-loop μ-loop
-cast-offsets c = let l = c .before .before .before .before .before in
-    omega (arith, recorded-before _ _ (l .before .before .loop .place) (here-got _ _ (l .edge-at .ensures (l .before .before .before .before .before .pre .0)) (c .before .before .before .e .given .1) .1), l .before .before .before .before .before .pre .1)
+cast-offsets c = let l = c .before .before .before in
+    let a = l .before .before .before .before .before in
+    let here = mapped-at _ _ (answered (testOf _) (l .edge-at .ensures (a .pre .0)) (c .before .e .given .1)) in
+    omega (arith, recorded-before _ _ (l .before .before .loop .place) (here .1), a .pre .1)
 
 mul-offsets : tie.Need-mul-offsets Inv-loop μ-loop
 mul-offsets c = search needs
 
 element-write-offsets : tie.Need-element-write-offsets Inv-loop μ-loop
-element-write-offsets c = let l = c .before .before .before .before .before in
-    omega (arith, few-edges (l .before .before .before .before .before .args .counts) (l .before .before .before .before .before .pre .0), l .before .loop-test .taken)
+element-write-offsets c = let l = c .before .before .before in
+    let a = l .before .before .before .before .before in
+    omega (arith, few-edges (a .args .counts) (a .pre .0), l .before .loop-test .taken)
 
 add-i : tie.Need-add-i Inv-loop μ-loop
 add-i c = omega arith
@@ -56,8 +62,10 @@ loop-less : tie.Need-loop-less Inv-loop μ-loop
 loop-less c = omega arith
 
 loop-again : tie.Need-loop-again Inv-loop μ-loop
-loop-again c = let l = c .before .before .before .before .before in
-    edging-more _ _ _ _ (l .before .before .loop .inv) (l .before .loop-test .taken) (few-edges (l .before .before .before .before .before .args .counts) (l .before .before .before .before .before .pre .0)) (here-got _ _ (l .edge-at .ensures (l .before .before .before .before .before .pre .0)) (c .before .before .before .e .given .1)) refl
+loop-again c = let l = c .before .before .before in
+    let a = l .before .before .before .before .before in
+    let here = answered (testOf _) (l .edge-at .ensures (a .pre .0)) (c .before .e .given .1) in
+    edging-more _ _ _ _ (l .before .before .loop .inv) (l .before .loop-test .taken) (few-edges (a .args .counts) (a .pre .0)) here
 
 returns-2 : tie.Need-returns-2 Inv-loop μ-loop
 returns-2 c = (edging-all _ _ _ _ (c .before .loop .inv) (c .loop-test .left), edging-at _ _ _ _ (c .before .loop .inv) (c .loop-test .left))
@@ -73,7 +81,7 @@ read-edges-spec =
     edge-at-requires
     enum-known-e
     enum-told
-    edge-fault-requires
+    test-fault-requires
     returns
     cast-offsets
     mul-offsets

@@ -4,10 +4,11 @@ use mathlib.Core.Logic.{⊎-elim}
 use Prim.Native.Nat.{_+_, _-_, _≤_}
 use lib.Dec.{eqb}
 use lib.ListN.{length, drop}
-use Rattle.expr.specs.Lists.{below, keep}
-use Rattle.expr.proofs.Lists.{counted-next, counted-left, counted-all, below-next, below-end}
-use Rattle.network.specs.Network.{Network, locationAt, initials}
-use Rattle.network.specs.Layout.{Located}
+use Rattle.lists.specs.Lists.{below, keep}
+use Rattle.lists.proofs.Lists.{counted-next, counted-left, counted-all}
+use Rattle.lists.proofs.Below.{below-next, below-end}
+use Rattle.network_records.specs.Network.{Network, locationAt, initials}
+use Rattle.network_records.specs.Layout.{Located}
 use native.Mathlib.Omega.{arith}
 use borrow.Author.Needs.{needs}
 use Rattle.network.proofs.initial.count_initials.Statement.{statement}

@@ -4,11 +4,11 @@ use mathlib.Core.List.{map}
 use Prim.Native.Nat.{_-_}
 use lib.Dec.{ltb}
 use lib.ListN.{getD}
-use Rattle.expr.specs.Lists.{range, below}
-use Rattle.expr.proofs.Lists.{getD-mapped}
-use Rattle.expr.proofs.Loops.{Filled, filled-none, filled-more, filled-all}
-use Rattle.network.specs.Network.{Network, initials}
-use Rattle.network.specs.Layout.{Located}
+use Rattle.lists.specs.Lists.{range, below}
+use Rattle.lists.proofs.Below.{getD-mapped}
+use Rattle.lists.proofs.Loops.{Filled, filled-none, filled-more, filled-all}
+use Rattle.network_records.specs.Network.{Network, initials}
+use Rattle.network_records.specs.Layout.{Located}
 use native.Mathlib.Omega.{arith}
 use borrow.Author.Needs.{needs}
 use Rattle.network.proofs.initial.initial_locations.Statement.{statement}

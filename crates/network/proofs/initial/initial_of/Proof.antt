@@ -4,10 +4,11 @@ use mathlib.Core.List.{List}
 use Prim.Native.Nat.{ℕ, _-_}
 use lib.Dec.{eqb}
 use lib.ListN.{length, getD, drop}
-use Rattle.expr.proofs.Lists.{below-next, below-end, keep-next, keep-left}
-use Rattle.expr.specs.Lists.{below, keep}
-use Rattle.network.specs.Network.{Network, locationAt, initials}
-use Rattle.network.specs.Layout.{Located}
+use Rattle.lists.proofs.Below.{below-next, below-end}
+use Rattle.lists.proofs.Lists.{keep-next, keep-left}
+use Rattle.lists.specs.Lists.{below, keep}
+use Rattle.network_records.specs.Network.{Network, locationAt, initials}
+use Rattle.network_records.specs.Layout.{Located}
 use native.Mathlib.Omega.{arith}
 use borrow.Author.Needs.{needs}
 use Rattle.network.proofs.initial.initial_of.Statement.{statement}

@@ -2,11 +2,12 @@ use mathlib.Core.Path.{_≡_, refl, sym, ap, _∙_}
 use Prim.Native.Nat.{ℕ, _-_}
 use lib.ListN.{length, drop}
 use borrow.Author.Tests.{eq-eqb, ne-eqb}
-use Rattle.expr.specs.Lists.{below, all}
-use Rattle.expr.proofs.Lists.{all-next, all-stop, below-next, below-end}
-use Rattle.network.specs.Layout.{Located}
+use Rattle.lists.specs.Lists.{below, all}
+use Rattle.lists.proofs.Lists.{all-next, all-stop}
+use Rattle.lists.proofs.Below.{below-next, below-end}
+use Rattle.network_records.specs.Layout.{Located}
 use lib.Dec.{eqb}
-use Rattle.network.specs.Network.{Network, initials}
+use Rattle.network_records.specs.Network.{Network, initials}
 use native.Mathlib.Omega.{arith}
 use borrow.Author.Needs.{needs}
 use Rattle.network.proofs.initial.one_initial_each.Statement.{statement}

@@ -1,7 +1,7 @@
 use mathlib.Core.Path.{sym, ap, _∙_}
 use lib.Dec.{ltb}
 use borrow.Author.Tests.{lt-ltb, le-ltb}
-use Rattle.expr.proofs.Bools.{cond-yes, cond-no}
+use Rattle.lists.proofs.Bools.{cond-yes, cond-no}
 use borrow.Author.Needs.{needs}
 use Rattle.network.proofs.initial.start_of.Statement.{statement}
 use Rattle.network.proofs.initial.start_of.Tie as tie

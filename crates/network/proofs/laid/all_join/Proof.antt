@@ -4,10 +4,10 @@ use lib.Dec.{eqb}
 use lib.ListN.{drop}
 use borrow.Author.Tests.{not-true, not-false}
 use native.Mathlib.Omega.{arith}
-use Rattle.expr.specs.Lists.{all}
-use Rattle.expr.proofs.Lists.{all-next, all-stop}
-use Rattle.network.specs.Network.{Network, locationAt, ownerOf}
-use Rattle.network.specs.Layout.{Laid}
+use Rattle.lists.specs.Lists.{all}
+use Rattle.lists.proofs.Lists.{all-next, all-stop}
+use Rattle.network_records.specs.Network.{Network, locationAt, ownerOf}
+use Rattle.network_records.specs.Layout.{Laid}
 use Rattle.network.proofs.Offsets.{edges-next, edges-end, edge-joins}
 use borrow.Author.Needs.{needs}
 use Rattle.network.proofs.laid.all_join.Statement.{statement}
@@ -22,15 +22,16 @@ abbrev μ-loop : tie.MeasureT-loop
 loop-holds : tie.Need-loop-holds Inv-loop μ-loop
 loop-holds c = λ n L. refl
 
-key-of-requires : tie.Need-key-of-requires Inv-loop μ-loop
-key-of-requires c κs = search needs
+edge-of-requires : tie.Need-edge-of-requires Inv-loop μ-loop
+edge-of-requires c κs = search needs
 
 joins-requires : tie.Need-joins-requires Inv-loop μ-loop
 joins-requires c κs = search needs
 
 returns : tie.Need-returns Inv-loop μ-loop
 returns c = λ n L. let l = c .before .before .before in
-    sym (l .before .before .loop .inv n L ∙ all-stop _ (edges-next L _ (l .if1 .taken)) (edge-joins L (c .before .before .key-of .result) _ (c .before .before .key-of .ensures _ n L (l .if1 .taken)) (c .before .joins .ensures n (L .located)) ∙ not-true _ (c .if2 .taken)))
+    let joined = edge-joins L (c .before .before .edge-of .ensures _ n L (l .if1 .taken)) (c .before .joins .ensures n (L .located)) in
+    sym (l .before .before .loop .inv n L ∙ all-stop _ (edges-next L _ (l .if1 .taken)) (joined ∙ not-true _ (c .if2 .taken)))
 
 add-i : tie.Need-add-i Inv-loop μ-loop
 add-i c = omega arith
@@ -40,7 +41,8 @@ loop-less c = omega arith
 
 loop-again : tie.Need-loop-again Inv-loop μ-loop
 loop-again c = λ n L. let l = c .before .before .before in
-    l .before .before .loop .inv n L ∙ all-next _ (edges-next L _ (l .if1 .taken)) (edge-joins L (c .before .before .key-of .result) _ (c .before .before .key-of .ensures _ n L (l .if1 .taken)) (c .before .joins .ensures n (L .located)) ∙ not-false _ (c .if2 .left))
+    let joined = edge-joins L (c .before .before .edge-of .ensures _ n L (l .if1 .taken)) (c .before .joins .ensures n (L .located)) in
+    l .before .before .loop .inv n L ∙ all-next _ (edges-next L _ (l .if1 .taken)) (joined ∙ not-false _ (c .if2 .left))
 
 returns-2 : tie.Need-returns-2 Inv-loop μ-loop
 unfolding all
@@ -53,7 +55,7 @@ all-join-spec =
     Inv-loop
     μ-loop
     loop-holds
-    key-of-requires
+    edge-of-requires
     joins-requires
     returns
     add-i

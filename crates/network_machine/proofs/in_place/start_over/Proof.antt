@@ -1,4 +1,4 @@
-use Rattle.network_machine.specs.Machine.{startOf}
+use Rattle.network_moves.specs.Machine.{startOf}
 use Rattle.network_machine.specs.Answers.{zeroConfiguration}
 use mathlib.Core.Path.{_∙_}
 use Rattle.network_machine.proofs.Verdicts.{over-done, over-refused}

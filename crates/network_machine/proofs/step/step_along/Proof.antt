@@ -1,8 +1,8 @@
 use mathlib.Core.Path.{sym, ap, _∙_}
 use borrow.Author.Tests.{not-true, not-false}
-use Rattle.network_machine.specs.Machine.{tested}
+use Rattle.network_moves.specs.Machine.{tested}
 use Rattle.network_machine.specs.Answers.{outcomeOf}
-use Rattle.network_machine.proofs.Stepping.{known-below, known-few, inactive, urgency, not-allowed, steps}
+use Rattle.network_moves.proofs.Stepping.{known-below, known-few, inactive, urgency, not-allowed, steps}
 use Rattle.network_machine.proofs.Waits.{bounds-broken, bounds-right}
 use borrow.Author.Needs.{needs}
 use Rattle.network_machine.proofs.step.step_along.Statement.{statement}

@@ -1,7 +1,7 @@
 use mathlib.Core.Path.{sym, ap, _∙_}
 use borrow.Author.Tests.{not-true, not-false}
 use Rattle.network_machine.specs.Answers.{outcomeOf}
-use Rattle.network_machine.proofs.Stepping.{not-configuration, not-known}
+use Rattle.network_moves.proofs.Stepping.{not-configuration, not-known}
 use borrow.Author.Needs.{needs}
 use Rattle.network_machine.proofs.step.step_checked.Statement.{statement}
 use Rattle.network_machine.proofs.step.step_checked.Tie as tie

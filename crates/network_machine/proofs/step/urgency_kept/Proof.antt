@@ -1,5 +1,5 @@
 use mathlib.Core.Path.{ap₂}
-use Rattle.expr.specs.Lists.{implies}
+use Rattle.lists.specs.Lists.{implies}
 use borrow.Author.Needs.{needs}
 use Rattle.network_machine.proofs.step.urgency_kept.Statement.{statement}
 use Rattle.network_machine.proofs.step.urgency_kept.Tie as tie

@@ -2,8 +2,8 @@ use mathlib.Core.Path.{sym, ap, _∙_}
 use mathlib.Core.List.{List}
 use Prim.Native.Nat.{ℕ}
 use borrow.Author.Tests.{not-true, not-false}
-use Rattle.expr.specs.Clocks.{later, inLimit}
-use Rattle.network_machine.specs.Machine.{tested}
+use Rattle.clocks.specs.Clocks.{later, inLimit}
+use Rattle.network_moves.specs.Machine.{tested}
 use Rattle.network_machine.specs.Answers.{outcomeOf}
 use Rattle.network_machine.proofs.Waits.{withClocks, not-configuration, no-ticks, past-limit, urgency, waits, bounds-broken, bounds-right}
 use borrow.Author.Needs.{needs}

@@ -1,0 +1,6 @@
+-- Laws of the definitions of this crate.
+pub mod Activity
+pub mod Choosing
+pub mod Moving
+pub mod Stepping
+pub mod Taken

@@ -1,0 +1,69 @@
+use mathlib.Core.Path.{_≡_, refl, sym, ap, _∙_}
+use mathlib.Core.List.{map}
+use Prim.Native.Nat.{_-_}
+use native.Mathlib.Omega.{arith}
+use lib.ListN.{length, drop, drop-of-length-le}
+use Rattle.lists.proofs.Parts.{drop-next}
+use Rattle.network_records.specs.Network.{Network, edgeAt}
+use Rattle.network_records.specs.Layout.{Laid}
+use Rattle.network_moves.specs.Choices.{Known}
+use Rattle.network_moves.specs.Turns.{takenAll}
+use Rattle.network_moves.proofs.Activity.{known-at}
+use Rattle.network_moves.proofs.Taken.{taken-all, taken-next, taken-none}
+use borrow.Author.Needs.{needs}
+use Rattle.network_moves.proofs.after.configuration_after.Statement.{statement}
+use Rattle.network_moves.proofs.after.configuration_after.Tie as tie
+
+abbrev Inv-loop : tie.InvT-loop
+Inv-loop rest counts offsets list old after₀ i₀ after i =
+    (n : Network) → Laid rest counts offsets n → Known counts list → takenAll n (map (edgeAt n) list) old after₀ ≡ takenAll n (map (edgeAt n) (drop i list)) old after
+
+abbrev μ-loop : tie.MeasureT-loop
+μ-loop rest counts offsets list old after₀ i₀ after i = length list - i
+
+loop-holds : tie.Need-loop-holds Inv-loop μ-loop
+loop-holds c = λ n L h. refl
+
+mul-m : tie.Need-mul-m Inv-loop μ-loop
+mul-m c = search needs
+
+shared-slice-read-m : tie.Need-shared-slice-read-m Inv-loop μ-loop
+shared-slice-read-m c = search needs
+
+edge-of-requires : tie.Need-edge-of-requires Inv-loop μ-loop
+edge-of-requires c κs = search needs
+
+taken-requires : tie.Need-taken-requires Inv-loop μ-loop
+taken-requires c κs = search needs
+
+add-i : tie.Need-add-i Inv-loop μ-loop
+add-i c = omega arith
+
+loop-less : tie.Need-loop-less Inv-loop μ-loop
+loop-less c = omega arith
+
+loop-again : tie.Need-loop-again Inv-loop μ-loop
+loop-again c = λ n L h. let e = c .before in
+    let l = e .before .before in
+    let K = e .edge-of .ensures _ n L (known-at _ _ h (l .loop-test .taken)) in
+    l .before .loop .inv n L h ∙ taken-next n _ (l .before .loop .after) (edgeAt n) (drop-next _ _ 0 (l .loop-test .taken))
+    ∙ ap (takenAll n _ _) (sym (c .taken .ensures n _ (L .located) K))
+
+returns : tie.Need-returns Inv-loop μ-loop
+returns c = λ n L h. sym (taken-all n _ _ _ refl ∙ c .before .loop .inv n L h ∙ taken-none n _ (c .before .loop .after) (edgeAt n) (drop-of-length-le _ (c .loop-test .left)))
+
+pub configuration-after-spec : {M : Type 1} → statement M
+configuration-after-spec =
+    tie.close
+    (tie.spec
+    Inv-loop
+    μ-loop
+    loop-holds
+    mul-m
+    shared-slice-read-m
+    edge-of-requires
+    taken-requires
+    add-i
+    loop-less
+    loop-again
+    returns)

@@ -1,0 +1,4 @@
+-- The definitions of this crate.
+pub mod Choices
+pub mod Machine
+pub mod Turns

@@ -1,0 +1,5 @@
+-- Laws of the definitions of this crate.
+pub mod Edges
+pub mod Fields
+pub mod Headers
+pub mod Records

@@ -1,0 +1,47 @@
+use mathlib.Core.Path.{sym, ap, _∙_}
+use native.Mathlib.Omega.{arith}
+use Rattle.reading.specs.Places.{shortOf}
+use Rattle.reading.proofs.Places.{such-got, such-not, such-fault, answered}
+use Rattle.lists.proofs.Bits.{subset-width}
+use borrow.Author.Needs.{needs}
+use Rattle.network_records.proofs.edge.read_needed.Statement.{statement}
+use Rattle.network_records.proofs.edge.read_needed.Tie as tie
+
+read-short-requires : tie.Need-read-short-requires
+read-short-requires c κs = search needs
+
+enum-known-h : tie.Need-enum-known-h
+enum-known-h c = search needs
+
+enum-told : tie.Need-enum-told
+enum-told c = search needs
+
+returns : tie.Need-returns
+returns c = ap (shortOf _) (c .enum-told .given .1) ∙ sym (such-fault _ _ _ (answered (shortOf _) (c .before .before .read-short .ensures .0) (c .enum-told .given .1)))
+
+cast-subset : tie.Need-cast-subset
+cast-subset c = search needs
+
+subset-requires : tie.Need-subset-requires
+subset-requires c κs = search needs
+
+returns-2 : tie.Need-returns-2
+returns-2 c = let g = c .before .before .before in
+    sym (such-got _ _ _ (answered (shortOf _) (g .before .before .read-short .ensures .0) (g .h .given .1)) (subset-width 16 32 (g .h .given .0 .0) _ (omega arith) (omega arith) ∙ sym (c .before .subset .ensures) ∙ c .if1 .taken))
+
+returns-3 : tie.Need-returns-3
+returns-3 c = let g = c .before .before .before in
+    sym (such-not _ _ _ (answered (shortOf _) (g .before .before .read-short .ensures .0) (g .h .given .1)) (subset-width 16 32 (g .h .given .0 .0) _ (omega arith) (omega arith) ∙ sym (c .before .subset .ensures) ∙ c .if1 .left))
+
+pub read-needed-spec : {M : Type 1} → statement M
+read-needed-spec =
+    tie.close
+    (tie.spec
+    read-short-requires
+    enum-known-h
+    enum-told
+    returns
+    cast-subset
+    subset-requires
+    returns-2
+    returns-3)
