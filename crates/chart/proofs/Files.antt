@@ -4,29 +4,30 @@ use mathlib.Core.Bool.{Bool, true}
 use mathlib.Core.List.{List}
 use Prim.Native.Nat.{ℕ, _-_, _≤_, _<_}
 use native.Mathlib.Omega.{arith}
-use borrow.Author.Tests.{leb-true}
 use lib.ListN.{length, take, drop}
-use Rattle.expr.specs.Lists.{all}
-use Rattle.expr.specs.Answer.{Answer, done, refused, _>>=_}
-use Rattle.expr.specs.Reading as reading
-use Rattle.expr.specs.Reading.{Reader, got, fault, length-fault, yield, _>>_, byte, byte2, many, end, recorded, mapped, skipped}
-use Rattle.expr.specs.Places.{onward, faultOf}
-use Rattle.expr.specs.declared.field.Fault.{Fault}
-use Rattle.expr.specs.declared.field.Fault.the-variants as Fl
-use Rattle.expr.proofs.Answer.{unless-at, then-at as then-at-answer, done-injective}
-use Rattle.expr.proofs.Reading.{got-rest, bind-at, then-at, yield-at, many-at, mapped-got, mapped-at, fault-at}
-use Rattle.expr.proofs.Places.{bind-got, bind-fault, then-got, then-fault, end-none, end-some, onward-onward, part-onward, length-onward}
-use Rattle.chart.specs.Chart.{Chart, State, Transition, state, records, numbered, headed, inRange, countsOf, readChart}
-use Rattle.chart.specs.Rules.{parents, siblings, stateRules, transitionRules, keepsRules, chartOf}
-use Rattle.chart.specs.Layout.{transitionBy, once}
-use Rattle.chart.specs.Laid.{Placed, Laid}
-use Rattle.chart.specs.Table.{Tabled}
-use Rattle.chart.specs.Ready.{verdict, chartFrom, faultNumber, Ready}
-use Rattle.chart.specs.declared.header.Counts.{Counts}
-use Rattle.chart.specs.declared.table.Tree.{Tree}
-use Rattle.expr.proofs.Bools.{parts}
-use Rattle.chart.proofs.States.{stated}
-use Rattle.chart.proofs.Ranges.{counts-of-at}
+use Rattle.lists.specs.Lists.{all}
+use Rattle.reading.specs.Answer.{Answer, done, refused, _>>=_}
+use Rattle.reading.specs.Reading as reading
+use Rattle.reading.specs.Reading.{Reader, got, fault, length-fault, yield, _>>_, byte, byte2, many, end, recorded, mapped, skipped}
+use Rattle.reading.specs.Places.{onward, faultOf}
+use Rattle.reading.specs.Verdict.{verdictOf}
+use Rattle.reading.specs.declared.verdict.Verdict.{Verdict}
+use Rattle.reading.specs.declared.verdict.Verdict.the-variants as Vd
+use Rattle.reading.specs.declared.field.Fault.{Fault}
+use Rattle.reading.specs.declared.field.Fault.the-variants as Fl
+use Rattle.reading.proofs.Answer.{unless-at, then-at as then-at-answer, done-injective}
+use Rattle.reading.proofs.Reading.{got-rest, bind-at, then-at, yield-at, many-at, mapped-got, mapped-at, fault-at}
+use Rattle.reading.proofs.Places.{bind-got, bind-fault, then-got, then-fault, end-none, end-some, onward-onward, part-onward, length-onward}
+use Rattle.chart_records.specs.Chart.{Chart, State, Transition, state, records, numbered, headed, inRange, countsOf, readChart}
+use Rattle.chart_records.specs.Rules.{parents, siblings, stateRules, transitionRules, keepsRules, chartOf}
+use Rattle.chart_records.specs.Layout.{transitionBy, once}
+use Rattle.chart_records.specs.Laid.{Placed, Laid}
+use Rattle.chart_tree.specs.Table.{Tabled}
+use Rattle.chart.specs.Ready.{chartFrom, faultNumber, Ready}
+use Rattle.chart_records.specs.declared.header.Counts.{Counts}
+use Rattle.chart_tree.specs.declared.table.Tree.{Tree}
+use Rattle.chart_records.proofs.States.{stated}
+use Rattle.chart_records.proofs.Ranges.{counts-of-at, headed-long, headed-short}
 
 abbrev statesOf : Counts → Reader (List State)
 statesOf n = many (n .states) (recorded byte (state (n .clocks) (n .entries) (n .exits)))
@@ -73,19 +74,19 @@ module _ (rest : List ℕ) (n : Counts) where
         }
 
 -- the rules of the states, then those of the transitions
-pub states-refused : (c : Chart) {k : ℕ} → stateRules c ≡ refused k → verdict (keepsRules c) ≡ refused k
-unfolding keepsRules verdict _>>=_
+pub states-refused : (c : Chart) {k : ℕ} → stateRules c ≡ refused k → verdictOf (keepsRules c) ≡ Vd.Refused k
+unfolding keepsRules _>>=_
 states-refused c h = rw h
 
-pub states-passed : (c : Chart) {a : Answer (Unit {0})} → stateRules c ≡ done tt → a ≡ transitionRules c → a ≡ verdict (keepsRules c)
-unfolding keepsRules verdict _>>=_
-states-passed c {a} h e = e ∙ rw h (go (transitionRules c))
+pub states-passed : (c : Chart) {x : Unit {0}} {v : Verdict} → stateRules c ≡ done x → v ≡ verdictOf (transitionRules c) → v ≡ verdictOf (keepsRules c)
+unfolding keepsRules _>>=_
+states-passed c h e = e ∙ rw h (go (transitionRules c))
   where
-    go : (a : Answer (Unit {0})) → a ≡ verdict (a >>= λ v. done c)
+    go : (a : Answer (Unit {0})) → verdictOf a ≡ verdictOf (a >>= λ v. done c)
     go (done x) = refl
     go (refused k) = refl
 
-pub parents-passed : (c : Chart) → stateRules c ≡ done tt → parents c ≡ true
+pub parents-passed : (c : Chart) {x : Unit {0}} → stateRules c ≡ done x → parents c ≡ true
 unfolding stateRules
 parents-passed c h = unless-at 5 _ _ h .0
 
@@ -113,10 +114,6 @@ module _ (n : Counts) (s : List ℕ) where
   unfolding chartFrom numbered _>>=_
   from-got h = rw h
 
-pub verdict-refused : {A : Type 0} {a : Answer A} {k : ℕ} → a ≡ refused k → verdict a ≡ refused k
-unfolding verdict
-verdict-refused h = rw h
-
 -- the chart of a file, by its header
 pub header-refused : (file : List ℕ) {k : ℕ} → countsOf file ≡ refused k → chartOf file ≡ refused k
 unfolding chartOf readChart _>>=_
@@ -130,10 +127,14 @@ pub header-passed : (file : List ℕ) {n : Counts} → countsOf file ≡ done n 
 unfolding chartOf readChart chartFrom _>>=_
 header-passed file {n} h = rw h (ap (λ (l : List ℕ). numbered (records n l) >>= keepsRules) (sym (eleven file)))
 
-headed-short : (file : List ℕ) → headed file ≡ true → length file ≤ 65536
-unfolding headed
-headed-short file h = leb-true (length file) 65536 (search parts)
-
 -- what follows version and length is not too long
 pub rest-short : (file : List ℕ) {n : Counts} → countsOf file ≡ done n → length (take (length file - 3) (drop 3 file)) ≤ 65536
 rest-short file h = omega (arith, ap length (part-onward file 3), length-onward file 3, headed-short file (counts-of-at file h .0))
+
+-- a file that holds a chart has a header
+pub chart-long : (file : List ℕ) {c : Chart} → chartOf file ≡ done c → 11 ≤ length file
+unfolding chartOf readChart
+chart-long file h =
+    let r = then-at-answer (readChart file) _ h in
+    let s = then-at-answer (countsOf file) _ (r .1) in
+    headed-long file (counts-of-at file (s .1) .0)

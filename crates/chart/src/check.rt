@@ -4,31 +4,31 @@ ghost use mathlib.Core.Bool.{true};
 ghost use mathlib.Core.List.{List};
 ghost use Prim.Native.Nat.{ℕ, _≤_};
 ghost use lib.ListN.{length};
-ghost use Rattle.expr.specs.Lists.{all};
-ghost use Rattle.expr.specs.Answer.{done};
-ghost use Rattle.expr.specs.Reading.{got, mapped};
-ghost use Rattle.expr.specs.Places.{onward, reached};
-ghost use Rattle.chart.specs.Chart.{Chart, records, inRange};
-ghost use Rattle.chart.specs.Rules.{keepsRules, chartOf};
-ghost use Rattle.chart.specs.Answers.{checkedOf};
-ghost use Rattle.chart.specs.Layout.{once, stopped};
-ghost use Rattle.chart.specs.Laid.{Laid};
-ghost use Rattle.chart.specs.Table.{Tabled};
-ghost use Rattle.chart.specs.Ready.{verdict, chartFrom, faultNumber, headerRefusal, refusedBy, Ready};
-use crate::header::Counts;
-use crate::header::HeaderRead;
-use crate::header::read_header;
-use crate::rule::Checked;
-use crate::rule::states_checked;
-use crate::state::read_states;
-use crate::table::Tree;
-use crate::table::no_states;
+ghost use Rattle.lists.specs.Lists.{all};
+ghost use Rattle.reading.specs.Answer.{done};
+ghost use Rattle.reading.specs.Verdict.{verdictOf};
+ghost use Rattle.reading.specs.Reading.{got, mapped};
+ghost use Rattle.reading.specs.Places.{onward, reached};
+ghost use Rattle.chart_records.specs.Chart.{Chart, records, inRange};
+ghost use Rattle.chart_records.specs.Rules.{keepsRules, chartOf};
+ghost use Rattle.chart_records.specs.Layout.{once, stopped};
+ghost use Rattle.chart_records.specs.Laid.{Laid};
+ghost use Rattle.chart_tree.specs.Table.{Tabled};
+ghost use Rattle.chart.specs.Ready.{chartFrom, faultNumber, headerRefusal, Ready};
 use crate::transition_list::TransitionsRead;
 use crate::transition_list::read_transitions;
-use crate::transition_rule::transitions_checked;
-use crate::transition_rule::tree_of;
-use expr::field::Fault;
-use expr::field::Reached;
+use chart_records::header::Counts;
+use chart_records::header::HeaderRead;
+use chart_records::header::read_header;
+use chart_records::state::read_states;
+use chart_rules::rule::states_checked;
+use chart_rules::transition_rule::transitions_checked;
+use chart_rules::transition_rule::tree_of;
+use chart_tree::table::Tree;
+use chart_tree::table::no_states;
+use reading::field::Fault;
+use reading::field::Reached;
+use reading::verdict::Verdict;
 
 fn no_transitions(f: Fault) -> TransitionsRead
     ensures { λ r. ⌜ r .reached ≡ stopped f ⌝ }
@@ -48,7 +48,7 @@ fn read_records(rest: &[u8], counts: Counts) -> TransitionsRead
 {
     let s = read_states(rest, 8, counts);
     let Reached::At(at) = s else {
-        return no_transitions(expr::field::reached_fault(s));
+        return no_transitions(reading::field::reached_fault(s));
     };
     let t = read_transitions(rest, at, counts);
     let q = t.reached;
@@ -62,11 +62,11 @@ fn read_records(rest: &[u8], counts: Counts) -> TransitionsRead
 }
 
 // The rules, in order.
-fn rules_checked(rest: &[u8], counts: Counts, offsets: &[u32], passed: bool, tree: Tree) -> Checked
-    ensures { λ r. ⌜ ((c : Chart) → Laid (now (rest .entry)) counts (now (offsets .entry)) c → Tabled c tree → passed ≡ all once (c .transitions) → checkedOf r ≡ verdict (keepsRules c)) ⌝ }
+fn rules_checked(rest: &[u8], counts: Counts, offsets: &[u32], passed: bool, tree: Tree) -> Verdict
+    ensures { λ r. ⌜ ((c : Chart) → Laid (now (rest .entry)) counts (now (offsets .entry)) c → Tabled c tree → passed ≡ all once (c .transitions) → r ≡ verdictOf (keepsRules c)) ⌝ }
 {
     let s = states_checked(rest, counts);
-    let Checked::Passed = s else {
+    let Verdict::Done = s else {
         return s;
     };
     transitions_checked(rest, counts, offsets, passed, tree)
@@ -74,17 +74,17 @@ fn rules_checked(rest: &[u8], counts: Counts, offsets: &[u32], passed: bool, tre
 
 // The verdict on a file, and what the machine uses of one that passes.
 pub struct CheckedFile {
-    pub verdict: Checked,
+    pub verdict: Verdict,
     pub counts: Counts,
     pub offsets: [u32; 64],
     pub tree: Tree,
 }
 
 fn refused_file(k: u8) -> CheckedFile
-    ensures { λ r. ⌜ r .verdict ≡ refusedBy k ⌝ }
+    ensures { λ r. ⌜ r .verdict ≡ Verdict.Refused k ⌝ }
 {
     CheckedFile {
-        verdict: Checked::Refused(k),
+        verdict: Verdict::Refused(k),
         counts: Counts {
             states: 0,
             clocks: 0,
@@ -121,13 +121,13 @@ fn header_refusal(h: HeaderRead) -> u8
 // What follows version and length.
 fn checked_records(rest: &[u8], counts: Counts) -> CheckedFile
     requires { ⌜ (inRange counts ≡ true) × (length (now rest) ≤ 65536) ⌝ }
-    ensures means { λ r. ⌜ checkedOf (r .verdict) ≡ verdict (chartFrom counts (onward (now (rest .entry)) 8)) ⌝ }
+    ensures means { λ r. ⌜ r .verdict ≡ verdictOf (chartFrom counts (onward (now (rest .entry)) 8)) ⌝ }
     ensures ready { λ r. ⌜ ((c : Chart) → chartFrom counts (onward (now (rest .entry)) 8) ≡ done c → Ready (now (rest .entry)) (r .counts) (r .offsets) (r .tree) c) ⌝ }
 {
     let t = read_records(rest, counts);
     let q = t.reached;
     let Reached::At(_) = q else {
-        return refused_file(fault_number(expr::field::reached_fault(q)));
+        return refused_file(fault_number(reading::field::reached_fault(q)));
     };
     let tree = tree_of(rest, counts);
     let offsets = t.offsets;
@@ -142,7 +142,7 @@ fn checked_records(rest: &[u8], counts: Counts) -> CheckedFile
 }
 
 pub fn checked(file: &[u8]) -> CheckedFile
-    ensures means { λ r. ⌜ checkedOf (r .verdict) ≡ verdict (chartOf (now (file .entry))) ⌝ }
+    ensures means { λ r. ⌜ r .verdict ≡ verdictOf (chartOf (now (file .entry))) ⌝ }
     ensures ready { λ r. ⌜ ((c : Chart) → chartOf (now (file .entry)) ≡ done c → Ready (onward (now (file .entry)) 3) (r .counts) (r .offsets) (r .tree) c) ⌝ }
 {
     let h = read_header(file);
@@ -153,8 +153,8 @@ pub fn checked(file: &[u8]) -> CheckedFile
 }
 
 // Whether a file holds a chart, or the number of the refusal.
-pub fn check(file: &[u8]) -> Checked
-    ensures { λ r. ⌜ checkedOf r ≡ verdict (chartOf (now (file .entry))) ⌝ }
+pub fn check(file: &[u8]) -> Verdict
+    ensures { λ r. ⌜ r ≡ verdictOf (chartOf (now (file .entry))) ⌝ }
 {
     let c = checked(file);
     c.verdict

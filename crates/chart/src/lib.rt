@@ -2,11 +2,4 @@
 // `header`, `rule` and `table`. The machine and the flattener read a checked chart by `entry`, `state`, `table` and
 // `transition`.
 pub mod check;
-pub mod entry;
-pub mod header;
-pub mod rule;
-pub mod state;
-pub mod table;
-pub mod transition;
 mod transition_list;
-mod transition_rule;

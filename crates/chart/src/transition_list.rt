@@ -4,18 +4,18 @@ ghost use mathlib.Core.Bool.{true, _&&_};
 ghost use mathlib.Core.List.{List};
 ghost use Prim.Native.Nat.{ℕ, _≤_, _<_};
 ghost use lib.ListN.{length};
-ghost use Rattle.expr.specs.Lists.{all};
-ghost use Rattle.expr.specs.Reading.{got, byte2, many, recorded, mapped};
-ghost use Rattle.expr.specs.Places.{onward, reached};
-ghost use Rattle.chart.specs.Layout.{transitionBy, once, stopped};
-ghost use Rattle.chart.specs.Chart.{Transition, inRange};
-ghost use Rattle.chart.specs.Laid.{Placed};
-use crate::header::Counts;
-use expr::field::ByteRead;
-use expr::field::Fault;
-use expr::field::Frame;
-use expr::field::Reached;
-use expr::label::LabelRead;
+ghost use Rattle.lists.specs.Lists.{all};
+ghost use Rattle.reading.specs.Reading.{got, byte2, many, recorded, mapped};
+ghost use Rattle.reading.specs.Places.{onward, reached};
+ghost use Rattle.chart_records.specs.Layout.{transitionBy, once, stopped};
+ghost use Rattle.chart_records.specs.Chart.{Transition, inRange};
+ghost use Rattle.chart_records.specs.Laid.{Placed};
+use chart_records::header::Counts;
+use labels::label::LabelRead;
+use reading::field::ByteRead;
+use reading::field::Fault;
+use reading::field::Frame;
+use reading::field::Reached;
 
 // Where a transition ends, and whether its label keeps rule 13.
 pub struct TransitionRead {
@@ -38,25 +38,25 @@ fn read_transition(s: &[u8], at: usize, counts: Counts) -> TransitionRead
     ensures { λ r. ⌜ reached (now (s .entry)) (r .once) (r .reached) ≡ mapped once (transitionBy counts (onward (now (s .entry)) at)) ⌝ }
 {
     let channels = counts.rendezvous + counts.broadcasts;
-    let a = expr::field::read_byte_below(s, at, counts.states);
+    let a = reading::field::read_byte_below(s, at, counts.states);
     let ByteRead::Value(_, at1) = a else {
-        return no_transition(expr::field::byte_fault(a));
+        return no_transition(reading::field::byte_fault(a));
     };
-    let d = expr::field::read_byte_below(s, at1, counts.states);
+    let d = reading::field::read_byte_below(s, at1, counts.states);
     let ByteRead::Value(_, at2) = d else {
-        return no_transition(expr::field::byte_fault(d));
+        return no_transition(reading::field::byte_fault(d));
     };
-    let x = expr::field::read_byte_or_none(s, at2, counts.exits);
+    let x = reading::field::read_byte_or_none(s, at2, counts.exits);
     let ByteRead::Value(_, at3) = x else {
-        return no_transition(expr::field::byte_fault(x));
+        return no_transition(reading::field::byte_fault(x));
     };
-    let e = expr::field::read_byte_or_none(s, at3, counts.entries);
+    let e = reading::field::read_byte_or_none(s, at3, counts.entries);
     let ByteRead::Value(_, at4) = e else {
-        return no_transition(expr::field::byte_fault(e));
+        return no_transition(reading::field::byte_fault(e));
     };
-    let l = expr::label::read_label(s, at4, counts.clocks, counts.variables, channels);
+    let l = labels::label::read_label(s, at4, counts.clocks, counts.variables, channels);
     let LabelRead::Label(label, next) = l else {
-        return no_transition(expr::label::label_fault(l));
+        return no_transition(labels::label::label_fault(l));
     };
     TransitionRead {
         reached: Reached::At(next),
@@ -69,13 +69,13 @@ fn transition_at(s: &[u8], at: usize, counts: Counts) -> TransitionRead
     requires { ⌜ inRange counts ≡ true ⌝ }
     ensures { λ r. ⌜ reached (now (s .entry)) (r .once) (r .reached) ≡ mapped once (recorded byte2 (transitionBy counts) (onward (now (s .entry)) at)) ⌝ }
 {
-    let p = expr::field::read_long_frame(s, at);
+    let p = reading::field::read_long_frame(s, at);
     let Frame::Part(from, to) = p else {
-        return no_transition(expr::field::frame_fault(p));
+        return no_transition(reading::field::frame_fault(p));
     };
     let t = read_transition(&s[from..to], 0, counts);
     let q = t.reached;
-    let reached = expr::field::whole(q, to - from, to);
+    let reached = reading::field::whole(q, to - from, to);
     TransitionRead {
         reached,
         once: t.once,

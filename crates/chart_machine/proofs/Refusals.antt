@@ -7,17 +7,17 @@ use Prim.Native.Nat.{ℕ, _≤_}
 use native.Mathlib.Omega.{arith}
 use borrow.Author.Tests.{lt-leb, le-leb}
 use lib.ListN.{length}
-use Rattle.expr.specs.Lists.{all}
-use Rattle.expr.specs.Clocks.{later, inLimit}
-use Rattle.expr.specs.Moves.{known, allowed}
-use Rattle.expr.specs.Answer.{done, refused, unless}
-use Rattle.chart.specs.Chart.{Chart, transitionAt, home}
-use Rattle.chart_machine.specs.Machine.{boundsKept, isConfiguration, activeTransition, after, tested, step, wait}
+use Rattle.lists.specs.Lists.{all}
+use Rattle.clocks.specs.Clocks.{later, inLimit}
+use Rattle.steps.specs.Moves.{known, allowed}
+use Rattle.reading.specs.Answer.{done, refused, unless}
+use Rattle.chart_records.specs.Chart.{Chart, transitionAt, home}
+use Rattle.chart_moves.specs.Machine.{boundsKept, isConfiguration, activeTransition, after, tested, step, wait}
 use Rattle.chart.specs.Ready.{Ready}
 use Rattle.chart_machine.specs.Outcomes.{Grown}
-use Rattle.chart.specs.declared.header.Counts.{Counts}
-use Rattle.chart.specs.declared.table.Tree.{Tree}
-use Rattle.chart_machine.specs.declared.configuration.Configuration.{Configuration}
+use Rattle.chart_records.specs.declared.header.Counts.{Counts}
+use Rattle.chart_tree.specs.declared.table.Tree.{Tree}
+use Rattle.chart_moves.specs.declared.configuration.Configuration.{Configuration}
 
 pub grown-of : {rest : List ℕ} {n : Counts} {offsets : List ℕ} {tree : Tree} {c : Chart} → Ready rest n offsets tree c → Grown rest n tree c
 grown-of R = record { stated = R .laid .stated; tabled = R .tabled; parents = R .parents }

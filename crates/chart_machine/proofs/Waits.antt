@@ -2,11 +2,11 @@
 use mathlib.Core.Path.{_≡_}
 use mathlib.Core.List.{List}
 use Prim.Native.Nat.{ℕ}
-use Rattle.expr.specs.Answer.{done, refused, _>>=_}
-use Rattle.chart.specs.Chart.{Chart}
-use Rattle.chart.specs.Rules.{chartOf}
-use Rattle.chart_machine.specs.Machine.{start, step, wait, startOf, stepOf, waitOf}
-use Rattle.chart_machine.specs.declared.configuration.Configuration.{Configuration}
+use Rattle.reading.specs.Answer.{done, refused, _>>=_}
+use Rattle.chart_records.specs.Chart.{Chart}
+use Rattle.chart_records.specs.Rules.{chartOf}
+use Rattle.chart_moves.specs.Machine.{start, step, wait, startOf, stepOf, waitOf}
+use Rattle.chart_moves.specs.declared.configuration.Configuration.{Configuration}
 
 module _ (file : List ℕ) where
   pub start-refused : {k : ℕ} → chartOf file ≡ refused k → startOf file ≡ refused k

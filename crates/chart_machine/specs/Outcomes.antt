@@ -5,24 +5,23 @@ use mathlib.Core.List.{List}
 use Prim.Native.Nat.{ℕ}
 use lib.IntN.{pos}
 use lib.ListN.{replicate}
-use Rattle.expr.specs.Lists.{implies}
-use Rattle.expr.specs.Clocks.{keeps}
-use Rattle.expr.specs.Answer.{Answer, done, refused}
-use Rattle.chart.specs.Chart.{Chart, stateAt}
-use Rattle.chart.specs.Rules.{parents}
-use Rattle.chart_machine.specs.Machine.{isActive}
-use Rattle.chart.specs.Layout.{Stated}
-use Rattle.chart.specs.Table.{Tabled}
-use Rattle.chart.specs.declared.header.Counts.{Counts}
-use Rattle.chart.specs.declared.table.Tree.{Tree}
-use Rattle.chart_machine.specs.declared.configuration.Configuration.{Configuration}
+use Rattle.lists.specs.Lists.{implies}
+use Rattle.clocks.specs.Clocks.{keeps}
+use Rattle.reading.specs.Answer.{Answer}
+use Rattle.reading.specs.Verdict.{verdictOf, orKept}
+use Rattle.chart_records.specs.Chart.{Chart, stateAt}
+use Rattle.chart_records.specs.Rules.{parents}
+use Rattle.chart_moves.specs.Machine.{isActive}
+use Rattle.chart_records.specs.Layout.{Stated}
+use Rattle.chart_tree.specs.Table.{Tabled}
+use Rattle.chart_records.specs.declared.header.Counts.{Counts}
+use Rattle.chart_tree.specs.declared.table.Tree.{Tree}
+use Rattle.chart_moves.specs.declared.configuration.Configuration.{Configuration}
 use Rattle.chart_machine.specs.declared.operation.Outcome.{Outcome}
-use Rattle.chart.specs.declared.rule.Checked.the-variants as Ck
 
--- a refused call leaves the configuration given
+-- the configuration after a call on σ: a call that is refused returns σ
 unfoldable pub outcomeOf : Configuration → Answer Configuration → Outcome
-outcomeOf σ (done τ) = record { answer = Ck.Passed; configuration = τ }
-outcomeOf σ (refused k) = record { answer = Ck.Refused k; configuration = σ }
+outcomeOf σ a = record { verdict = verdictOf a; configuration = orKept σ a }
 
 -- what a refused start answers
 unfoldable pub zeroConfiguration : Configuration

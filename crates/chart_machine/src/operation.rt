@@ -1,28 +1,28 @@
 // The chart machine: start, step and wait.
 ghost use mathlib.Core.Path.{_≡_};
 ghost use Prim.Native.Nat.{_<_};
-ghost use Rattle.chart.specs.Chart.{Chart};
-ghost use Rattle.chart.specs.Layout.{Stated};
-ghost use Rattle.chart_machine.specs.Machine.{boundsKept, isConfiguration, tested, step, wait, startOf, stepOf, waitOf};
+ghost use Rattle.chart_records.specs.Chart.{Chart};
+ghost use Rattle.chart_records.specs.Layout.{Stated};
+ghost use Rattle.chart_moves.specs.Machine.{boundsKept, isConfiguration, tested, step, wait, startOf, stepOf, waitOf};
 ghost use Rattle.chart_machine.specs.Outcomes.{outcomeOf, zeroConfiguration, boundKept, Grown};
-ghost use Rattle.chart_machine.specs.declared.configuration.Configuration.{Configuration as Given};
+ghost use Rattle.chart_moves.specs.declared.configuration.Configuration.{Configuration as Given};
 ghost use Rattle.chart.specs.Ready.{Ready};
-ghost use Rattle.expr.specs.Answer.{refused};
-use crate::activity::is_tree;
-use crate::allowed::all_active;
-use crate::allowed::is_allowed;
-use crate::configuration::Configuration;
-use crate::taken;
+ghost use Rattle.reading.specs.Answer.{refused};
 use chart::check::checked;
-use chart::header::Counts;
-use chart::rule::Checked;
-use chart::state::bounds_of;
-use chart::table::Tree;
-use chart::table::is_in;
+use chart_moves::activity::is_tree;
+use chart_moves::allowed::all_active;
+use chart_moves::allowed::is_allowed;
+use chart_moves::configuration::Configuration;
+use chart_moves::taken;
+use chart_records::header::Counts;
+use chart_records::state::bounds_of;
+use chart_tree::table::Tree;
+use chart_tree::table::is_in;
+use reading::verdict::Verdict;
 
-// Passed, with the next configuration; or refused, with the one given.
+// What became of a call, and the configuration after it: the next one, or the one given where the call is refused.
 pub struct Outcome {
-    pub answer: Checked,
+    pub verdict: Verdict,
     pub configuration: Configuration,
 }
 
@@ -34,7 +34,7 @@ fn bound_kept(rest: &[u8], counts: Counts, active: &[bool], clocks: [u32; 8], s:
         return true;
     }
     let bounds = bounds_of(rest, counts, s);
-    expr::clock::keeps(bounds, clocks)
+    clocks::clock::keeps(bounds, clocks)
 }
 
 // Whether the bounds of all active states are kept.
@@ -61,13 +61,13 @@ fn is_configuration(rest: &[u8], counts: Counts, tree: Tree, given: Configuratio
     if !is_tree(tree, active) {
         return false;
     }
-    if !expr::clock::zeros_past(counts.variables as usize, variables) {
+    if !clocks::clock::zeros_past(counts.variables as usize, variables) {
         return false;
     }
-    if !expr::clock::in_limit(counts.clocks as usize, clocks) {
+    if !clocks::clock::in_limit(counts.clocks as usize, clocks) {
         return false;
     }
-    if !expr::clock::zero_past(counts.clocks as usize, clocks) {
+    if !clocks::clock::zero_past(counts.clocks as usize, clocks) {
         return false;
     }
     bounds_kept(rest, counts, active, clocks)
@@ -77,7 +77,7 @@ fn refuse(k: u8, given: Configuration) -> Outcome
     ensures { λ r. ⌜ r ≡ outcomeOf given (refused k) ⌝ }
 {
     Outcome {
-        answer: Checked::Refused(k),
+        verdict: Verdict::Refused(k),
         configuration: given,
     }
 }
@@ -92,7 +92,7 @@ fn tested(rest: &[u8], counts: Counts, given: Configuration, next: Configuration
         return refuse(21, given);
     }
     Outcome {
-        answer: Checked::Passed,
+        verdict: Verdict::Done,
         configuration: next,
     }
 }
@@ -111,7 +111,7 @@ fn step_checked(
     if !is_configuration(rest, counts, tree, given) {
         return refuse(17, given);
     }
-    if !expr::step::known(list, counts.transitions as usize) {
+    if !steps::step::known(list, counts.transitions as usize) {
         return refuse(18, given);
     }
     if !all_active(rest, counts, offsets, tree, given, list) {
@@ -143,7 +143,7 @@ fn wait_checked(
     let active = given.active;
     let variables = given.variables;
     let clocks = given.clocks;
-    let delayed = expr::clock::later(counts.clocks as usize, ticks, clocks);
+    let delayed = clocks::clock::later(counts.clocks as usize, ticks, clocks);
     let within = delayed.within;
     if !within {
         return refuse(22, given);
@@ -173,14 +173,14 @@ pub fn start(file: &[u8]) -> Outcome
 {
     let f = checked(file);
     let verdict = f.verdict;
-    let Checked::Passed = verdict else {
+    let Verdict::Done = verdict else {
         return Outcome {
-            answer: verdict,
+            verdict,
             configuration: zero_configuration(),
         };
     };
     Outcome {
-        answer: Checked::Passed,
+        verdict: Verdict::Done,
         configuration: Configuration::start(f.tree),
     }
 }
@@ -191,9 +191,9 @@ pub fn step(file: &[u8], given: Configuration, list: &[u16]) -> Outcome
 {
     let f = checked(file);
     let verdict = f.verdict;
-    let Checked::Passed = verdict else {
+    let Verdict::Done = verdict else {
         return Outcome {
-            answer: verdict,
+            verdict,
             configuration: given,
         };
     };
@@ -209,9 +209,9 @@ pub fn wait(file: &[u8], given: Configuration, ticks: u32) -> Outcome
 {
     let f = checked(file);
     let verdict = f.verdict;
-    let Checked::Passed = verdict else {
+    let Verdict::Done = verdict else {
         return Outcome {
-            answer: verdict,
+            verdict,
             configuration: given,
         };
     };

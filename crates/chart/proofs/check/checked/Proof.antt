@@ -1,15 +1,17 @@
 use mathlib.Core.Path.{_≡_, sym, ap, _∙_, subst}
 use native.Mathlib.Omega.{arith}
 use borrow.Author.Needs.{needs}
-use Rattle.expr.proofs.Places.{answered, part-onward}
-use Rattle.expr.proofs.Answer.{refused-not}
-use Rattle.chart.specs.Answers.{headerOf, checkedOf}
-use Rattle.chart.specs.Ready.{verdict, chartFrom, headerRefusal, refusedBy, Ready}
-use Rattle.chart.proofs.Files.{header-refused, header-passed, verdict-refused, rest-short}
-use Rattle.chart.proofs.Ranges.{counts-of-at}
-use Rattle.expr.specs.Answer.{done}
-use Rattle.expr.specs.Places.{onward}
-use Rattle.chart.specs.Chart.{countsOf}
+use Rattle.reading.proofs.Places.{answered, part-onward}
+use Rattle.reading.proofs.Answer.{refused-not}
+use Rattle.chart_records.specs.Headers.{headerOf}
+use Rattle.reading.specs.Verdict.{verdictOf}
+use Rattle.reading.specs.declared.verdict.Verdict.the-variants as Vd
+use Rattle.chart.specs.Ready.{chartFrom, headerRefusal, Ready}
+use Rattle.chart.proofs.Files.{header-refused, header-passed, rest-short}
+use Rattle.chart_records.proofs.Ranges.{counts-of-at}
+use Rattle.reading.specs.Answer.{done}
+use Rattle.reading.specs.Places.{onward}
+use Rattle.chart_records.specs.Chart.{countsOf}
 use Prim.Native.Nat.{ℕ, _≤_}
 use mathlib.Core.List.{List}
 use lib.ListN.{length}
@@ -40,7 +42,7 @@ refused-file-requires c κs = search needs
 returns : tie.Need-returns
 returns c = let e = c .before .before .enum-told .given .1 in
     let z = header-refused _ (answered headerOf (c .before .before .before .before .read-header .ensures .0) e) in
-    (ap checkedOf (c .refused-file .ensures ∙ ap refusedBy (c .before .header-refusal .ensures ∙ ap headerRefusal e)) ∙ sym (verdict-refused z), λ d h. refused-not (sym z ∙ h))
+    (c .refused-file .ensures ∙ ap (λ (k : ℕ). Vd.Refused k) (c .before .header-refusal .ensures ∙ ap headerRefusal e) ∙ sym (ap verdictOf z), λ d h. refused-not (sym z ∙ h))
 
 sub-checked-records : tie.Need-sub-checked-records
 sub-checked-records c = omega (arith, long c)
@@ -59,7 +61,7 @@ returns-2 c = let z = header-passed _ (counted (c .before .before)) in
     let e = c .checked-records .ensures in
     let p = part-onward (c .before .before .before .before .before .before .before .args .file .now) 3 in
     let n = c .before .before .before .h .given .0 .0 in (
-      e .0 ∙ ap (λ (l : List ℕ). verdict (chartFrom n (onward l 8))) p ∙ ap verdict (sym z),
+      e .0 ∙ ap (λ (l : List ℕ). verdictOf (chartFrom n (onward l 8))) p ∙ ap verdictOf (sym z),
       λ d q. subst (λ (l : List ℕ). Ready l (c .checked-records .result .counts) (c .checked-records .result .offsets) (c .checked-records .result .tree) d) p (e .1 d (ap (λ (l : List ℕ). chartFrom n (onward l 8)) p ∙ sym z ∙ q)),
     )
 

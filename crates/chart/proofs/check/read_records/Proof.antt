@@ -1,7 +1,7 @@
 use mathlib.Core.Path.{sym, ap, _∙_}
-use Rattle.expr.specs.Places.{reached, reachedFault}
-use Rattle.expr.proofs.Places.{answered}
-use Rattle.expr.proofs.Reading.{no-answer, mapped-fault}
+use Rattle.reading.specs.Places.{reached, reachedFault}
+use Rattle.reading.proofs.Places.{answered}
+use Rattle.reading.proofs.Reading.{no-answer, mapped-fault}
 use Rattle.chart.proofs.Files.{records-unstated, records-unread, records-longer, records-whole, records-laid}
 use borrow.Author.Needs.{needs}
 use Rattle.chart.proofs.check.read_records.Statement.{statement}
@@ -44,8 +44,16 @@ no-transitions-requires-2 : tie.Need-no-transitions-requires-2
 no-transitions-requires-2 c κs = search needs
 
 returns-3 : tie.Need-returns-3
-returns-3 c = let t = c .before .before .before .before .before .read-transitions in
-    let z = records-longer _ _ _ (answered (reached _ tt) (c .before .before .before .before .before .before .before .before .before .read-states .ensures) (c .before .before .before .before .before .before .before .s .given .1)) _ (answered (reached _ (t .result .once)) (t .ensures .0) (c .before .before .before .q .given .1)) (c .before .if1 .taken) in
+returns-3 c =
+    let place-1 = c .before .before .before in
+    let q = place-1 .q in
+    let read-transitions = place-1 .before .before .read-transitions in
+    let place-2 = place-1 .before .before .before .before in
+    let s = place-2 .s in
+    let read-states = place-2 .before .before .read-states in
+    let t = read-transitions in
+    let z = records-longer _ _ _ (answered (reached _ tt) (read-states .ensures) (s .given .1)) _
+    (answered (reached _ (t .result .once)) (t .ensures .0) (q .given .1)) (c .before .if1 .taken) in
     (rw (c .no-transitions2 .ensures) (sym (mapped-fault _ z)), λ k t l r. no-answer (sym z ∙ r))
 
 returns-4 : tie.Need-returns-4

@@ -1,7 +1,7 @@
-use mathlib.Core.Path.{sym, ap, _∙_}
+use mathlib.Core.Path.{sym, _∙_}
 use borrow.Author.Needs.{needs}
-use Rattle.chart.specs.Answers.{checkedOf}
-use Rattle.expr.proofs.Places.{answered}
+use Rattle.chart_records.specs.Rules.{stateRules}
+use Rattle.reading.proofs.Verdicts.{verdict-done-at, was-refused}
 use Rattle.chart.proofs.Files.{states-refused, states-passed, parents-passed}
 use Rattle.chart.proofs.check.rules_checked.Statement.{statement}
 use Rattle.chart.proofs.check.rules_checked.Tie as tie
@@ -16,13 +16,16 @@ enum-told-2 : tie.Need-enum-told-2
 enum-told-2 c = search needs
 
 returns : tie.Need-returns
-returns c = λ k L T e. ap checkedOf (c .enum-told2 .given .1) ∙ sym (states-refused k (answered checkedOf (c .before .before .states-checked .ensures k (L .stated)) (c .enum-told2 .given .1)))
+returns c = λ k L T e.
+    let told = c .enum-told2 .given .1 in
+    told ∙ sym (states-refused k (was-refused (stateRules k) (c .before .before .states-checked .ensures k (L .stated)) told))
 
 transitions-checked-requires : tie.Need-transitions-checked-requires
 transitions-checked-requires c κs = search needs
 
 returns-2 : tie.Need-returns-2
-returns-2 c = λ k L T e. let h = answered checkedOf (c .before .before .before .states-checked .ensures k (L .stated)) (c .before .enum-told .given .1) in
+returns-2 c = λ k L T e.
+    let h = verdict-done-at (stateRules k) (sym (c .before .before .before .states-checked .ensures k (L .stated)) ∙ c .before .enum-told .given .1) .1 in
     states-passed k h (c .transitions-checked .ensures k L T (parents-passed k h) e)
 
 pub rules-checked-spec : {M : Type 1} → statement M

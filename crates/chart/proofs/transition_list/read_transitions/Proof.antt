@@ -2,15 +2,15 @@ use mathlib.Core.Path.{refl, sym, _∙_}
 use native.Mathlib.Omega.{arith}
 use borrow.Author.Needs.{needs}
 use Prim.Native.Nat.{_-_}
-use Rattle.expr.specs.Reading.{byte2, recorded}
-use Rattle.expr.specs.Places.{onward, reached}
-use Rattle.expr.proofs.Places.{answered}
-use Rattle.expr.proofs.Reading.{no-answer, mapped-fault, mapped-at}
-use Rattle.chart.specs.Layout.{transitionBy, once}
-use Rattle.chart.specs.Laid.{noTransition}
-use Rattle.chart.proofs.Ranges.{counts-range}
-use Rattle.expr.proofs.Sizes.{recorded-before}
-use Rattle.chart.proofs.Transitions.{Kept, kept-none, kept-more, kept-stop, kept-all, kept-placed}
+use Rattle.reading.specs.Reading.{byte2, recorded}
+use Rattle.reading.specs.Places.{onward, reached}
+use Rattle.reading.proofs.Places.{answered}
+use Rattle.reading.proofs.Reading.{no-answer, mapped-fault, mapped-at}
+use Rattle.chart_records.specs.Layout.{transitionBy, once}
+use Rattle.chart_records.specs.Chart.{noTransition}
+use Rattle.chart_records.proofs.Ranges.{counts-range}
+use Rattle.reading.proofs.Sizes.{recorded-before}
+use Rattle.chart_records.proofs.Transitions.{Kept, kept-none, kept-more, kept-stop, kept-all, kept-placed}
 use Rattle.chart.proofs.transition_list.read_transitions.Statement.{statement}
 use Rattle.chart.proofs.transition_list.read_transitions.Tie as tie
 

@@ -2,10 +2,11 @@ use mathlib.Core.Path.{sym, ap, _∙_}
 use native.Mathlib.Omega.{arith}
 use Prim.Native.Nat.{_≤_}
 use lib.ListN.{length}
-use Rattle.expr.specs.Places.{frameOf, frameFault}
-use Rattle.expr.proofs.Places.{recorded-got, recorded-fault, frame-fits, part-length, answered}
-use Rattle.expr.proofs.Reading.{mapped-fault}
-use Rattle.expr.proofs.Skips.{mapped-recorded}
+use Rattle.reading.specs.Places.{frameOf, frameFault}
+use Rattle.reading.proofs.Places.{recorded-got, recorded-fault, frame-fits, answered}
+use Rattle.lists.proofs.Parts.{part-length}
+use Rattle.reading.proofs.Reading.{mapped-fault}
+use Rattle.reading.proofs.Skips.{mapped-recorded}
 use borrow.Author.Needs.{needs}
 use Rattle.chart.proofs.transition_list.transition_at.Statement.{statement}
 use Rattle.chart.proofs.transition_list.transition_at.Tie as tie

@@ -1,7 +1,7 @@
 use mathlib.Core.Path.{sym, _∙_}
 use borrow.Author.Tests.{not-true, not-false}
-use Rattle.expr.specs.Lists.{implies}
-use Rattle.chart_machine.specs.Machine.{isActive}
+use Rattle.lists.specs.Lists.{implies}
+use Rattle.chart_moves.specs.Machine.{isActive}
 use borrow.Author.Needs.{needs}
 use Rattle.chart_machine.proofs.operation.bound_kept.Statement.{statement}
 use Rattle.chart_machine.proofs.operation.bound_kept.Tie as tie

@@ -4,14 +4,14 @@ use native.Mathlib.Omega.{arith}
 use borrow.Author.Needs.{needs}
 use Prim.Native.Nat.{_-_}
 use lib.ListN.{drop}
-use Rattle.expr.specs.Lists.{all}
-use Rattle.expr.proofs.Lists.{all-next, all-stop}
-use Rattle.chart.specs.Chart.{Chart, states}
-use Rattle.chart.specs.Layout.{Stated}
-use Rattle.chart_machine.specs.Machine.{boundsKept}
+use Rattle.lists.specs.Lists.{all}
+use Rattle.lists.proofs.Lists.{all-next, all-stop}
+use Rattle.chart_records.specs.Chart.{Chart, states}
+use Rattle.chart_records.specs.Layout.{Stated}
+use Rattle.chart_moves.specs.Machine.{boundsKept}
 use Rattle.chart_machine.specs.Outcomes.{boundKept}
-use Rattle.chart_machine.specs.declared.configuration.Configuration.{Configuration}
-use Rattle.chart.proofs.Checks.{states-next, states-end}
+use Rattle.chart_moves.specs.declared.configuration.Configuration.{Configuration}
+use Rattle.chart_rules.proofs.Checks.{states-next, states-end}
 use Rattle.chart_machine.proofs.operation.bounds_kept.Statement.{statement}
 use Rattle.chart_machine.proofs.operation.bounds_kept.Tie as tie
 
@@ -32,7 +32,12 @@ bound-kept-requires c κs = search needs
 
 returns : tie.Need-returns Inv-loop μ-loop
 unfolding boundsKept
-returns c = λ k σ S e f. sym (c .before .before .before .before .before .loop .inv k σ S e f ∙ all-stop (boundKept k σ) (states-next S _ (c .before .before .before .if1 .taken)) (sym (c .before .bound-kept .ensures k σ S e f (c .before .before .before .if1 .taken)) ∙ not-true _ (c .if2 .taken)))
+returns c =
+    let place = c .before .before .before in
+    let if1 = place .if1 in
+    let loop = place .before .before .loop in
+    λ k σ S e f. sym (loop .inv k σ S e f ∙ all-stop (boundKept k σ) (states-next S _ (if1 .taken))
+    (sym (c .before .bound-kept .ensures k σ S e f (if1 .taken)) ∙ not-true _ (c .if2 .taken)))
 
 add-s : tie.Need-add-s Inv-loop μ-loop
 add-s c = omega arith
@@ -41,7 +46,12 @@ loop-less : tie.Need-loop-less Inv-loop μ-loop
 loop-less c = omega arith
 
 loop-again : tie.Need-loop-again Inv-loop μ-loop
-loop-again c = λ k σ S e f. c .before .before .before .before .before .loop .inv k σ S e f ∙ all-next (boundKept k σ) (states-next S _ (c .before .before .before .if1 .taken)) (sym (c .before .bound-kept .ensures k σ S e f (c .before .before .before .if1 .taken)) ∙ not-false _ (c .if2 .left))
+loop-again c =
+    let place = c .before .before .before in
+    let if1 = place .if1 in
+    let loop = place .before .before .loop in
+    λ k σ S e f. loop .inv k σ S e f ∙ all-next (boundKept k σ) (states-next S _ (if1 .taken))
+    (sym (c .before .bound-kept .ensures k σ S e f (if1 .taken)) ∙ not-false _ (c .if2 .left))
 
 returns-2 : tie.Need-returns-2 Inv-loop μ-loop
 unfolding boundsKept all

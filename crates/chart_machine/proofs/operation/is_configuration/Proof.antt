@@ -1,7 +1,7 @@
 use mathlib.Core.Path.{refl, sym, _∙_}
 use borrow.Author.Tests.{not-true, not-false}
-use Rattle.chart.specs.Chart.{stateAt, states}
-use Rattle.chart_machine.specs.Machine.{isConfiguration, boundsKept}
+use Rattle.chart_records.specs.Chart.{stateAt, states}
+use Rattle.chart_moves.specs.Machine.{isConfiguration, boundsKept}
 use borrow.Author.Needs.{needs}
 use Rattle.chart_machine.proofs.operation.is_configuration.Statement.{statement}
 use Rattle.chart_machine.proofs.operation.is_configuration.Tie as tie
@@ -21,7 +21,16 @@ zeros-past-requires c κs = search needs
 
 returns-2 : tie.Need-returns-2
 unfolding isConfiguration
-returns-2 c = λ k G. rw (sym (c .before .before .before .before .is-tree .ensures k (c .before .before .before .before .before .before .before .before .before .args .given) (G .tabled) (G .parents) refl) ∙ not-false _ (c .before .before .before .if1 .left), G .stated .variables, sym (c .before .zeros-past .ensures) ∙ not-true _ (c .if2 .taken))
+returns-2 c =
+    let place-1 = c .before .before .before in
+    let if1 = place-1 .if1 in
+    let is-tree = place-1 .before .is-tree in
+    let args = place-1 .before .before .before .before .before .before .args in
+    λ k G. rw (
+      sym (is-tree .ensures k (args .given) (G .tabled) (G .parents) refl) ∙ not-false _ (if1 .left),
+      G .stated .variables,
+      sym (c .before .zeros-past .ensures) ∙ not-true _ (c .if2 .taken),
+    )
 
 cast-in-limit : tie.Need-cast-in-limit
 cast-in-limit c = search needs
@@ -31,7 +40,21 @@ in-limit-requires c κs = search needs
 
 returns-3 : tie.Need-returns-3
 unfolding isConfiguration
-returns-3 c = λ k G. rw (sym (c .before .before .before .before .before .before .before .is-tree .ensures k (c .before .before .before .before .before .before .before .before .before .before .before .before .args .given) (G .tabled) (G .parents) refl) ∙ not-false _ (c .before .before .before .before .before .before .if1 .left), G .stated .variables, sym (c .before .before .before .before .zeros-past .ensures) ∙ not-false _ (c .before .before .before .if2 .left), G .stated .clocks, sym (c .before .in-limit .ensures) ∙ not-true _ (c .if3 .taken))
+returns-3 c =
+    let place-1 = c .before .before .before in
+    let if2 = place-1 .if2 in
+    let zeros-past = place-1 .before .zeros-past in
+    let place-2 = place-1 .before .before .before in
+    let if1 = place-2 .if1 in
+    let is-tree = place-2 .before .is-tree in
+    let args = place-2 .before .before .before .before .before .before .args in
+    λ k G. rw (
+      sym (is-tree .ensures k (args .given) (G .tabled) (G .parents) refl) ∙ not-false _ (if1 .left),
+      G .stated .variables,
+      sym (zeros-past .ensures) ∙ not-false _ (if2 .left),
+      G .stated .clocks,
+      sym (c .before .in-limit .ensures) ∙ not-true _ (c .if3 .taken),
+    )
 
 cast-zero-past : tie.Need-cast-zero-past
 cast-zero-past c = search needs
@@ -41,14 +64,50 @@ zero-past-requires c κs = search needs
 
 returns-4 : tie.Need-returns-4
 unfolding isConfiguration
-returns-4 c = λ k G. rw (sym (c .before .before .before .before .before .before .before .before .before .before .is-tree .ensures k (c .before .before .before .before .before .before .before .before .before .before .before .before .before .before .before .args .given) (G .tabled) (G .parents) refl) ∙ not-false _ (c .before .before .before .before .before .before .before .before .before .if1 .left), G .stated .variables, sym (c .before .before .before .before .before .before .before .zeros-past .ensures) ∙ not-false _ (c .before .before .before .before .before .before .if2 .left), G .stated .clocks, sym (c .before .before .before .before .in-limit .ensures) ∙ not-false _ (c .before .before .before .if3 .left), sym (c .before .zero-past .ensures) ∙ not-true _ (c .if4 .taken))
+returns-4 c =
+    let place-1 = c .before .before .before in
+    let if3 = place-1 .if3 in
+    let in-limit = place-1 .before .in-limit in
+    let place-2 = place-1 .before .before .before in
+    let if2 = place-2 .if2 in
+    let zeros-past = place-2 .before .zeros-past in
+    let place-3 = place-2 .before .before .before in
+    let if1 = place-3 .if1 in
+    let is-tree = place-3 .before .is-tree in
+    let args = place-3 .before .before .before .before .before .before .args in
+    λ k G. rw (
+      sym (is-tree .ensures k (args .given) (G .tabled) (G .parents) refl) ∙ not-false _ (if1 .left),
+      G .stated .variables,
+      sym (zeros-past .ensures) ∙ not-false _ (if2 .left),
+      G .stated .clocks,
+      sym (in-limit .ensures) ∙ not-false _ (if3 .left),
+      sym (c .before .zero-past .ensures) ∙ not-true _ (c .if4 .taken),
+    )
 
 bounds-kept-requires : tie.Need-bounds-kept-requires
 bounds-kept-requires c κs = search needs
 
 returns-5 : tie.Need-returns-5
 unfolding isConfiguration boundsKept stateAt states
-returns-5 c = λ k G. rw (sym (c .before .before .before .before .before .before .before .before .before .before .before .is-tree .ensures k (c .before .before .before .before .before .before .before .before .before .before .before .before .before .before .before .before .args .given) (G .tabled) (G .parents) refl) ∙ not-false _ (c .before .before .before .before .before .before .before .before .before .before .if1 .left), G .stated .variables, sym (c .before .before .before .before .before .before .before .before .zeros-past .ensures) ∙ not-false _ (c .before .before .before .before .before .before .before .if2 .left), G .stated .clocks, sym (c .before .before .before .before .before .in-limit .ensures) ∙ not-false _ (c .before .before .before .before .if3 .left), sym (c .before .before .zero-past .ensures) ∙ not-false _ (c .before .if4 .left)) (c .bounds-kept .ensures k (c .before .before .before .before .before .before .before .before .before .before .before .before .before .before .before .before .args .given) (G .stated) refl refl)
+returns-5 c =
+    let place-1 = c .before .before .before .before in
+    let if3 = place-1 .if3 in
+    let in-limit = place-1 .before .in-limit in
+    let place-2 = place-1 .before .before .before in
+    let if2 = place-2 .if2 in
+    let zeros-past = place-2 .before .zeros-past in
+    let place-3 = place-2 .before .before .before in
+    let if1 = place-3 .if1 in
+    let is-tree = place-3 .before .is-tree in
+    let args = place-3 .before .before .before .before .before .before .args in
+    λ k G. rw (
+      sym (is-tree .ensures k (args .given) (G .tabled) (G .parents) refl) ∙ not-false _ (if1 .left),
+      G .stated .variables,
+      sym (zeros-past .ensures) ∙ not-false _ (if2 .left),
+      G .stated .clocks,
+      sym (in-limit .ensures) ∙ not-false _ (if3 .left),
+      sym (c .before .before .zero-past .ensures) ∙ not-false _ (c .before .if4 .left),
+    ) (c .bounds-kept .ensures k (args .given) (G .stated) refl refl)
 
 pub is-configuration-spec : {M : Type 1} → statement M
 is-configuration-spec =

@@ -1,7 +1,7 @@
-use Rattle.expr.proofs.Places.{answered}
-use Rattle.chart.specs.Answers.{checkedOf}
+use mathlib.Core.Path.{sym, _∙_}
+use Rattle.chart_records.specs.Rules.{chartOf}
+use Rattle.reading.proofs.Verdicts.{verdict-done-at, was-refused}
 use Rattle.chart_machine.specs.Outcomes.{outcomeOf}
-use Rattle.chart.proofs.Verdicts.{verdict-refused-at, verdict-done-at}
 use Rattle.chart_machine.proofs.Waits.{start-refused, start-passed}
 use borrow.Author.Needs.{needs}
 use Rattle.chart_machine.proofs.operation.start.Statement.{statement}
@@ -21,7 +21,9 @@ zero-configuration-requires c κs = search needs
 
 returns : tie.Need-returns
 unfolding outcomeOf
-returns c = rw (c .zero-configuration .ensures, c .before .enum-told2 .given .1, start-refused _ (verdict-refused-at _ (answered checkedOf (c .before .before .before .checked .ensures .0) (c .before .enum-told2 .given .1))))
+returns c =
+    let told = c .before .enum-told2 .given .1 in
+    rw (c .zero-configuration .ensures, told, start-refused _ (was-refused (chartOf _) (c .before .before .before .checked .ensures .0) told))
 
 start-requires : tie.Need-start-requires
 start-requires c κs = search needs
@@ -29,7 +31,7 @@ start-requires c κs = search needs
 returns-2 : tie.Need-returns-2
 unfolding outcomeOf
 returns-2 c = let f = c .before .before .before .checked in
-    let d = verdict-done-at _ (answered checkedOf (f .ensures .0) (c .before .enum-told .given .1)) in
+    let d = verdict-done-at (chartOf _) (sym (f .ensures .0) ∙ c .before .enum-told .given .1) in
     let R = f .ensures .1 (d .0) (d .1) in
     rw (start-passed _ (d .1), c .start .ensures (d .0) (R .tabled) (R .parents) (R .entry-marks))
 

@@ -3,21 +3,21 @@ use mathlib.Core.List.{List}
 use Prim.Native.Nat.{ℕ, _≤_}
 use native.Mathlib.Omega.{arith}
 use lib.ListN.{length}
-use Rattle.expr.specs.Answer.{done}
-use Rattle.expr.proofs.Places.{answered, part-onward}
-use Rattle.chart.specs.Chart.{Chart}
-use Rattle.chart.specs.Rules.{chartOf}
-use Rattle.chart.specs.Layout.{Stated}
-use Rattle.chart.specs.Answers.{checkedOf}
+use Rattle.reading.specs.Answer.{done}
+use Rattle.reading.proofs.Places.{part-onward}
+use Rattle.reading.proofs.Verdicts.{verdict-done-at, was-refused}
+use Rattle.chart_records.specs.Chart.{Chart}
+use Rattle.chart_records.specs.Rules.{chartOf}
+use Rattle.chart_records.specs.Layout.{Stated}
 use Rattle.chart_machine.specs.Outcomes.{outcomeOf}
-use Rattle.chart.proofs.Verdicts.{verdict-refused-at, verdict-done-at, chart-long}
+use Rattle.chart.proofs.Files.{chart-long}
 use Rattle.chart_machine.proofs.Waits.{wait-refused, wait-passed}
 use borrow.Author.Needs.{needs}
 use Rattle.chart_machine.proofs.operation.wait.Statement.{statement}
 use Rattle.chart_machine.proofs.operation.wait.Tie as tie
 
 chart : (c : tie.After-enum-told) → (k : Chart) × (chartOf (c .before .before .before .before .args .file .now) ≡ done k)
-chart c = verdict-done-at _ (answered checkedOf (c .before .before .checked .ensures .0) (c .enum-told .given .1))
+chart c = verdict-done-at _ (sym (c .before .before .checked .ensures .0) ∙ c .enum-told .given .1)
 
 long : (c : tie.After-enum-told) → 11 ≤ length (c .before .before .before .before .args .file .now)
 long c = chart-long _ (chart c .1)
@@ -33,7 +33,7 @@ enum-told-2 c = search needs
 
 returns : tie.Need-returns
 unfolding outcomeOf
-returns c = rw (c .enum-told2 .given .1, wait-refused _ _ _ (verdict-refused-at _ (answered checkedOf (c .before .before .checked .ensures .0) (c .enum-told2 .given .1))))
+returns c = let told = c .enum-told2 .given .1 in rw (told, wait-refused _ _ _ (was-refused (chartOf _) (c .before .before .checked .ensures .0) told))
 
 sub-wait-checked : tie.Need-sub-wait-checked
 sub-wait-checked c = omega (arith, long (c .before .before))
@@ -48,9 +48,14 @@ wait-checked-requires : tie.Need-wait-checked-requires
 wait-checked-requires c κs = search needs
 
 returns-2 : tie.Need-returns-2
-returns-2 c = let d = chart (c .before .before .before .before) in
-    let R = c .before .before .before .before .before .before .checked .ensures .1 (d .0) (d .1) in
-    c .wait-checked .ensures (d .0) (record { stated = subst (λ (l : List ℕ). Stated l (c .before .before .before .before .before .before .checked .result .counts) (d .0)) (sym (part-onward (c .before .before .before .before .before .before .before .before .args .file .now) 3)) (R .laid .stated); tabled = R .tabled; parents = R .parents })
+returns-2 c =
+    let told = c .before .before .before .before in
+    let d = chart told in
+    let f = told .before .before .checked in
+    let R = f .ensures .1 (d .0) (d .1) in
+    let file = told .before .before .before .before .args .file .now in
+    let stated = subst (λ (l : List ℕ). Stated l (f .result .counts) (d .0)) (sym (part-onward file 3)) (R .laid .stated) in
+    c .wait-checked .ensures (d .0) (record { stated = stated; tabled = R .tabled; parents = R .parents })
     ∙ ap (outcomeOf _) (sym (wait-passed _ _ _ (d .1)))
 
 pub wait-spec : {M : Type 1} → statement M

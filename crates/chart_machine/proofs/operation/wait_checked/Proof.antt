@@ -31,15 +31,32 @@ refuse-requires-3 : tie.Need-refuse-requires-3
 refuse-requires-3 c κs = search needs
 
 returns-3 : tie.Need-returns-3
-returns-3 c = λ k G. c .refuse3 .ensures ∙ ap (outcomeOf _) (sym (wait-late k _ _ (sym (c .before .before .before .before .before .before .before .before .before .is-configuration .ensures k G) ∙ not-false _ (c .before .before .before .before .before .before .before .before .if1 .left)) (c .before .before .before .before .before .before .before .if2 .left) (G .stated .clocks) (c .before .before .later .ensures .0) (not-true _ (c .before .if3 .taken))))
+returns-3 c =
+    let place-1 = c .before .before .before .before .before .before .before in
+    let if2 = place-1 .if2 in
+    let if1 = place-1 .before .if1 in
+    let is-configuration = place-1 .before .before .is-configuration in
+    λ k G. c .refuse3 .ensures ∙ ap (outcomeOf _) (sym
+    (wait-late k _ _ (sym (is-configuration .ensures k G) ∙ not-false _ (if1 .left)) (if2 .left) (G .stated .clocks)
+    (c .before .before .later .ensures .0) (not-true _ (c .before .if3 .taken))))
 
 tested-requires : tie.Need-tested-requires
 tested-requires c κs = search needs
 
 returns-4 : tie.Need-returns-4
-returns-4 c = λ k G. let l = c .before .before .before .later in
+returns-4 c =
+    let place-1 = c .before .before .before in
+    let later = place-1 .later in
+    let place-2 = place-1 .before .before .before .before .before in
+    let if2 = place-2 .if2 in
+    let if1 = place-2 .before .if1 in
+    let is-configuration = place-2 .before .before .is-configuration in
+    λ k G.
+    let l = later in
     let w = not-false _ (c .before .before .if3 .left) in
-    c .tested .ensures k (G .stated) ∙ ap (outcomeOf _) (sym (wait-moved k _ _ (sym (c .before .before .before .before .before .before .before .before .before .before .is-configuration .ensures k G) ∙ not-false _ (c .before .before .before .before .before .before .before .before .before .if1 .left)) (c .before .before .before .before .before .before .before .before .if2 .left) (G .stated .clocks) (l .ensures .0) w (l .ensures .1 w)))
+    c .tested .ensures k (G .stated) ∙ ap (outcomeOf _)
+    (sym (wait-moved k _ _ (sym (is-configuration .ensures k G) ∙ not-false _ (if1 .left)) (if2 .left) (G .stated .clocks) (l .ensures .0) w
+    (l .ensures .1 w)))
 
 pub wait-checked-spec : {M : Type 1} → statement M
 wait-checked-spec =

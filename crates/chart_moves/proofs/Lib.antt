@@ -1,0 +1,8 @@
+-- Laws of the definitions of this crate.
+pub mod Active
+pub mod Activities
+pub mod After
+pub mod Choices
+pub mod Destinations
+pub mod Moved
+pub mod Step

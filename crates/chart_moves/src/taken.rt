@@ -1,0 +1,111 @@
+// What becomes of a configuration when transitions are taken.
+ghost use mathlib.Core.Path.{_≡_};
+ghost use mathlib.Core.Bool.{true};
+ghost use mathlib.Core.List.{map};
+ghost use Rattle.steps.specs.Moves.{known, variablesAfter, clocksAfter};
+ghost use Rattle.chart_records.specs.Chart.{Chart, transitionAt};
+ghost use Rattle.chart_moves.specs.Machine.{after};
+ghost use Rattle.chart_moves.specs.Active.{Moved};
+ghost use Rattle.chart_records.specs.Laid.{Laid};
+ghost use Rattle.chart.specs.Ready.{Ready};
+use crate::activity::active_after;
+use crate::allowed::chosen;
+use crate::configuration::Configuration;
+use crate::moves::Moves;
+use crate::moves::no_moves;
+use crate::moves::with_move;
+use chart_records::header::Counts;
+use chart_records::transition::body_of;
+use chart_records::transition::destination_of;
+use chart_records::transition::entry_of;
+use chart_records::transition::resets_of;
+use chart_records::transition::source_of;
+use chart_tree::table::Tree;
+
+// Where the transitions of a list come from and go to, and by which entries.
+fn moves_of(rest: &[u8], offsets: &[u32], list: &[u16]) -> Moves
+    ensures { λ r. ⌜ ((c : Chart) (n : Counts) → Laid (now (rest .entry)) n (now (offsets .entry)) c → known (n .transitions) (now (list .entry)) ≡ true → Moved (map (transitionAt c) (now (list .entry))) r) ⌝ }
+{
+    let mut moves = no_moves();
+    let mut i = 0;
+    while i < list.len() {
+        let t = chosen(list, i);
+        let source = source_of(rest, offsets, t);
+        let destination = destination_of(rest, offsets, t);
+        let entry = entry_of(rest, offsets, t);
+        let next = with_move(moves, source, destination, entry);
+        moves = next;
+        i += 1;
+    }
+    moves
+}
+
+// The variables after the assignments of the transitions, all of which read `old`.
+fn variables_after(
+    rest: &[u8],
+    counts: Counts,
+    offsets: &[u32],
+    list: &[u16],
+    old: [i32; 16],
+) -> [i32; 16]
+    ensures { λ r. ⌜ ((c : Chart) → Laid (now (rest .entry)) counts (now (offsets .entry)) c → known (counts .transitions) (now (list .entry)) ≡ true → r ≡ variablesAfter (map (λ m. transitionAt c m .label) (now (list .entry))) old) ⌝ }
+{
+    let mut values = old;
+    let mut i = 0;
+    while i < list.len() {
+        let t = chosen(list, i);
+        let body = body_of(offsets, t);
+        let next = labels::label::assigned(
+            rest,
+            body,
+            counts.clocks,
+            counts.variables,
+            old,
+            values,
+        );
+        values = next;
+        i += 1;
+    }
+    values
+}
+
+// The clocks, with those at 0 that a transition resets.
+fn clocks_after(rest: &[u8], offsets: &[u32], list: &[u16], clocks: [u32; 8]) -> [u32; 8]
+    ensures { λ r. ⌜ ((c : Chart) (n : Counts) → Laid (now (rest .entry)) n (now (offsets .entry)) c → known (n .transitions) (now (list .entry)) ≡ true → r ≡ clocksAfter (map (λ m. transitionAt c m .label) (now (list .entry))) clocks) ⌝ }
+{
+    let mut after = clocks;
+    let mut i = 0;
+    while i < list.len() {
+        let t = chosen(list, i);
+        let resets = resets_of(rest, offsets, t);
+        let next = clocks::clock::reset(resets, after);
+        after = next;
+        i += 1;
+    }
+    after
+}
+
+// The configuration after the transitions of a list.
+pub fn after(
+    rest: &[u8],
+    counts: Counts,
+    offsets: &[u32],
+    tree: Tree,
+    given: Configuration,
+    list: &[u16],
+) -> Configuration
+    ensures { λ r. ⌜ ((c : Chart) → Ready (now (rest .entry)) counts (now (offsets .entry)) tree c → known (counts .transitions) (now (list .entry)) ≡ true → r ≡ after c (map (transitionAt c) (now (list .entry))) given) ⌝ }
+{
+    let before = given.active;
+    let values = given.variables;
+    let times = given.clocks;
+    let moves = moves_of(rest, offsets, list);
+    let active = active_after(tree, before, moves);
+    let variables = variables_after(rest, counts, offsets, list, values);
+    let clocks = clocks_after(rest, offsets, list, times);
+    Configuration {
+        active,
+        variables,
+        clocks,
+    }
+}

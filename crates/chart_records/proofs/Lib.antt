@@ -1,0 +1,7 @@
+-- Laws of the definitions of this crate.
+pub mod Entered
+pub mod Ranges
+pub mod Rules
+pub mod States
+pub mod Transitions
+pub mod Tree

@@ -1,0 +1,63 @@
+use mathlib.Core.Path.{sym}
+use native.Mathlib.Omega.{arith}
+use borrow.Author.Needs.{needs}
+use Prim.Native.Nat.{_-_}
+use Rattle.reading.specs.Reading.{byte, recorded}
+use Rattle.reading.specs.Places.{onward, reached}
+use Rattle.reading.proofs.Places.{answered}
+use Rattle.chart_records.specs.Chart.{state}
+use Rattle.reading.proofs.Skips.{Skipping, skipping-none, skipping-more, skipping-stop, skipping-all}
+use Rattle.chart_records.proofs.state.read_states.Statement.{statement}
+use Rattle.chart_records.proofs.state.read_states.Tie as tie
+
+abbrev Inv-loop : tie.InvT-loop
+Inv-loop s at counts place₀ i₀ place i = Skipping (recorded byte (state (counts .clocks) (counts .entries) (counts .exits))) (counts .states) (onward s at) (onward s place) i
+
+abbrev μ-loop : tie.MeasureT-loop
+μ-loop s at counts place₀ i₀ place i = counts .states - i
+
+loop-holds : tie.Need-loop-holds Inv-loop μ-loop
+loop-holds c = skipping-none _ _ _
+
+state-at-requires : tie.Need-state-at-requires Inv-loop μ-loop
+state-at-requires c κs = search needs
+
+enum-known-q : tie.Need-enum-known-q Inv-loop μ-loop
+enum-known-q c = search needs
+
+enum-told : tie.Need-enum-told Inv-loop μ-loop
+enum-told c = search needs
+
+returns : tie.Need-returns Inv-loop μ-loop
+returns c = let l = c .before .before in
+    rw (c .enum-told .given .1)
+    (sym (skipping-stop _ _ _ (l .before .before .before .loop .inv) (l .before .if1 .taken) (answered (reached _ tt) (l .state-at .ensures) (c .enum-told .given .1))))
+
+add-i : tie.Need-add-i Inv-loop μ-loop
+add-i c = omega arith
+
+loop-less : tie.Need-loop-less Inv-loop μ-loop
+loop-less c = omega arith
+
+loop-again : tie.Need-loop-again Inv-loop μ-loop
+loop-again c = let l = c .before .before .before in
+    skipping-more _ _ _ (l .before .before .before .loop .inv) (l .before .if1 .taken) (answered (reached _ tt) (l .state-at .ensures) (c .before .q .given .1))
+
+returns-2 : tie.Need-returns-2 Inv-loop μ-loop
+returns-2 c = sym (skipping-all _ _ _ (c .before .before .loop .inv) (c .if1 .left))
+
+pub read-states-spec : {M : Type 1} → statement M
+read-states-spec =
+    tie.close
+    (tie.spec
+    Inv-loop
+    μ-loop
+    loop-holds
+    state-at-requires
+    enum-known-q
+    enum-told
+    returns
+    add-i
+    loop-less
+    loop-again
+    returns-2)

@@ -1,0 +1,18 @@
+use mathlib.Core.Path.{ap, _∙_}
+use Rattle.chart_records.specs.Chart.{parentOf, home}
+use borrow.Author.Needs.{needs}
+use Rattle.chart_records.proofs.transition.home_of.Statement.{statement}
+use Rattle.chart_records.proofs.transition.home_of.Tie as tie
+
+source-of-requires : tie.Need-source-of-requires
+source-of-requires c κs = search needs
+
+parent-of-requires : tie.Need-parent-of-requires
+parent-of-requires c κs = search needs
+
+returns : tie.Need-returns
+unfolding home parentOf
+returns c = λ k L h. c .parent-of .ensures k (L .stated) ∙ ap (parentOf k) (c .before .source-of .ensures k _ L h)
+
+pub home-of-spec : {M : Type 1} → statement M
+home-of-spec = tie.close (tie.spec source-of-requires parent-of-requires returns)

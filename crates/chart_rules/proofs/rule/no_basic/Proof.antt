@@ -1,0 +1,51 @@
+use borrow.Author.Tests.{not-true, not-false}
+use native.Mathlib.Omega.{arith}
+use borrow.Author.Needs.{needs}
+use Prim.Native.Nat.{_-_}
+use Rattle.chart_records.specs.Rules.{noBasic, noBasicChild}
+use Rattle.chart_rules.proofs.Checks.{Tested, tested-none, tested-more, tested-stop, tested-all}
+use Rattle.chart_rules.proofs.rule.no_basic.Statement.{statement}
+use Rattle.chart_rules.proofs.rule.no_basic.Tie as tie
+
+abbrev Inv-loop : tie.InvT-loop
+Inv-loop rest counts s₀ s = Tested noBasicChild rest counts s
+
+abbrev μ-loop : tie.MeasureT-loop
+μ-loop rest counts s₀ s = counts .states - s
+
+loop-holds : tie.Need-loop-holds Inv-loop μ-loop
+loop-holds c = tested-none noBasicChild _ _
+
+no-basic-child-requires : tie.Need-no-basic-child-requires Inv-loop μ-loop
+no-basic-child-requires c κs = search needs
+
+returns : tie.Need-returns Inv-loop μ-loop
+unfolding noBasic
+returns c = tested-stop noBasicChild _ _ (c .before .before .before .before .loop .inv) (c .before .before .if1 .taken) (c .before .no-basic-child .ensures) (not-true _ (c .if2 .taken))
+
+add-s : tie.Need-add-s Inv-loop μ-loop
+add-s c = omega arith
+
+loop-less : tie.Need-loop-less Inv-loop μ-loop
+loop-less c = omega arith
+
+loop-again : tie.Need-loop-again Inv-loop μ-loop
+loop-again c = tested-more noBasicChild _ _ (c .before .before .before .before .loop .inv) (c .before .before .if1 .taken) (c .before .no-basic-child .ensures) (not-false _ (c .if2 .left))
+
+returns-2 : tie.Need-returns-2 Inv-loop μ-loop
+unfolding noBasic
+returns-2 c = tested-all noBasicChild _ _ (c .before .before .loop .inv) (c .if1 .left)
+
+pub no-basic-spec : {M : Type 1} → statement M
+no-basic-spec =
+    tie.close
+    (tie.spec
+    Inv-loop
+    μ-loop
+    loop-holds
+    no-basic-child-requires
+    returns
+    add-s
+    loop-less
+    loop-again
+    returns-2)
