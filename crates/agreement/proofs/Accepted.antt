@@ -5,16 +5,16 @@ use mathlib.Core.List.{List, map, List·Memᴰ as Mem}
 use Prim.Native.Nat.{ℕ}
 use borrow.Author.Tests.{not-true}
 use lib.ListN.{length}
-use Rattle.expr.specs.Lists.{any}
-use Rattle.expr.specs.Answer.{done}
-use Rattle.expr.proofs.Bools.{implies-at, implies-by}
-use Rattle.expr.proofs.Lists.{all-at, all-by, any-at, any-by, map-at, map-by}
-use Rattle.expr.proofs.Moves.{Known, known-at, known-by}
-use Rattle.expr.proofs.Answer.{unless-at, unless-by}
-use Rattle.network.specs.Network.{Edge, Network, urgentAt, edgeAt, ownerOf}
-use Rattle.network_machine.specs.Machine.{isConfiguration, boundsKept, activeEdge, urgent, after, tested, step, wait}
+use Rattle.lists.specs.Lists.{any}
+use Rattle.reading.specs.Answer.{done}
+use Rattle.lists.proofs.Bools.{implies-at, implies-by}
+use Rattle.lists.proofs.Lists.{all-at, all-by, any-at, any-by, map-at, map-by}
+use Rattle.steps.proofs.Moves.{Known, known-at, known-by}
+use Rattle.reading.proofs.Answer.{unless-at, unless-by, done-injective}
+use Rattle.network_records.specs.Network.{Edge, Network, urgentAt, edgeAt, ownerOf}
+use Rattle.network_moves.specs.Machine.{isConfiguration, boundsKept, activeEdge, urgent, after, tested, step, wait}
 use Rattle.agreement.specs.Agreement.{NetworkConfiguration, Accepts, isUrgent}
-use Rattle.expr.proofs.Sets.{AllowedSet, allowed-set-at, allowed-set-by}
+use Rattle.steps.proofs.Sets.{AllowedSet, allowed-set-at, allowed-set-by}
 
 abbrev pub Move : Network → NetworkConfiguration → List ℕ → Type 0
 Move n ν ms = AllowedSet (λ m. edgeAt n m .label) (λ m. ownerOf n (edgeAt n m)) (λ m. activeEdge n ν (edgeAt n m)) (length (n .edges)) (n .rendezvous) ms
@@ -31,10 +31,10 @@ pub record Accepted (n : Network) (ν : NetworkConfiguration) (ms : List ℕ) (�
 
 tested-at : (n : Network) (ν : NetworkConfiguration) {μ : NetworkConfiguration} → tested n ν ≡ done μ → (boundsKept n μ ≡ true) × (ν ≡ μ)
 unfolding tested
-tested-at n ν {μ} h = let u = unless-at 21 _ _ h in (subst (λ (x : NetworkConfiguration). boundsKept n x ≡ true) (same (u .1)) (u .0), same (u .1))
-  where
-    same : done ν ≡ done μ → ν ≡ μ
-    same e = cc
+tested-at n ν h =
+    let u = unless-at 21 _ _ h in
+    let same = done-injective (u .1) in
+    (subst (λ (x : NetworkConfiguration). boundsKept n x ≡ true) same (u .0), same)
 
 module _ (n : Network) where
   -- some member leaves an urgent location

@@ -10,18 +10,18 @@ use native.Mathlib.Decide.{decLt}
 use borrow.Author.Tests.{eqb-true, ne-eqb, ltb-true, not-false}
 use lib.Dec.{ltb}
 use lib.ListN.{length, getD}
-use Rattle.expr.specs.Lists.{has}
-use Rattle.expr.specs.Label.{Label, guardsHold}
-use Rattle.expr.proofs.Bools.{clash, decided, and-l, and-r, both, or-l, or-r, or-else, implies-at, implies-by, cond-yes, cond-no}
-use Rattle.expr.proofs.Lists.{all-below, below-all}
-use Rattle.expr.proofs.Bits.{has-zero, has-bits, has-bitsOf, has-high}
-use Rattle.chart.specs.Chart.{Chart, transitionAt, parentOf, basic, home}
-use Rattle.chart.specs.Tree.{under, sequentials}
-use Rattle.chart_machine.specs.Machine.{isActive, isTree, completed, activeTransition}
-use Rattle.chart.proofs.Rules.{Passed}
-use Rattle.chart.proofs.Ranges.{Ranges}
-use Rattle.network.specs.Network.{Edge}
-use Rattle.network_machine.specs.Machine.{flagsAgree, activeEdge}
+use Rattle.lists.specs.Lists.{has}
+use Rattle.labels.specs.Label.{Label, guardsHold}
+use Rattle.lists.proofs.Bools.{clash, decided, and-l, and-r, both, or-l, or-r, or-else, implies-at, implies-by, cond-yes, cond-no}
+use Rattle.lists.proofs.Below.{all-below, below-all}
+use Rattle.lists.proofs.Bits.{has-zero, has-bits, has-bitsOf, has-high}
+use Rattle.chart_records.specs.Chart.{Chart, transitionAt, parentOf, basic, home}
+use Rattle.chart_records.specs.Tree.{under, sequentials}
+use Rattle.chart_moves.specs.Machine.{isActive, isTree, completed, activeTransition}
+use Rattle.chart_records.proofs.Rules.{Passed}
+use Rattle.chart_records.proofs.Ranges.{Ranges}
+use Rattle.network_records.specs.Network.{Edge}
+use Rattle.network_moves.specs.Machine.{flagsAgree, activeEdge}
 use Rattle.flattening.specs.Flatten.{Place, idle, child, pre, post, samePlace, placeHome, hasExit, atExit, initialPlace, flagAt, onValues, alternatives, enterChannel, exitChannel, signalling, edge, ownEdge, departure, urgentPlace, flatten}
 use Rattle.flattening.specs.Picture.{pictured, picture}
 use Rattle.flattening.proofs.Automata.{regionAt, region-at, automaton-of-region}

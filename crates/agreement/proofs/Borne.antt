@@ -7,14 +7,14 @@ use mathlib.Core.List.{List·Memᴰ as Mem}
 use Prim.Native.Nat.{ℕ}
 use borrow.Author.Tests.{eqb-false, not-true}
 use lib.Dec.{eqb}
-use Rattle.expr.specs.Lists.{keep}
-use Rattle.expr.proofs.Lists.{Once, none-any, keep-at, keep-map, once-keep}
-use Rattle.expr.proofs.Moves.{distinct-by}
-use Rattle.expr.proofs.Pairwise.{map-once-on}
-use Rattle.chart.specs.Chart.{Chart, parentOf, home}
-use Rattle.chart_machine.proofs.Step.{configuration-tree}
-use Rattle.network.specs.Network.{Edge, locationAt, urgentAt, edgeAt, ownerOf}
-use Rattle.network_machine.specs.Machine.{activeEdge}
+use Rattle.lists.specs.Lists.{keep}
+use Rattle.lists.proofs.Once.{Once, once-keep, distinct-by}
+use Rattle.lists.proofs.Lists.{none-any, keep-at, keep-map}
+use Rattle.lists.proofs.Pairwise.{map-once-on}
+use Rattle.chart_records.specs.Chart.{Chart, parentOf, home}
+use Rattle.chart_moves.proofs.Step.{configuration-tree}
+use Rattle.network_records.specs.Network.{Edge, locationAt, urgentAt, edgeAt, ownerOf}
+use Rattle.network_moves.specs.Machine.{activeEdge}
 use Rattle.flattening.specs.Flatten.{Place, idle, child, pre, post, automaton, placeHome, edge, ownEdge, flatten}
 use Rattle.flattening.specs.Picture.{pictured, picture}
 use Rattle.flattening.proofs.Numbers.{IsPlace, urgent-of-place}

@@ -12,18 +12,20 @@ use borrow.Author.Tests.{eqb-true, eq-eqb}
 use lib.Dec.{eqb}
 use lib.IntN.{ℤ}
 use lib.ListN.{length}
-use Rattle.expr.specs.Lists.{keep, below, ascending}
-use Rattle.expr.specs.Answer.{done}
-use Rattle.expr.specs.Label.{Label, receives}
-use Rattle.expr.proofs.Bools.{and-l, and-r, both, or-l, or-r, or-cases, not-no}
-use Rattle.expr.proofs.Lists.{map-at, map-by, keep-none, mem-some, Once, ascending-once}
-use Rattle.expr.proofs.Moves.{Receives, receives-at, receives-by}
-use Rattle.chart.specs.Chart.{Chart}
-use Rattle.chart.specs.Tree.{sequentials}
-use Rattle.chart.proofs.Rules.{Passed}
-use Rattle.chart.proofs.Ranges.{Ranges}
-use Rattle.network.specs.Network.{Edge, Network, urgentAt, edgeAt, ownerOf}
-use Rattle.network_machine.specs.Machine.{isConfiguration, boundsKept, activeEdge, after, step}
+use Rattle.lists.specs.Lists.{keep, below, ascending}
+use Rattle.reading.specs.Answer.{done}
+use Rattle.labels.specs.Label.{Label, receives}
+use Rattle.lists.proofs.Bools.{and-l, and-r, both, or-l, or-r, or-cases, not-no}
+use Rattle.lists.proofs.Lists.{map-at, map-by, keep-none, mem-some}
+use Rattle.lists.proofs.Once.{Once}
+use Rattle.lists.proofs.Ascending.{ascending-once}
+use Rattle.labels.proofs.Labels.{Receives, receives-at, receives-by}
+use Rattle.chart_records.specs.Chart.{Chart}
+use Rattle.chart_records.specs.Tree.{sequentials}
+use Rattle.chart_records.proofs.Rules.{Passed}
+use Rattle.chart_records.proofs.Ranges.{Ranges}
+use Rattle.network_records.specs.Network.{Edge, Network, urgentAt, edgeAt, ownerOf}
+use Rattle.network_moves.specs.Machine.{isConfiguration, boundsKept, activeEdge, after, step}
 use Rattle.flattening.specs.Flatten.{Place, automaton, samePlace, sorted, signalling, edge, ownEdge, urgentPlace, flatten}
 use Rattle.flattening.proofs.Automata.{Region, automaton-lt, automaton-injective}
 use Rattle.flattening.proofs.Numbers.{same-place-by, urgent-of-place}
@@ -31,7 +33,7 @@ use Rattle.flattening.proofs.Edges.{Leaves, edges-by, edge-at-mem, mem-edge-at,
 use Rattle.flattening.proofs.Order.{edge-at-injective}
 use Rattle.agreement.specs.Agreement.{NetworkConfiguration, isUrgent, carried}
 use Rattle.agreement.proofs.Relation.{standing}
-use Rattle.expr.proofs.Sets.{passing-at, passing-by, passing-ascending, values-length, AllowedSet, Joint, Full}
+use Rattle.steps.proofs.Sets.{passing-at, passing-by, passing-ascending, values-length, AllowedSet, Joint, Full}
 use Rattle.agreement.proofs.Standing.{Fits, Takes, takes-by, Signals, signals-variables, signals-clocks, active-own, active-leaves, after-standing}
 use Rattle.agreement.proofs.Accepted.{Accepted, accepted-by, urgent-by}
 

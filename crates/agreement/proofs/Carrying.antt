@@ -10,20 +10,21 @@ use Prim.Native.Nat.{ℕ, _+_, _≤_, _<_}
 use native.Mathlib.Omega.{arith}
 use borrow.Author.Tests.{ne-eqb}
 use lib.ListN.{length}
-use Rattle.expr.specs.Lists.{keep, below, elem, ascending}
-use Rattle.expr.specs.Label.{Label}
-use Rattle.expr.specs.Moves.{allowed}
-use Rattle.expr.proofs.Bools.{and-l, and-r, both, not-yes}
-use Rattle.expr.proofs.Lists.{keep-at, keep-by, map-at, map-by, elem-at, elem-by, ascending-once}
-use Rattle.expr.proofs.Moves.{Sends}
-use Rattle.expr.proofs.Sets.{ascending-same, passing-at, passing-by, passing-ascending, Matched, matched-by, Corresponds, allowed-alike}
-use Rattle.chart.specs.Chart.{Chart, transitionAt, home}
-use Rattle.chart_machine.specs.Machine.{isTree, activeTransition}
-use Rattle.chart.proofs.Rules.{Passed}
-use Rattle.chart.proofs.Ranges.{Ranges}
-use Rattle.chart.proofs.TransitionRules.{channel-lt}
-use Rattle.network.specs.Network.{Edge, edgeAt, ownerOf}
-use Rattle.network_machine.specs.Machine.{activeEdge}
+use Rattle.lists.specs.Lists.{keep, below, elem, ascending}
+use Rattle.labels.specs.Label.{Label}
+use Rattle.steps.specs.Moves.{allowed}
+use Rattle.lists.proofs.Bools.{and-l, and-r, both, not-yes}
+use Rattle.lists.proofs.Lists.{keep-at, keep-by, map-at, map-by, elem-at, elem-by}
+use Rattle.lists.proofs.Ascending.{ascending-once, ascending-same}
+use Rattle.labels.proofs.Labels.{Sends}
+use Rattle.steps.proofs.Sets.{passing-at, passing-by, passing-ascending, Matched, matched-by, Corresponds, allowed-alike}
+use Rattle.chart_records.specs.Chart.{Chart, transitionAt, home}
+use Rattle.chart_moves.specs.Machine.{isTree, activeTransition}
+use Rattle.chart_records.proofs.Rules.{Passed}
+use Rattle.chart_records.proofs.Ranges.{Ranges}
+use Rattle.chart_rules.proofs.TransitionRules.{channel-lt}
+use Rattle.network_records.specs.Network.{Edge, edgeAt, ownerOf}
+use Rattle.network_moves.specs.Machine.{activeEdge}
 use Rattle.flattening.specs.Flatten.{child, edge, automaton, placeHome, flatten}
 use Rattle.flattening.specs.Picture.{picture}
 use Rattle.flattening.proofs.Automata.{automaton-injective}

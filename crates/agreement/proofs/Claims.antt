@@ -1,15 +1,15 @@
--- Steps 7 and 8: what is claimed of related configurations, for the network of a chart that passes.
+-- What is claimed of related configurations, for the network of a chart that passes.
 use mathlib.Core.Path.{_≡_}
 use mathlib.Core.Bool.{true, false}
 use mathlib.Core.List.{List, []}
 use Prim.Native.Nat.{ℕ, _+_, _<_}
-use Rattle.expr.specs.Label.{distinct}
-use Rattle.expr.specs.Answer.{done}
-use Rattle.chart.specs.Chart.{Chart}
-use Rattle.chart_machine.specs.Machine as chart
-use Rattle.chart.proofs.Rules.{Passed}
-use Rattle.chart.proofs.Ranges.{Ranges}
-use Rattle.network_machine.specs.Machine as network
+use Rattle.lists.specs.Lists.{distinct}
+use Rattle.reading.specs.Answer.{done}
+use Rattle.chart_records.specs.Chart.{Chart}
+use Rattle.chart_moves.specs.Machine as chart
+use Rattle.chart_records.proofs.Rules.{Passed}
+use Rattle.chart_records.proofs.Ranges.{Ranges}
+use Rattle.network_moves.specs.Machine as network
 use Rattle.flattening.specs.Flatten.{flatten}
 use Rattle.flattening.specs.Picture.{picture}
 use Rattle.agreement.specs.Agreement.{ChartConfiguration, NetworkConfiguration, Accepts, Alike, borne, carried, isUrgent, named}
@@ -37,7 +37,7 @@ abbrev pub NoUrgentMove : Type 0
 NoUrgentMove = (c : Chart) → Passed c → Ranges c → (σ : ChartConfiguration) → chart.isConfiguration c σ ≡ true
     → (ms : List ℕ) → Accepts (network.step (flatten c) (picture c σ) ms) → isUrgent (flatten c) ms ≡ false
 
--- 7, settled: a move of the network carries a chart step, which the chart accepts; then as many moves are owed as are named
+-- nothing owed: a move of the network carries a chart step, which the chart accepts; then as many moves are owed as are named
 abbrev pub MoveIsStep : Type 0
 MoveIsStep = (c : Chart) → Passed c → Ranges c → (σ : ChartConfiguration) → chart.isConfiguration c σ ≡ true
     → (ms : List ℕ) (ν : NetworkConfiguration) → network.step (flatten c) (picture c σ) ms ≡ done ν
@@ -62,7 +62,7 @@ abbrev pub WaitIsPicture : Type 0
 WaitIsPicture = (c : Chart) → Passed c → Ranges c → (σ τ : ChartConfiguration) (d : ℕ) → chart.wait c σ d ≡ done τ
     → (network.wait (flatten c) (picture c σ) d ≡ done (picture c τ)) × (chart.isConfiguration c τ ≡ true)
 
--- 7, owed: no wait; every move is urgent, carries nothing and pays one; and there is one
+-- something owed: no wait; every move is urgent, carries nothing and pays one; and there is one
 abbrev pub NoWaitOwed : Type 0
 NoWaitOwed = (c : Chart) → Passed c → Ranges c → (σ : ChartConfiguration) (ν : NetworkConfiguration) (k : ℕ) → Related c σ ν k → 0 < k
     → (d : ℕ) → Accepts (network.wait (flatten c) ν d) → ⊥

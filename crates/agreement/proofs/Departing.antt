@@ -10,20 +10,21 @@ use native.Mathlib.Decide.{ℕ-discrete}
 use borrow.Author.Tests.{eqb-true, eqb-false, eq-eqb, ne-eqb}
 use lib.Dec.{eqb}
 use lib.ListN.{length}
-use Rattle.expr.specs.Lists.{has, any, keep}
-use Rattle.expr.proofs.Bools.{clash, decided, fails, both, or-l, or-r, or-else, cond-yes, cond-no}
-use Rattle.expr.proofs.Lists.{Once, once-keep, any-by, any-at, any-none, keep-at, keep-by, map-at, map-by}
-use Rattle.expr.proofs.Pairwise.{map-once}
-use Rattle.chart.specs.Chart.{Chart, transitionAt, parentOf, basic, sequential, home}
-use Rattle.chart.specs.Tree.{under}
-use Rattle.chart_machine.specs.Machine.{isActive, isTree, activeTransition, after}
-use Rattle.chart.proofs.Tree.{size, states-by, Child, known-below, under-refl, under-down, under-transitive, child-under, sequential-not-basic}
-use Rattle.chart.proofs.Entered.{entered-top, entered-under}
-use Rattle.chart_machine.proofs.Active.{tree-at, completed-at, active-above, active-basic}
-use Rattle.chart.proofs.Rules.{Passed, kinds-left}
-use Rattle.chart.proofs.Ranges.{Ranges, kinds-of}
-use Rattle.chart_machine.proofs.Step.{Together, together-fires, together-tree}
-use Rattle.chart_machine.proofs.Moved.{source-not-above, destination-not-above, destination-was-source, stays-active, next-cases, next-below, next-home, next-entered}
+use Rattle.lists.specs.Lists.{any, keep}
+use Rattle.lists.proofs.Bools.{clash, decided, fails, both, or-l, or-r, or-else, cond-yes, cond-no}
+use Rattle.lists.proofs.Once.{Once, once-keep}
+use Rattle.lists.proofs.Lists.{any-by, any-at, any-none, keep-at, keep-by, map-at, map-by}
+use Rattle.lists.proofs.Pairwise.{map-once}
+use Rattle.chart_records.specs.Chart.{Chart, transitionAt, parentOf, basic, home}
+use Rattle.chart_records.specs.Tree.{under}
+use Rattle.chart_moves.specs.Machine.{isActive, isTree, activeTransition, after}
+use Rattle.chart_records.proofs.Tree.{size, states-by, Child, known-below, under-refl, under-down, under-transitive, child-under, sequential-not-basic}
+use Rattle.chart_records.proofs.Entered.{entered-top, entered-under}
+use Rattle.chart_moves.proofs.Active.{tree-at, completed-at, active-above, active-basic}
+use Rattle.chart_records.proofs.Rules.{Passed, kinds-left}
+use Rattle.chart_records.proofs.Ranges.{Ranges, kinds-of}
+use Rattle.chart_moves.proofs.Step.{Together, together-fires, together-tree}
+use Rattle.chart_moves.proofs.Moved.{source-not-above, destination-not-above, destination-was-source, stays-active, next-cases, next-below, next-entered}
 use Rattle.flattening.specs.Flatten.{Place, idle, child, pre, post, hasExit, hasEntry, arrival, departure, marksBelow}
 use Rattle.flattening.specs.Picture.{pictured}
 use Rattle.flattening.proofs.Automata.{Region}
@@ -149,7 +150,6 @@ module _ (c : Chart) (passed : Passed c) (ranges : Ranges c) where
         leaves = λ x. x;
         enters = λ x. or-else (hasExit c t) (hasEntry c t) k x;
         arrived = λ s u. next-below c passed ranges σ tree ts together t m s (known-below c (omega (arith, ranges .states-few)) _ s (ends c passed ranges t h .to .known) u) u;
-        home-active = next-home c passed ranges σ tree ts together t m;
         home-at = departed-at t m ∙ at (hasExit c t) (hasEntry c t) k;
         below-at = λ r g. ⊎-elim (λ u. from-source r g u) (λ u. ⊎-elim (λ v. from-source r g v) (λ e. inl e) (below-destination t r m g u));
       }

@@ -9,19 +9,19 @@ use native.Mathlib.Omega.{arith}
 use native.Mathlib.Decide.{ℕ-discrete}
 use borrow.Author.Tests.{eq-eqb, ne-eqb}
 use lib.Dec.{eqb}
-use Rattle.expr.specs.Lists.{has}
-use Rattle.expr.specs.Clocks.{keeps}
-use Rattle.expr.proofs.Bools.{clash, decided, fails, cond-yes, cond-no}
-use Rattle.expr.proofs.Rows.{ClockValues}
-use Rattle.chart.specs.Chart.{Chart, transitionAt, stateAt, parentOf, home}
-use Rattle.chart.specs.Tree.{entered}
-use Rattle.chart_machine.specs.Machine.{isTree}
-use Rattle.chart.proofs.Tree.{size}
-use Rattle.chart.proofs.Entered.{entered-top, entered-under, all-entered-at}
-use Rattle.chart.proofs.Rules.{Passed}
-use Rattle.chart.proofs.Ranges.{Ranges}
-use Rattle.chart.proofs.TransitionRules.{channel-lt}
-use Rattle.network.specs.Network.{Edge}
+use Rattle.lists.specs.Lists.{has}
+use Rattle.clocks.specs.Clocks.{keeps}
+use Rattle.lists.proofs.Bools.{clash, decided, fails, cond-yes, cond-no}
+use Rattle.clocks.proofs.Rows.{ClockValues}
+use Rattle.chart_records.specs.Chart.{Chart, transitionAt, stateAt, parentOf, home}
+use Rattle.chart_records.specs.Tree.{entered}
+use Rattle.chart_moves.specs.Machine.{isTree}
+use Rattle.chart_records.proofs.Tree.{size}
+use Rattle.chart_records.proofs.Entered.{entered-top, entered-under, all-entered-at}
+use Rattle.chart_records.proofs.Rules.{Passed}
+use Rattle.chart_records.proofs.Ranges.{Ranges}
+use Rattle.chart_rules.proofs.TransitionRules.{channel-lt}
+use Rattle.network_records.specs.Network.{Edge}
 use Rattle.flattening.specs.Flatten.{Pair, Place, idle, child, pre, post, placeHome, joined, boundsOf, hasEntry, markedChild, enterPairs, enterChannel, signalling, edge, ownEdge}
 use Rattle.flattening.proofs.Automata.{Region}
 use Rattle.flattening.proofs.Numbers.{PlaceOf}
@@ -31,7 +31,7 @@ use Rattle.flattening.proofs.Edges.{Leaves}
 use Rattle.flattening.proofs.Bounds.{keeps-pre}
 use Rattle.agreement.specs.Agreement.{ChartConfiguration}
 use Rattle.agreement.proofs.Relation.{Pending, entryPair, Concerns, IsPending, Placed}
-use Rattle.expr.proofs.Moves.{Receives}
+use Rattle.labels.proofs.Labels.{Receives}
 use Rattle.agreement.proofs.Broadcast.{Broadcast}
 use Rattle.agreement.proofs.Pending.{pending-ends, pending-entry, concerns-not-home, home-entering, home-place, pictured-home, pictured-left, pictured-entered, marked, marked-entered, placed-fits}
 use Rattle.agreement.proofs.Paying.{Without, without, owes-entry, placed-rest, Payment}

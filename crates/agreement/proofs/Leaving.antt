@@ -9,17 +9,17 @@ use native.Mathlib.Omega.{arith}
 use native.Mathlib.Decide.{ℕ-discrete}
 use borrow.Author.Tests.{eq-eqb, ne-eqb}
 use lib.Dec.{eqb}
-use Rattle.expr.specs.Clocks.{keeps}
-use Rattle.expr.proofs.Bools.{clash, decided, fails, cond-yes, cond-no}
-use Rattle.expr.proofs.Rows.{ClockValues, keeps-free}
-use Rattle.chart.specs.Chart.{Chart, transitionAt, parentOf, home}
-use Rattle.chart.specs.Tree.{under}
-use Rattle.chart_machine.specs.Machine.{isTree}
-use Rattle.chart.proofs.Tree.{size}
-use Rattle.chart.proofs.Rules.{Passed}
-use Rattle.chart.proofs.Ranges.{Ranges}
-use Rattle.chart.proofs.TransitionRules.{channel-lt}
-use Rattle.network.specs.Network.{Edge}
+use Rattle.clocks.specs.Clocks.{keeps}
+use Rattle.lists.proofs.Bools.{clash, decided, fails, cond-yes, cond-no}
+use Rattle.clocks.proofs.Rows.{ClockValues, keeps-free}
+use Rattle.chart_records.specs.Chart.{Chart, transitionAt, parentOf, home}
+use Rattle.chart_records.specs.Tree.{under}
+use Rattle.chart_moves.specs.Machine.{isTree}
+use Rattle.chart_records.proofs.Tree.{size}
+use Rattle.chart_records.proofs.Rules.{Passed}
+use Rattle.chart_records.proofs.Ranges.{Ranges}
+use Rattle.chart_rules.proofs.TransitionRules.{channel-lt}
+use Rattle.network_records.specs.Network.{Edge}
 use Rattle.flattening.specs.Flatten.{Pair, Place, idle, child, pre, post, placeHome, arrival, departure, boundsOf, hasExit, hasEntry, exitPairs, exitChannel, signalling, edge, ownEdge}
 use Rattle.flattening.proofs.Automata.{Region}
 use Rattle.flattening.proofs.Numbers.{PlaceOf}
@@ -29,7 +29,7 @@ use Rattle.flattening.proofs.Edges.{Leaves}
 use Rattle.flattening.proofs.Bounds.{departure-arrives}
 use Rattle.agreement.specs.Agreement.{ChartConfiguration}
 use Rattle.agreement.proofs.Relation.{Pending, owesAll, Concerns, IsPending, Placed}
-use Rattle.expr.proofs.Moves.{Receives}
+use Rattle.labels.proofs.Labels.{Receives}
 use Rattle.agreement.proofs.Broadcast.{Broadcast}
 use Rattle.agreement.proofs.Pending.{pending-ends, concerns-not-home, home-leaving, home-place, pictured-home, pictured-left, not-entered, placed-fits}
 use Rattle.agreement.proofs.Paying.{Without, without, owes-both, owes-exit, owes-entry, placed-rest, placed-next, Payment}
@@ -172,7 +172,6 @@ module _ (c : Chart) (passed : Passed c) (ranges : Ranges c) (σ : ChartConfigur
       leaves = λ e. clash e refl;
       enters = λ e. some;
       arrived = k .arrived;
-      home-active = k .home-active;
       home-at = left-home c f t ∙ cond-yes _ _ some;
       below-at = λ q z w. inl (left-idle q z w);
     });

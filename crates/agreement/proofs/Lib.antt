@@ -1,4 +1,4 @@
--- The proof of demand 3, a file for each step.
+-- The proof of demand 3; docs/AGREEMENT.md says what each file shows.
 pub mod Relation
 pub mod Claims
 pub mod Standing

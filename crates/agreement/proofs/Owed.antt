@@ -7,19 +7,19 @@ use Prim.Native.Nat.{ℕ, _+_, _<_}
 use native.Mathlib.Omega.{arith}
 use borrow.Author.Tests.{eqb-true, eq-eqb}
 use lib.Dec.{eqb}
-use Rattle.expr.specs.Answer.{done}
-use Rattle.expr.specs.Clocks.{keeps}
-use Rattle.expr.proofs.Bools.{clash, decided}
-use Rattle.expr.proofs.Lists.{all-at, all-by, any-by}
-use Rattle.expr.proofs.Rows.{ClockValues}
-use Rattle.chart.specs.Chart.{Chart, home}
-use Rattle.chart.specs.Tree.{sequentials}
-use Rattle.chart_machine.specs.Machine.{isTree}
-use Rattle.chart.proofs.Rules.{Passed}
-use Rattle.chart.proofs.Ranges.{Ranges}
-use Rattle.chart_machine.proofs.Step.{configuration-tree, configuration-clocks}
-use Rattle.network.specs.Network.{urgentAt, edgeAt}
-use Rattle.network_machine.specs.Machine.{boundsKept, urgent, step, wait}
+use Rattle.reading.specs.Answer.{done}
+use Rattle.clocks.specs.Clocks.{keeps}
+use Rattle.lists.proofs.Bools.{clash, decided}
+use Rattle.lists.proofs.Lists.{all-at, all-by, any-by}
+use Rattle.clocks.proofs.Rows.{ClockValues}
+use Rattle.chart_records.specs.Chart.{Chart, home}
+use Rattle.chart_records.specs.Tree.{sequentials}
+use Rattle.chart_moves.specs.Machine.{isTree}
+use Rattle.chart_records.proofs.Rules.{Passed}
+use Rattle.chart_records.proofs.Ranges.{Ranges}
+use Rattle.chart_moves.proofs.Step.{configuration-tree, configuration-clocks}
+use Rattle.network_records.specs.Network.{urgentAt, edgeAt}
+use Rattle.network_moves.specs.Machine.{boundsKept, urgent, step, wait}
 use Rattle.flattening.specs.Flatten.{Place, urgentPlace, boundsOf, flatten}
 use Rattle.flattening.proofs.Automata.{Region, sequentials-at, sequentials-by}
 use Rattle.flattening.proofs.Numbers.{urgent-of-place}

@@ -7,15 +7,15 @@ use mathlib.Core.List.{List, _∷_, List·Memᴰ as Mem, List·Memᴰ·head as h
 use Prim.Native.Nat.{ℕ, _+_, _<_}
 use native.Mathlib.Omega.{arith}
 use native.Mathlib.Decide.{ℕ-discrete}
-use Rattle.expr.specs.Clocks.{keeps}
-use Rattle.expr.proofs.Bools.{clash, decided}
-use Rattle.expr.proofs.Lists.{Once}
-use Rattle.chart.specs.Chart.{Chart, transitionAt, home}
-use Rattle.chart.specs.Tree.{under}
-use Rattle.chart_machine.specs.Machine.{isTree}
-use Rattle.chart.proofs.Tree.{size, under-refl, comparable}
-use Rattle.chart.proofs.Rules.{Passed}
-use Rattle.chart.proofs.Ranges.{Ranges}
+use Rattle.clocks.specs.Clocks.{keeps}
+use Rattle.lists.proofs.Bools.{clash, decided}
+use Rattle.lists.proofs.Once.{Once}
+use Rattle.chart_records.specs.Chart.{Chart, transitionAt, home}
+use Rattle.chart_records.specs.Tree.{under}
+use Rattle.chart_moves.specs.Machine.{isTree}
+use Rattle.chart_records.proofs.Tree.{size, under-refl, comparable}
+use Rattle.chart_records.proofs.Rules.{Passed}
+use Rattle.chart_records.proofs.Ranges.{Ranges}
 use Rattle.flattening.specs.Flatten.{Place, boundsOf, hasEntry}
 use Rattle.flattening.specs.Picture.{pictured}
 use Rattle.flattening.proofs.Automata.{Region}
@@ -85,7 +85,6 @@ module _ (c : Chart) (passed : Passed c) (ranges : Ranges c) (σ : ChartConfigur
     leaves = k .leaves;
     enters = k .enters;
     arrived = k .arrived;
-    home-active = k .home-active;
     home-at = unchanged r n d (home c (r .transition)) (ends c passed ranges (r .transition) (k .known) .region) (under-refl c _) ∙ k .home-at;
     below-at = λ x z w.
         let e = unchanged r n d x z (concerns-home c passed ranges σ tree f r k x (z .known) w) in

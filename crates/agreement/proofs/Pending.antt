@@ -9,18 +9,18 @@ use Prim.Native.Nat.{ℕ, _<_}
 use native.Mathlib.Omega.{arith}
 use borrow.Author.Tests.{eqb-true, eqb-false}
 use lib.Dec.{eqb}
-use Rattle.expr.specs.Lists.{any, has}
-use Rattle.expr.proofs.Bools.{clash, decided, fails, or-l, or-r, or-cases, cond-yes, cond-no}
-use Rattle.expr.proofs.Lists.{any-at, any-none}
-use Rattle.chart.specs.Chart.{Chart, transitionAt, home, basic, stateAt}
-use Rattle.chart.specs.Tree.{under, entered}
-use Rattle.chart_machine.specs.Machine.{isActive, isTree}
-use Rattle.chart.proofs.Tree.{size, Child, under-refl, under-transitive, under-le, child-under, child-above, sequential-not-basic}
-use Rattle.chart.proofs.Entered.{Entry, entered-top, entered-alone, entered-child, entered-marked, entered-under}
-use Rattle.chart_machine.proofs.Active.{tree-at, active-above}
-use Rattle.chart.proofs.Rules.{Passed}
-use Rattle.chart.proofs.Ranges.{Ranges}
-use Rattle.chart.proofs.TransitionRules.{entry-of}
+use Rattle.lists.specs.Lists.{any, has}
+use Rattle.lists.proofs.Bools.{clash, decided, fails, or-l, or-r, or-cases, cond-yes, cond-no}
+use Rattle.lists.proofs.Lists.{any-at, any-none}
+use Rattle.chart_records.specs.Chart.{Chart, transitionAt, home, basic, stateAt}
+use Rattle.chart_records.specs.Tree.{under, entered}
+use Rattle.chart_moves.specs.Machine.{isActive, isTree}
+use Rattle.chart_records.proofs.Tree.{size, Child, under-refl, under-transitive, under-le, child-under, child-above, sequential-not-basic}
+use Rattle.chart_records.proofs.Entered.{Entry, entered-top, entered-alone, entered-child, entered-marked, entered-under}
+use Rattle.chart_moves.proofs.Active.{tree-at, active-above}
+use Rattle.chart_records.proofs.Rules.{Passed}
+use Rattle.chart_records.proofs.Ranges.{Ranges}
+use Rattle.chart_rules.proofs.TransitionRules.{entry-of}
 use Rattle.flattening.specs.Flatten.{Place, idle, child, pre, post, hasEntry, urgentPlace, markedChild}
 use Rattle.flattening.specs.Picture.{pictured}
 use Rattle.flattening.proofs.Automata.{Region, marked-child}
@@ -51,13 +51,9 @@ module _ (c : Chart) (passed : Passed c) (ranges : Ranges c) (σ : ChartConfigur
   pub pending-entry : Entry c destination entry
   pending-entry = entry-of c passed ranges t (k .known)
 
-  -- below the destination just what is entered is active
-  pub active-below-destination : (s : ℕ) → s < size c → under c destination s ≡ true → isActive σ s ≡ entered c destination entry s
-  active-below-destination s h u = k .arrived s u
-
   destination-active : isActive σ destination ≡ true
   destination-active = let e = pending-ends .to in
-      active-below-destination destination (e .known) (under-refl c destination) ∙ entered-top c (passed .tree) (passed .entry-marks) destination (e .known) pending-entry
+      k .arrived destination (under-refl c destination) ∙ entered-top c (passed .tree) (passed .entry-marks) destination (e .known) pending-entry
 
   -- what a pending transition concerns lies below its home
   pub concerns-home : (q : ℕ) → q < size c → Concerns c p q → under c (home c t) q ≡ true
@@ -98,7 +94,7 @@ module _ (c : Chart) (passed : Passed c) (ranges : Ranges c) (σ : ChartConfigur
 
   pub pictured-left : (q : ℕ) → Region c q → Concerns c p q → entered c destination entry q ≡ false → pictured c σ q ≡ idle q
   pictured-left q g w n = pictured-idle c σ q (fails (isActive σ q) (λ a. ⊎-elim
-      (λ u. clash a (active-below-destination q (g .known) u ∙ n))
+      (λ u. clash a (k .arrived q u ∙ n))
       (λ u. let below : under c source q ≡ true = ⊎-elim (λ x. x) (λ x. clash x u) w in
       let e = pending-ends in
       let active = tree-at c σ tree in
@@ -125,7 +121,7 @@ module _ (c : Chart) (passed : Passed c) (ranges : Ranges c) (σ : ChartConfigur
 
     pub pictured-entered : pictured c σ q ≡ child (markedChild c q entry)
     pictured-entered = pictured-child c σ tree g (marked .0)
-        (active-below-destination _ (marked .0 .known) (entered-under c (passed .tree) (passed .entry-marks) destination (pending-ends .to .known) (markedChild c q entry) pending-entry marked-entered) ∙ marked-entered)
+        (k .arrived _ (entered-under c (passed .tree) (passed .entry-marks) destination (pending-ends .to .known) (markedChild c q entry) pending-entry marked-entered) ∙ marked-entered)
 
 -- all of them
 module _ (c : Chart) (passed : Passed c) (ranges : Ranges c) (σ : ChartConfiguration) (tree : isTree c σ ≡ true) (f : ℕ → Place) (ps : List Pending) (placed : Placed c σ f ps) where

@@ -10,25 +10,24 @@ use borrow.Author.Tests.{lt-ltb, ltb-true}
 use lib.Dec.{eqb, ltb, leb}
 use lib.IntN.{ℤ, pos}
 use lib.ListN.{length, getD, replicate}
-use Rattle.expr.specs.Lists.{below, bitsOf}
-use Rattle.expr.specs.Answer.{done, unless}
-use Rattle.expr.specs.Clocks.{later, inLimit, zeroPast}
-use Rattle.expr.specs.Moves.{zerosPast}
-use Rattle.expr.proofs.Bools.{parts, and-r, both, not-yes}
-use Rattle.expr.proofs.Lists.{getD-mem, mem-some, none-any, map-same}
-use Rattle.expr.proofs.Bits.{bits-same}
-use Rattle.expr.proofs.Answer.{unless-at, unless-by, done-injective}
-use Rattle.expr.proofs.Rows.{ClockValues, values-in-limit, zero-past-later}
-use Rattle.chart.specs.Chart.{Chart}
-use Rattle.chart.specs.Tree.{sequentials, entered}
-use Rattle.chart_machine.specs.Machine as chart
-use Rattle.chart.proofs.Entered.{entered-child, entered-marked}
-use Rattle.chart.proofs.Rules.{Passed}
-use Rattle.chart.proofs.Ranges.{Ranges}
-use Rattle.chart_machine.proofs.After.{start-active}
-use Rattle.chart_machine.proofs.Step.{configuration-tree, configuration-clocks, configuration-bounds, root-entry, start-tree, start-configuration}
-use Rattle.network.specs.Network.{initials}
-use Rattle.network_machine.specs.Machine as network
+use Rattle.lists.specs.Lists.{below, bitsOf}
+use Rattle.reading.specs.Answer.{done, unless}
+use Rattle.clocks.specs.Clocks.{later, inLimit, zeroPast, zerosPast}
+use Rattle.lists.proofs.Bools.{parts, and-r, both, not-yes}
+use Rattle.lists.proofs.Lists.{getD-mem, mem-some, none-any, map-same}
+use Rattle.lists.proofs.Bits.{bits-same}
+use Rattle.reading.proofs.Answer.{unless-at, unless-by, done-injective}
+use Rattle.clocks.proofs.Rows.{ClockValues, values-in-limit, zero-past-later}
+use Rattle.chart_records.specs.Chart.{Chart}
+use Rattle.chart_records.specs.Tree.{sequentials, entered}
+use Rattle.chart_moves.specs.Machine as chart
+use Rattle.chart_records.proofs.Entered.{entered-child, entered-marked}
+use Rattle.chart_records.proofs.Rules.{Passed}
+use Rattle.chart_records.proofs.Ranges.{Ranges}
+use Rattle.chart_moves.proofs.After.{start-active}
+use Rattle.chart_moves.proofs.Step.{configuration-tree, configuration-clocks, configuration-bounds, root-entry, start-tree, start-configuration}
+use Rattle.network_records.specs.Network.{initials}
+use Rattle.network_moves.specs.Machine as network
 use Rattle.flattening.specs.Flatten.{Place, idle, child, number, flagAt, atExit, initialPlace, markedChild, flatten}
 use Rattle.flattening.specs.Picture.{pictured, picture}
 use Rattle.flattening.proofs.Automata.{Region, regionAt, region-at, marked-child}

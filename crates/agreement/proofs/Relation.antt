@@ -1,4 +1,4 @@
--- Step 6: how a chart configuration and a network configuration are related while urgent moves are owed.
+-- How a chart configuration and a network configuration are related while urgent moves are owed.
 --
 -- After a chart step the chart is where it will be; the network still has to leave the sources (post) and to enter the
 -- destinations (pre), one urgent move for each. The transitions whose moves are still to come are pending.
@@ -9,14 +9,14 @@ use mathlib.Core.Logic.{_⊎_}
 use Prim.Native.Nat.{ℕ, _+_, _<_}
 use lib.Dec.{ltb}
 use lib.IntN.{ℤ}
-use lib.ListN.{length, getD}
-use Rattle.expr.specs.Lists.{below, bitsOf}
-use Rattle.expr.proofs.Lists.{Once}
-use Rattle.chart.specs.Chart.{Chart, Transition, transitionAt, home}
-use Rattle.chart.specs.Tree.{under, entered, sequentials}
-use Rattle.chart_machine.specs.Machine.{isActive, isConfiguration}
-use Rattle.chart.proofs.Tree.{Child}
-use Rattle.network_machine.specs.Machine.{boundsKept}
+use lib.ListN.{length}
+use Rattle.lists.specs.Lists.{below, bitsOf}
+use Rattle.chart_records.specs.Chart.{Chart, transitionAt, home}
+use Rattle.lists.proofs.Once.{Once}
+use Rattle.chart_records.specs.Tree.{under, entered, sequentials}
+use Rattle.chart_moves.specs.Machine.{isActive, isConfiguration}
+use Rattle.chart_records.proofs.Tree.{Child}
+use Rattle.network_moves.specs.Machine.{boundsKept}
 use Rattle.flattening.specs.Flatten.{Place, idle, child, pre, post, Pair, number, flagAt, hasExit, hasEntry, marksBelow, flatten}
 use Rattle.flattening.specs.Picture.{pictured}
 use Rattle.flattening.proofs.Automata.{Region, regionAt}
@@ -66,7 +66,6 @@ pub record IsPending (c : Chart) (σ : ChartConfiguration) (f : ℕ → Place) (
   pub enters : p .leaving ≡ false → hasEntry c (p .transition) ≡ true
   -- the chart is where the transition leads
   pub arrived : (s : ℕ) → under c (transitionAt c (p .transition) .destination) s ≡ true → isActive σ s ≡ entered c (transitionAt c (p .transition) .destination) (transitionAt c (p .transition) .entry) s
-  pub home-active : isActive σ (home c (p .transition)) ≡ true
   -- where the automata stand
   pub home-at : f (home c (p .transition)) ≡ cond (p .leaving) (post (p .transition)) (pre (entryPair c (p .transition)))
   pub below-at : (r : ℕ) → Region c r → Concerns c p r → (f r ≡ idle r) ⊎ Hearing c f p r

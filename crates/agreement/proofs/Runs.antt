@@ -1,4 +1,4 @@
--- Step 8: demand 3 from the claims of steps 6 and 7, by induction over the list of calls (`demand3-by`). What holds after
+-- Demand 3 from the claims, by induction over the list of calls (`demand3-by`). What holds after
 -- every call is `Invariant`; that a chart list is read from a network list is `Reaches`.
 use mathlib.Core.Path.{_≡_, refl, sym, ap, _∙_, subst, subst₂}
 use mathlib.Core.Bool.{true, false}
@@ -6,16 +6,16 @@ use mathlib.Core.List.{List, [], _∷_, _++_, append-assoc, append-nil}
 use Prim.Native.Nat.{ℕ, zero, suc, _+_, _-_, _<_}
 use native.Mathlib.Omega.{arith}
 use native.Mathlib.Decide.{ℕ-discrete}
-use Rattle.expr.specs.Answer.{Answer, done, refused, _>>=_}
-use Rattle.expr.proofs.Bools.{clash}
-use Rattle.expr.proofs.Answer.{refused-not, done-injective}
-use Rattle.chart.specs.Chart.{Chart}
-use Rattle.chart.specs.Rules.{chartOf}
-use Rattle.chart_machine.specs.Machine as chart
-use Rattle.chart.proofs.Rules.{Passed}
-use Rattle.chart.proofs.Ranges.{Ranges, chart-at}
-use Rattle.network.specs.Network.{Network, networkOf}
-use Rattle.network_machine.specs.Machine as network
+use Rattle.reading.specs.Answer.{Answer, done, refused, _>>=_}
+use Rattle.lists.proofs.Bools.{clash}
+use Rattle.reading.proofs.Answer.{refused-not, done-injective}
+use Rattle.chart_records.specs.Chart.{Chart}
+use Rattle.chart_records.specs.Rules.{chartOf}
+use Rattle.chart_moves.specs.Machine as chart
+use Rattle.chart_records.proofs.Rules.{Passed}
+use Rattle.chart_records.proofs.Ranges.{Ranges, chart-at}
+use Rattle.network_records.specs.Network.{Network, networkOf}
+use Rattle.network_moves.specs.Machine as network
 use Rattle.flattening.specs.Flatten.{flatten}
 use Rattle.flattening.specs.Picture.{picture}
 use Rattle.flattening.proofs.Printable.{flattened-at}

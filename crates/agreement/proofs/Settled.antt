@@ -1,4 +1,4 @@
--- Step 7 with nothing owed: a move of the network carries a step that the chart accepts (`move-is-step`), a step of the chart is
+-- With nothing owed: a move of the network carries a step that the chart accepts (`move-is-step`), a step of the chart is
 -- carried by a move (`step-is-move`), and by one only (`one-move`).
 use mathlib.Core.Path.{_≡_, refl, sym, ap, ap₂, _∙_, subst}
 use mathlib.Core.Bool.{true}
@@ -7,27 +7,28 @@ use mathlib.Core.List.{List, [], map, map-map, List·Memᴰ as Mem, Memᴰ·cast
 use Prim.Native.Nat.{ℕ, _<_}
 use native.Mathlib.Omega.{arith}
 use lib.ListN.{length}
-use Rattle.expr.specs.Lists.{all, ascending}
-use Rattle.expr.specs.Answer.{done}
-use Rattle.expr.specs.Label.{Label}
-use Rattle.expr.specs.Clocks.{keeps}
-use Rattle.expr.specs.Moves.{known, allowed, variablesAfter, clocksAfter}
-use Rattle.expr.proofs.Bools.{clash, same}
-use Rattle.expr.proofs.Lists.{all-at, all-by, map-at, map-by, ascending-once}
-use Rattle.expr.proofs.Labels.{receiver-assigns-nothing}
-use Rattle.expr.proofs.Rows.{keeps-clocks-after}
-use Rattle.expr.proofs.Sets.{ascending-same, Matched, matched-length, allowed-set-at, allowed-set-by, OneAssigns, one-assigns, variables-alike, clocks-alike}
-use Rattle.chart.specs.Chart.{Chart, Transition, transitionAt, home}
-use Rattle.chart.specs.Tree.{sequentials}
-use Rattle.chart_machine.specs.Machine as chart
-use Rattle.chart.proofs.Rules.{Passed}
-use Rattle.chart.proofs.Ranges.{Ranges}
-use Rattle.chart_machine.proofs.After.{after-clocks}
-use Rattle.chart_machine.proofs.Step.{Together, Stepped, stepped-together, step-at, step-by, active-source, allowed-apart, configuration-tree, configuration-clocks, configuration-bounds}
-use Rattle.chart.proofs.TransitionRules.{transition-mem}
-use Rattle.chart_machine.proofs.Moved.{next-configured}
-use Rattle.network.specs.Network.{Edge, edgeAt, ownerOf}
-use Rattle.network_machine.specs.Machine as network
+use Rattle.lists.specs.Lists.{all, ascending}
+use Rattle.reading.specs.Answer.{done}
+use Rattle.labels.specs.Label.{Label}
+use Rattle.clocks.specs.Clocks.{keeps}
+use Rattle.steps.specs.Moves.{allowed, variablesAfter, clocksAfter}
+use Rattle.lists.proofs.Bools.{clash, same}
+use Rattle.lists.proofs.Lists.{all-at, all-by, map-at, map-by}
+use Rattle.lists.proofs.Ascending.{ascending-once, ascending-same}
+use Rattle.labels.proofs.Labels.{receiver-assigns-nothing}
+use Rattle.steps.proofs.Kept.{keeps-clocks-after}
+use Rattle.steps.proofs.Sets.{Matched, matched-length, allowed-set-at, allowed-set-by, OneAssigns, one-assigns, variables-alike, clocks-alike}
+use Rattle.chart_records.specs.Chart.{Chart, Transition, transitionAt, home}
+use Rattle.chart_records.specs.Tree.{sequentials}
+use Rattle.chart_moves.specs.Machine as chart
+use Rattle.chart_records.proofs.Rules.{Passed}
+use Rattle.chart_records.proofs.Ranges.{Ranges}
+use Rattle.chart_moves.proofs.After.{after-clocks}
+use Rattle.chart_moves.proofs.Step.{Together, Stepped, stepped-together, step-at, step-by, active-source, allowed-apart, configuration-tree, configuration-clocks, configuration-bounds}
+use Rattle.chart_rules.proofs.TransitionRules.{transition-mem}
+use Rattle.chart_moves.proofs.Moved.{next-configured}
+use Rattle.network_records.specs.Network.{Edge, edgeAt, ownerOf}
+use Rattle.network_moves.specs.Machine as network
 use Rattle.flattening.specs.Flatten.{Place, edge, automaton, departure, boundsOf, flatten}
 use Rattle.flattening.specs.Picture.{pictured, picture}
 use Rattle.flattening.proofs.Automata.{Region, sequentials-by}

@@ -13,22 +13,23 @@ use lib.Dec.{ltb, eqb}
 use lib.IntN.{ℤ}
 use lib.ListN.{length, getD, set, length-map, length-drop}
 use lib.Seq.{ext-getD, getD-drop}
-use Rattle.expr.specs.Lists.{has, all, any, below, implies, bitsOf}
-use Rattle.expr.specs.Label.{Label, guardsHold}
-use Rattle.expr.specs.Clocks.{keeps, zeroPast, inLimit}
-use Rattle.expr.specs.Moves.{variablesAfter, clocksAfter, zerosPast}
-use Rattle.expr.proofs.Bools.{parts, and-l, both, same, decided, cond-yes, cond-no}
-use Rattle.expr.proofs.Lists.{all-by, below-all, any-at, any-none, mem-getD, getD-mapped, length-below}
-use Rattle.expr.proofs.Labels.{variables-stay, clocks-stay}
-use Rattle.chart.specs.Chart.{Chart}
-use Rattle.chart.specs.Tree.{sequentials}
-use Rattle.chart_machine.specs.Machine.{isConfiguration as isChartConfiguration}
-use Rattle.chart.proofs.Rules.{Passed}
-use Rattle.network.specs.Network.{Edge, locationAt, urgentAt, ownerOf}
-use Rattle.network_machine.specs.Machine.{place, boundsKept, isConfiguration, flagsAgree, activeEdge, urgent, overwrite, move, write, after}
+use Rattle.lists.specs.Lists.{has, all, any, below, implies, bitsOf}
+use Rattle.labels.specs.Label.{Label, guardsHold}
+use Rattle.clocks.specs.Clocks.{keeps, zeroPast, inLimit, zerosPast}
+use Rattle.steps.specs.Moves.{variablesAfter, clocksAfter}
+use Rattle.lists.proofs.Bools.{parts, and-l, both, same, decided, cond-yes, cond-no}
+use Rattle.lists.proofs.Lists.{all-by, any-at, any-none, mem-getD}
+use Rattle.lists.proofs.Below.{below-all, getD-mapped, length-below}
+use Rattle.steps.proofs.Kept.{variables-stay, clocks-stay}
+use Rattle.chart_records.specs.Chart.{Chart}
+use Rattle.chart_records.specs.Tree.{sequentials}
+use Rattle.chart_moves.specs.Machine.{isConfiguration as isChartConfiguration}
+use Rattle.chart_records.proofs.Rules.{Passed}
+use Rattle.network_records.specs.Network.{Edge, locationAt, urgentAt, ownerOf}
+use Rattle.network_moves.specs.Machine.{place, boundsKept, isConfiguration, flagsAgree, activeEdge, urgent, overwrite, move, write, after}
 use Rattle.flattening.specs.Flatten.{Place, samePlace, number, automaton, placeHome, boundsOf, flagAt, writtenBy, valuesBy, signalling, edge, ownEdge, urgentPlace, flatten}
 use Rattle.flattening.specs.Picture.{pictured, picture}
-use Rattle.network_machine.proofs.Moving.{move-length, move-other, move-to, write-length, write-other, write-to}
+use Rattle.network_moves.proofs.Moving.{move-length, move-other, move-to, write-length, write-other, write-to}
 use Rattle.flattening.proofs.Flags.{write-flags, write-again}
 use Rattle.flattening.proofs.Automata.{all-automata, any-automata, Region, regionAt, region-at, automaton-lt, region-of-automaton, automaton-of-region, automaton-injective}
 use Rattle.flattening.proofs.Numbers.{IsPlace, PlaceOf, same-place-at, same-place-by, number-lt, number-injective, automaton-of-place, urgent-of-place, bounds-of-place, locations-length}

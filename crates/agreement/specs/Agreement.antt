@@ -4,16 +4,15 @@ use mathlib.Core.Bool.{Bool, true, false, cond, not}
 use mathlib.Core.List.{List, [], _∷_, _++_, map}
 use mathlib.Core.Path.{_≡_}
 use lib.Dec.{eqb}
-use Rattle.expr.specs.Lists.{any, keep}
-use Rattle.expr.specs.Label.{distinct}
-use Rattle.expr.specs.Answer.{Answer, done, refused}
-use Rattle.chart.specs.Chart.{Chart}
-use Rattle.chart.specs.Rules.{chartOf}
-use Rattle.chart_machine.specs.Machine as chart
-use Rattle.chart_machine.specs.declared.configuration.Configuration as chart-type
-use Rattle.network.specs.Network.{Network, urgentAt, edgeAt, networkOf}
-use Rattle.network_machine.specs.Machine as network
-use Rattle.network_machine.specs.declared.configuration.Configuration as network-type
+use Rattle.lists.specs.Lists.{any, keep, distinct}
+use Rattle.reading.specs.Answer.{Answer, done, refused}
+use Rattle.chart_records.specs.Chart.{Chart}
+use Rattle.chart_records.specs.Rules.{chartOf}
+use Rattle.chart_moves.specs.Machine as chart
+use Rattle.chart_moves.specs.declared.configuration.Configuration as chart-type
+use Rattle.network_records.specs.Network.{Network, urgentAt, edgeAt, networkOf}
+use Rattle.network_moves.specs.Machine as network
+use Rattle.network_moves.specs.declared.configuration.Configuration as network-type
 use Rattle.flattening.specs.Flatten.{sorted, hasExit, hasEntry}
 use Rattle.flattening.specs.Picture.{picture}
 use Rattle.flattening.specs.File.{flattenOf}

@@ -1,13 +1,6 @@
 // Flattens the chart on standard input: writes the bytes of its network, or the number of the refusal and a line feed.
 use flattener::operation::Flattened;
 
-// The network, of so many bytes. A length that flattening answers is never past the buffer.
-fn write_network(buffer: &[u8], length: usize) {
-    if length <= buffer.len() {
-        io::write_all(1, &buffer[0..length]);
-    }
-}
-
 fn write_refusal(k: u8) {
     io::print_decimal(1, k as u64);
     io::write_all(1, b"\n");
@@ -18,7 +11,9 @@ fn answer(file: &[u8]) {
     let mut buffer = io::large_buffer();
     let flattened = flattener::operation::flatten(file, &mut buffer);
     match flattened {
-        Flattened::Length(length) => write_network(&buffer, length),
+        Flattened::Length(length) => {
+            io::write_all(1, &buffer[0..length]);
+        }
         Flattened::Refused(k) => write_refusal(k),
     }
 }

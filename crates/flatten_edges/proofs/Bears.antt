@@ -1,6 +1,7 @@
 -- Laws of the edges that bear transitions.
 use mathlib.Core.Path.{_≡_, refl, sym, ap, _∙_, subst}
 use mathlib.Core.Bool.{Bool, true, false, cond, not, _&&_}
+use mathlib.Core.Logic.{_≢_}
 use mathlib.Core.List.{List, [], _∷_, map, List·Memᴰ as Mem}
 use Prim.Native.Nat.{ℕ, _+_, _^_, _≤_, _<_}
 use native.Mathlib.Omega.{arith}
@@ -8,39 +9,37 @@ use native.Mathlib.Decide.{decLt}
 use borrow.Author.Tests.{eq-eqb, ne-eqb, lt-ltb}
 use lib.Bits as Words
 use lib.Dec.{eqb, ltb}
-use lib.ListN.{length, getD, take, length-map}
-use lib.Seq.{getD-take}
-use Rattle.expr.specs.Lists.{has, concat}
-use Rattle.expr.specs.Label.{Label}
-use Rattle.expr.proofs.Bools.{clash, not-yes}
-use Rattle.expr.proofs.Lists.{getD-mem}
-use Rattle.expr.proofs.Bits.{has-ext, has-and, has-bits, has-high}
-use Rattle.chart.specs.Chart.{Chart, transitionAt, basic}
-use Rattle.chart.specs.Tree.{sequentials}
-use Rattle.chart.specs.Table.{Tabled}
-use Rattle.chart.specs.Laid.{Laid}
-use Rattle.chart.specs.declared.header.Counts.{Counts}
-use Rattle.chart.proofs.Tree.{size}
-use Rattle.chart.proofs.Rules.{Passed}
-use Rattle.chart.proofs.Ranges.{Ranges}
-use Rattle.network.specs.Network.{Edge}
-use Rattle.flattening.specs.Flatten.{Place, child, hasExit, allPlaces, number, atExit, initialPlace, choicesFrom, alternatives, onValues, edge, bearing}
+use lib.ListN.{length, getD, set, take, replicate, length-map, length-set, length-replicate}
+use lib.Seq.{getD-take, getD-set-same, getD-set-other}
+use Rattle.lists.specs.Lists.{has, concat}
+use Rattle.labels.specs.Label.{Label}
+use Rattle.lists.proofs.Bools.{clash, not-yes}
+use Rattle.lists.proofs.Lists.{getD-mem}
+use Rattle.lists.proofs.Bits.{has-ext, has-and, has-bits, has-high}
+use Rattle.chart_records.specs.Chart.{Chart, transitionAt, basic}
+use Rattle.chart_records.specs.Tree.{sequentials}
+use Rattle.chart_records.specs.Laid.{Laid}
+use Rattle.chart_records.specs.declared.header.Counts.{Counts}
+use Rattle.chart_records.proofs.Tree.{size}
+use Rattle.chart_records.proofs.Rules.{Passed}
+use Rattle.chart_records.proofs.Ranges.{Ranges}
+use Rattle.network_records.specs.Network.{Edge}
+use Rattle.flattening.specs.Flatten.{Place, child, hasExit, allPlaces, number, atExit, initialPlace, alternatives, onValues, edge, bearing}
 use Rattle.flattening.proofs.Numbers.{all-places-by}
 use Rattle.flattening.proofs.Arrivals.{ends, source-composite, exit-lt, source-place}
 use Rattle.flattening.proofs.Printable.{alternative-lt}
-use Rattle.flatten_tables.specs.Tables.{Chartered, Automated}
-use Rattle.flatten_tables.specs.Walking.{Tabulated, Spread}
-use Rattle.flatten_tables.specs.declared.walk.Tables.{Tables}
-use Rattle.flatten_tables.proofs.Chartered.{passed-of, ranges-of}
-use Rattle.flatten_edges.specs.Choosing.{Held}
+use Rattle.flatten_places.specs.Walking.{Tabulated, Spread}
+use Rattle.flatten_places.specs.declared.walk.Tables.{Tables}
+use Rattle.flatten_places.proofs.Chartered.{passed-of, ranges-of}
+use Rattle.flatten_alternatives.specs.Choosing.{choices, Kept}
+use Rattle.flatten_alternatives.proofs.Keeping.{kept-at, kept-over}
 use Rattle.flatten_edges.specs.Gathering.{headOf}
 use Rattle.flatten_edges.specs.Adding.{Adds}
 use Rattle.flatten_edges.specs.Ends.{Flagged, Joins, Signalled, startOff}
-use Rattle.flatten_edges.specs.Bearing.{BearsEach}
+use Rattle.flatten_edges.specs.Bearing.{BearsEach, Recalled, Recalls}
 use Rattle.flatten_edges.specs.declared.flag.Ends.{Ends}
 use Rattle.flatten_edges.specs.declared.flag.Signals.{Signals}
 use Rattle.flatten_edges.specs.declared.head.Head.{Head}
-use Rattle.flatten_edges.specs.declared.alternative.Sets.{Sets}
 use Rattle.flatten_edges.proofs.Gathers.{walk-more, walk-all, adds-over}
 use Rattle.flatten_edges.proofs.Walks.{flagged-of}
 
@@ -90,7 +89,7 @@ module _ (c : Chart) (p q : Place) (l : Label) (xs : List ℕ) (e : Ends) (s : S
   set-all k {b} {g} {n} {m} W z = subst (Adds b n g m) (map-ones (λ x. edge c p q transition exit x l) xs) (walk-all (setEdge c p q l transition exit) xs k W (omega (arith, B .counted)))
 
 module _ (c : Chart) (t : Tables) (exits homes : List ℕ) (T : Tabulated c t) (S : Spread c exits homes) (counts : Counts) (rest offsets : List ℕ) (L : Laid rest counts offsets c)
-    (u : ℕ) (h : u < length (c .transitions)) (i j : ℕ) (q : Place) (f : i ≡ number c (child (transitionAt c u .source))) (g : j ≡ number c q) (m : Mem q (allPlaces c)) {e : Ends} {s : Signals}
+    (u : ℕ) (h : u < length (c .transitions)) (home : ℕ) (o : transitionAt c u .source ≡ home) (i j : ℕ) (q : Place) (f : i ≡ number c (child home)) (g : j ≡ number c q) (m : Mem q (allPlaces c)) {e : Ends} {s : Signals}
     (J : (c : Chart) (p q : Place) → Flagged c exits homes (t .initials) → Mem p (allPlaces c) → Mem q (allPlaces c) → i ≡ number c p → j ≡ number c q → Joins c p q e)
     (G : (c : Chart) (n : Counts) → Laid rest n offsets c → u < n .transitions → Signalled (transitionAt c u .label) s)
     (exit : ℕ) (x : exit ≡ getD (t .transitions .exits) u 0) where
@@ -101,7 +100,7 @@ module _ (c : Chart) (t : Tables) (exits homes : List ℕ) (T : Tabulated c t) (
   ranges = ranges-of (T .chart)
 
   joins : Joins c (child (transitionAt c u .source)) q e
-  joins = J c _ q (flagged-of c t exits homes T S) (all-places-by c (source-place c passed ranges u h .is-place)) m f g
+  joins = J c _ q (flagged-of c t exits homes T S) (all-places-by c (source-place c passed ranges u h .is-place)) m (f ∙ ap (λ (x : ℕ). number c (child x)) (sym o)) g
 
   signals : Signalled (transitionAt c u .label) s
   signals = G c counts L (omega (arith, L .transitions))
@@ -125,37 +124,68 @@ module _ (c : Chart) (t : Tables) (exits homes : List ℕ) (T : Tabulated c t) (
     unfolding bearing
     all-sets = rw has-exit (ap (λ (y : ℕ). map (λ x. edge c (child (transitionAt c u .source)) q u y x (transitionAt c u .label)) (alternatives c (transitionAt c u .source) (transitionAt c u .exit))) (sym exit-is))
 
-    module _ {source : ℕ} {sets : Sets} (from : source ≡ getD (t .transitions .sources) u 0)
-        (A : (c : Chart) → Chartered c → Tabled c (t .tree) → Automated c (t .automata) → source < size c → basic c source ≡ false → Held sets (choicesFrom (size c) c exit source)) where
-      source-is : source ≡ transitionAt c u .source
-      source-is = from ∙ T .transitions .source u h
+    module _ {source : ℕ} (from : source ≡ getD (t .transitions .sources) u 0) {sets listed sets' listed' : List ℕ} {size : ℕ}
+        (A : Recalls (t .tree) (t .automata) source exit sets listed sets' listed' size) (R : Recalled c home sets listed) where
+      source-is : source ≡ home
+      source-is = from ∙ T .transitions .source u h ∙ o
 
-      held : Held sets (choicesFrom (size c) c (transitionAt c u .exit) (transitionAt c u .source))
-      held = subst (λ (y : ℕ). Held sets (choicesFrom (size c) c y (transitionAt c u .source))) exit-is (subst (λ (y : ℕ). Held sets (choicesFrom (size c) c exit y)) source-is
-          (A c (T .chart) (T .tree) (T .automata) (omega (arith, source-is, ends c passed ranges u h .from .known)) (ap (basic c) source-is ∙ source-composite c passed ranges u h has-exit)))
+      recalls : Kept sets' size (choices c exit source) × Recalled c source sets' listed'
+      recalls = A c (T .chart) (T .tree) (T .automata) (omega (arith, source-is, o, ends c passed ranges u h .from .known))
+          (ap (basic c) (source-is ∙ sym o) ∙ source-composite c passed ranges u h has-exit) (λ z. some z)
+          (subst (λ (y : ℕ). Recalled c y sets listed) (sym source-is) R)
+
+      kept : Kept sets' size (choices c (transitionAt c u .exit) (transitionAt c u .source))
+      kept = subst (λ (y : ℕ). Kept sets' size (choices c y (transitionAt c u .source))) exit-is
+          (subst (λ (y : ℕ). Kept sets' size (choices c exit y)) (source-is ∙ sym o) (recalls .0))
+
+      recalled : Recalled c home sets' listed'
+      recalled = subst (λ (y : ℕ). Recalled c y sets' listed') source-is (recalls .1)
 
       -- too many sets
-      pub bear-over : (b : List ℕ) (n : ℕ) → sets .over ≡ true → Adds b n b 1025 (bearing c q u)
+      pub bear-over : (b : List ℕ) (n : ℕ) → 1024 < size → Adds b n b 1025 (bearing c q u) × Recalled c home sets' listed'
       unfolding alternatives
-      bear-over b n o = subst (Adds b n b 1025) (sym all-sets) (adds-over b n _ (simp length-map (held .more o)))
+      bear-over b n z = (subst (Adds b n b 1025) (sym all-sets) (adds-over b n _ (simp length-map (kept-over kept z .1))), recalled)
 
       -- an edge for each set
-      pub bear-some : {b k : List ℕ} {n d off : ℕ} → sets .over ≡ false
+      pub bear-some : {b k : List ℕ} {n d off : ℕ} → size ≤ 1024
           → ((c : Chart) (homes : List ℕ) → Flagged c exits homes (t .initials) → t .automata .count ≡ length (sequentials c) → exit < 8 → off ≡ startOff c exit)
-          → ((c : Chart) (p q : Place) (l : Label) (xs : List ℕ) → BearsEach c p q l xs e s exit off (sets .items) (sets .count) → Adds b n k d (map (λ x. edge c p q u exit x l) xs))
-          → Adds b n k d (bearing c q u)
+          → ((c : Chart) (p q : Place) (l : Label) (xs : List ℕ) → BearsEach c p q l xs e s exit off sets' size → Adds b n k d (map (λ x. edge c p q u exit x l) xs))
+          → Adds b n k d (bearing c q u) × Recalled c home sets' listed'
       unfolding alternatives
-      bear-some {b} {k} {n} {d} {off} o O B =
-          let w = held .whole o in
-          let known : exit < 8 = omega (arith, exit-is, exit-lt c passed ranges u h has-exit, ranges .exits-few) in
-          subst (Adds b n k d) (sym all-sets) (B c _ q _ _ (record {
-            joins = joins;
-            signals = signals;
-            exit-known = known;
-            off-is = O c homes (flagged-of c t exits homes T S) (T .automata .count) known;
-            automata-few = passed .at-most;
-            few = omega (arith, w .0, w .1);
-            counted = w .0;
-            stand = w .2;
-            small = λ y k. alternative-lt c passed ranges u h has-exit k;
-          }))
+      bear-some {b} {k} {n} {d} {off} z O B =
+          let w = kept-at kept z in
+          let known : exit < 8 = omega (arith, exit-is, exit-lt c passed ranges u h has-exit, ranges .exits-few) in (
+            subst (Adds b n k d) (sym all-sets) (B c _ q _ _ (record {
+              joins = joins;
+              signals = signals;
+              exit-known = known;
+              off-is = O c homes (flagged-of c t exits homes T S) (T .automata .count) known;
+              automata-few = passed .at-most;
+              few = z;
+              counted = w .0;
+              stand = w .1;
+              small = λ y k. alternative-lt c passed ranges u h has-exit k;
+            })),
+            recalled,
+          )
+
+-- no sets stand in the table to begin with
+pub recalled-none : (c : Chart) (s : ℕ) → Recalled c s (replicate 1024 0) (255 ∷ 0 ∷ [])
+recalled-none c s = record { long = length-replicate {A = ℕ} 1024 0; two = refl; held = λ z. absurd (z refl) }
+
+-- those of the exit that is asked for stand there already, or they do afterwards
+pub recalled-same : (c : Chart) (s e : ℕ) {sets listed : List ℕ} → Recalled c s sets listed → e ≢ 255 → getD listed 0 0 ≡ e → Kept sets (getD listed 1 0) (choices c e s)
+recalled-same c s e {sets} {listed} R some same = subst (λ (x : ℕ). Kept sets (getD listed 1 0) (choices c x s)) same (R .held (λ z. some (sym same ∙ z)))
+
+pub recalled-one : (c : Chart) (s e size : ℕ) {sets sets' listed : List ℕ} → Recalled c s sets listed → Kept sets' size (choices c e s) → Recalled c s sets' (set (set listed 0 e) 1 size)
+recalled-one c s e size {listed = listed} R k =
+    let two = R .two in
+    let exit-at : getD (set (set listed 0 e) 1 size) 0 0 ≡ e =
+    getD-set-other (set listed 0 e) 1 0 size 0 (λ z. omega (arith, z)) ∙ getD-set-same listed 0 e 0 (omega (arith, two)) in
+    let size-at : getD (set (set listed 0 e) 1 size) 1 0 ≡ size =
+    getD-set-same (set listed 0 e) 1 size 0 (omega (arith, two, length-set listed 0 e)) in
+    record {
+      long = k .long;
+      two = length-set (set listed 0 e) 1 size ∙ length-set listed 0 e ∙ two;
+      held = λ z. rw (exit-at, size-at) k;
+    }

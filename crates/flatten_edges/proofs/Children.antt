@@ -8,20 +8,23 @@ use native.Mathlib.Omega.{arith}
 use borrow.Author.Tests.{eqb-true}
 use lib.Dec.{eqb}
 use lib.ListN.{length, getD}
-use Rattle.expr.specs.Lists.{has, concat}
-use Rattle.expr.proofs.Bools.{fails, and-l, and-r}
-use Rattle.expr.proofs.Lists.{Once, keep-none, below-at, concat-append, concat-map, concat-none, concat-one}
-use Rattle.chart.specs.Chart.{Chart, transitionAt, parentOf, home}
-use Rattle.chart.specs.Tree.{children, sequentials}
-use Rattle.chart.proofs.Tree.{size}
-use Rattle.network.specs.Network.{Edge}
+use Rattle.lists.specs.Lists.{has, concat}
+use Rattle.lists.proofs.Bools.{fails, and-l, and-r}
+use Rattle.lists.proofs.Once.{Once}
+use Rattle.lists.proofs.Lists.{keep-none}
+use Rattle.lists.proofs.Below.{below-at}
+use Rattle.lists.proofs.Concat.{concat-append, concat-map, concat-none, concat-one}
+use Rattle.chart_records.specs.Chart.{Chart, transitionAt, parentOf, home}
+use Rattle.chart_records.specs.Tree.{children, sequentials}
+use Rattle.chart_records.proofs.Tree.{size}
+use Rattle.network_records.specs.Network.{Edge}
 use Rattle.flattening.specs.Flatten.{Place, idle, child, pre, post, transitions, hasExit, hasEntry, enterPairs, places, allPlaces, number, automaton, placeHome, arrival, departure, bearing, bearingAll, exitChannel, signalling, ownEdge, heardExits, toPlace, fromPlace}
 use Rattle.flattening.proofs.Automata.{Region, sequentials-by, sequentials-once, automaton-lt, region-of-automaton}
 use Rattle.flattening.proofs.Numbers.{prePairs, postTransitions, idle-place, places-at, all-places-at, all-places-by, same-place-at}
 use Rattle.flattening.proofs.Arrivals.{departure-place}
-use Rattle.flatten_tables.specs.Walking.{Tabulated, Spread}
-use Rattle.flatten_tables.specs.declared.walk.Tables.{Tables}
-use Rattle.flatten_tables.proofs.Chartered.{passed-of, ranges-of}
+use Rattle.flatten_places.specs.Walking.{Tabulated, Spread}
+use Rattle.flatten_places.specs.declared.walk.Tables.{Tables}
+use Rattle.flatten_places.proofs.Chartered.{passed-of, ranges-of}
 use Rattle.flatten_edges.specs.Adding.{Adds}
 use Rattle.flatten_edges.specs.Ends.{Flagged, Joins}
 use Rattle.flatten_edges.specs.Hearing.{HearsExits}

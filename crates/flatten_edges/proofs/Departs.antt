@@ -11,17 +11,19 @@ use borrow.Author.Tests.{eqb-true}
 use lib.Dec.{eqb}
 use lib.ListN.{length, getD, take, set, length-append}
 use lib.Seq.{take-all, take-suc, take-suc-set, take-set-le, getD-take}
-use Rattle.expr.specs.Lists.{concat, keep, below}
-use Rattle.expr.proofs.Bools.{fails, cond-yes, cond-no}
-use Rattle.expr.proofs.Lists.{keep-at, keep-append, concat-append, keep-keep, keep-none, below-at, length-below, getD-below, getD-mem, mem-getD}
-use Rattle.chart.specs.Chart.{Chart, transitionAt}
-use Rattle.network.specs.Network.{Edge}
+use Rattle.lists.specs.Lists.{concat, keep, below}
+use Rattle.lists.proofs.Bools.{fails, cond-yes, cond-no}
+use Rattle.lists.proofs.Lists.{keep-at, keep-append, keep-keep, keep-none, getD-mem, mem-getD}
+use Rattle.lists.proofs.Concat.{concat-append}
+use Rattle.lists.proofs.Below.{below-at, length-below, getD-below}
+use Rattle.chart_records.specs.Chart.{Chart, transitionAt}
+use Rattle.network_records.specs.Network.{Edge}
 use Rattle.flattening.specs.Flatten.{Place, idle, samePlace, transitions, allPlaces, number, bearing, departure, bearingAll}
 use Rattle.flattening.proofs.Numbers.{IsPlace, all-places-at, same-place-at, same-place-by, number-injective, number-of-place}
 use Rattle.flattening.proofs.Arrivals.{departure-place}
-use Rattle.flatten_tables.specs.Walking.{Tabulated}
-use Rattle.flatten_tables.specs.declared.walk.Tables.{Tables}
-use Rattle.flatten_tables.proofs.Chartered.{passed-of, ranges-of}
+use Rattle.flatten_places.specs.Walking.{Tabulated}
+use Rattle.flatten_places.specs.declared.walk.Tables.{Tables}
+use Rattle.flatten_places.proofs.Chartered.{passed-of, ranges-of}
 use Rattle.flatten_edges.specs.Adding.{Adds}
 use Rattle.flatten_edges.specs.Sourcing.{fromState, Sourced, Least}
 use Rattle.flatten_edges.proofs.Gathers.{adds-skip, walk-none, walk-more, walk-all, walk-past, concat-kept}
@@ -81,6 +83,9 @@ module _ (c : Chart) (t : Tables) (T : Tabulated c t) (s : ℕ) (items : List �
   pub item-mem : (k : ℕ) → k < size → Mem (getD (fromState c s) k 0) (fromState c s)
   item-mem k h = getD-mem (fromState c s) k 0 (omega (arith, S .counted))
 
+  pub item-from : (k : ℕ) {u : ℕ} → k < size → u ≡ getD items k 0 → (u < length (c .transitions)) × (transitionAt c u .source ≡ s)
+  item-from k h e = from-at (subst (λ (y : ℕ). Mem y (fromState c s)) (sym (e ∙ item-at k h)) (item-mem k h))
+
   departs : {u : ℕ} → Mem u (fromState c s) → IsPlace c (departure c u)
   departs m = departure-place c (passed-of (T .chart)) (ranges-of (T .chart)) _ (from-at m .0) .is-place
 
@@ -102,23 +107,26 @@ module _ (c : Chart) (t : Tables) (T : Tabulated c t) (s : ℕ) (items : List �
   pub to-all : (q : Place) (k : ℕ) {b l : List ℕ} {n m : ℕ} → Adds b n l m (concat (toEdges q) (take k (fromState c s))) → size ≤ k → Adds b n l m (bearingAll c s q)
   to-all q k {b} {l} {n} {m} W h = subst (Adds b n l m) (bearing-all-from q) (walk-all (toEdges q) (fromState c s) k W (omega (arith, S .counted)))
 
-  pub to-skip : (q : Place) (k j u d : ℕ) {b l : List ℕ} {n m : ℕ} → Adds b n l m (concat (toEdges q) (take k (fromState c s))) → k < size → u ≡ getD items k 0 → d ≡ getD (t .departures) u 0 → j ≡ number c q → (d ≡ j → ⊥) → Adds b n l m (concat (toEdges q) (take (k + 1) (fromState c s)))
+  pub to-skip : (q : Place) (k j u d : ℕ) {b l : List ℕ} {n m : ℕ} → Adds b n l m (concat (toEdges q) (take k (fromState c s)))
+      → k < size → u ≡ getD items k 0 → d ≡ getD (t .departures) u 0 → j ≡ number c q → (d ≡ j → ⊥) → Adds b n l m (concat (toEdges q) (take (k + 1) (fromState c s)))
   to-skip q k j u d W h e g f z =
       let x = e ∙ item-at k h in
       walk-more (toEdges q) (fromState c s) k 0 W (omega (arith, S .counted)) (adds-skip _ _ (cond-no _ _ (departs-no q (item-mem k h) f (λ y. z (g ∙ ap (λ (i : ℕ). getD (t .departures) i 0) x ∙ y)))))
 
   pub to-more : (q : Place) (k j u d : ℕ) {b l g : List ℕ} {n m i : ℕ} → Adds b n l m (concat (toEdges q) (take k (fromState c s))) → k < size → u ≡ getD items k 0 → d ≡ getD (t .departures) u 0 → j ≡ number c q → Mem q (allPlaces c) → d ≡ j
-      → (u < length (c .transitions) → transitionAt c u .source ≡ s → Adds l m g i (bearing c q u)) → Adds b n g i (concat (toEdges q) (take (k + 1) (fromState c s)))
+      → Adds l m g i (bearing c q u) → Adds b n g i (concat (toEdges q) (take (k + 1) (fromState c s)))
   to-more q k j u d {l = l} {g = g} {m = m} {i = i} W h e a f r z A =
       let x = e ∙ item-at k h in
       let p = subst (λ (y : ℕ). Mem y (fromState c s)) (sym x) (item-mem k h) in
-      let new : Adds l m g i (toEdges q u) = subst (Adds l m g i) (sym (cond-yes _ _ (departs-yes q p r f (sym a ∙ z)))) (A (from-at p .0) (from-at p .1)) in
+      let new : Adds l m g i (toEdges q u) = subst (Adds l m g i) (sym (cond-yes _ _ (departs-yes q p r f (sym a ∙ z)))) A in
       walk-more (toEdges q) (fromState c s) k 0 W (omega (arith, S .counted)) (subst (λ (y : ℕ). Adds l m g i (toEdges q y)) x new)
 
   -- a place where none departs to has no edges
   none-to : (from least k : ℕ) → Least (t .departures) items size from least → from ≤ k → k < least → k < length (allPlaces c) → bearingAll c s (getD (allPlaces c) k (idle 0)) ≡ []
   unfolding concat
-  none-to from least k L a b h = sym (bearing-all-from q) ∙ concat-kept (λ u. samePlace (departure c u) q) (bearing c q) (fromState c s) ∙ ap (concat (bearing c q)) (keep-none (λ u. samePlace (departure c u) q) (fromState c s) (λ u m. departs-no q m (sym (number-of-place c (idle 0) k h)) (other m)))
+  none-to from least k L a b h = sym (bearing-all-from q)
+      ∙ concat-kept (λ u. samePlace (departure c u) q) (bearing c q) (fromState c s)
+      ∙ ap (concat (bearing c q)) (keep-none (λ u. samePlace (departure c u) q) (fromState c s) (λ u m. departs-no q m (sym (number-of-place c (idle 0) k h)) (other m)))
     where
       q : Place
       q = getD (allPlaces c) k (idle 0)
@@ -157,9 +165,13 @@ module _ (c : Chart) (t : Tables) (T : Tabulated c t) (s : ℕ) (items : List �
       let known : j < length (allPlaces c) = omega arith in
       walk-more (bearingAll c s) (allPlaces c) j (idle 0) W known (A _ (sym (number-of-place c (idle 0) j known)) (getD-mem (allPlaces c) j (idle 0) known))
 
-  pub source-more : (places j i : ℕ) {b l g : List ℕ} {n m k : ℕ} → Adds b n l m (concat (bearingAll c s) (take j (allPlaces c))) → places ≡ length (allPlaces c) → j < places → Least (t .departures) items size (j + 1) i
-      → ((q : Place) → j ≡ number c q → Mem q (allPlaces c) → Adds l m g k (bearingAll c s q)) → Adds b n g k (concat (bearingAll c s) (take i (allPlaces c)))
-  source-more places j i {b} {g = g} {n = n} {k = k} W e h L A = subst (Adds b n g k) (sym (skip-to (j + 1) i L)) (source-next places j W e h A)
+  pub source-more : {X : Type 0} (places j i : ℕ) {b l g : List ℕ} {n m k : ℕ} → Adds b n l m (concat (bearingAll c s) (take j (allPlaces c))) → places ≡ length (allPlaces c) → j < places → Least (t .departures) items size (j + 1) i
+      → ((q : Place) → j ≡ number c q → Mem q (allPlaces c) → Adds l m g k (bearingAll c s q) × X) → Adds b n g k (concat (bearingAll c s) (take i (allPlaces c))) × X
+  source-more places j i {b} {g = g} {n = n} {k = k} W e h L A =
+      let known : j < length (allPlaces c) = omega arith in (
+        subst (Adds b n g k) (sym (skip-to (j + 1) i L)) (source-next places j W e h (λ q f r. A q f r .0)),
+        A _ (sym (number-of-place c (idle 0) j known)) (getD-mem (allPlaces c) j (idle 0) known) .1,
+      )
 
   -- too many before the last departure
   pub source-past : (places j : ℕ) {b l g : List ℕ} {n m k : ℕ} → Adds b n l m (concat (bearingAll c s) (take j (allPlaces c))) → places ≡ length (allPlaces c) → j < places

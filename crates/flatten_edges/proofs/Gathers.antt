@@ -7,9 +7,9 @@ use native.Mathlib.Omega.{arith}
 use native.Mathlib.Numerals.{add-one}
 use lib.ListN.{length, getD, take, drop, set, length-set, length-append, take-append-drop}
 use lib.Seq.{take-all, take-suc, take-suc-set}
-use Rattle.expr.specs.Lists.{concat, keep}
-use Rattle.expr.proofs.Lists.{concat-append}
-use Rattle.network.specs.Network.{Edge}
+use Rattle.lists.specs.Lists.{concat, keep}
+use Rattle.lists.proofs.Concat.{concat-append}
+use Rattle.network_records.specs.Network.{Edge}
 use Rattle.flattening.specs.File.{out2}
 use Rattle.flatten_edges.specs.declared.head.Head.{Head}
 use Rattle.flatten_edges.specs.Gathering.{headOf, headBytes, Gathered}
@@ -107,7 +107,13 @@ module _ {A : Type 0} (g : A → List Edge) (xs : List A) where
   walk-none s n = adds-none s n
 
   pub walk-more : (k : ℕ) (d : A) {s l h : List ℕ} {n m j : ℕ} → Adds s n l m (concat g (take k xs)) → k < length xs → Adds l m h j (g (getD xs k d)) → Adds s n h j (concat g (take (k + 1) xs))
-  walk-more k d {s} {l} {h} {n} {m} {j} W i B = subst (Adds s n h j) (sym (ap (λ (i : ℕ). concat g (take i xs)) (add-one k) ∙ ap (concat g) (take-suc xs k d i) ∙ concat-append g (take k xs) (getD xs k d ∷ []) ∙ ap (λ (y : List Edge). concat g (take k xs) ++ y) (concat-one g (getD xs k d)))) (adds-then W B)
+  walk-more k d {s} {l} {h} {n} {m} {j} W i B =
+      let more : concat g (take (k + 1) xs) ≡ concat g (take k xs) ++ g (getD xs k d) =
+      ap (λ (i : ℕ). concat g (take i xs)) (add-one k)
+      ∙ ap (concat g) (take-suc xs k d i)
+      ∙ concat-append g (take k xs) (getD xs k d ∷ [])
+      ∙ ap (λ (y : List Edge). concat g (take k xs) ++ y) (concat-one g (getD xs k d)) in
+      subst (Adds s n h j) (sym more) (adds-then W B)
 
   pub walk-all : (k : ℕ) {s l : List ℕ} {n m : ℕ} → Adds s n l m (concat g (take k xs)) → length xs ≤ k → Adds s n l m (concat g xs)
   walk-all k {s} {l} {n} {m} W h = subst (λ (y : List A). Adds s n l m (concat g y)) (take-all k xs h) W

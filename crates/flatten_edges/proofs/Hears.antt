@@ -9,21 +9,23 @@ use native.Mathlib.Decide.{ℕ-discrete}
 use borrow.Author.Tests.{eqb-true, eq-eqb}
 use lib.Dec.{eqb}
 use lib.ListN.{length, getD, take, drop, drop-of-length-le}
-use Rattle.expr.specs.Lists.{has, concat, position}
-use Rattle.expr.proofs.Bools.{and-l, and-r, both, same}
-use Rattle.expr.proofs.Lists.{index-of, getD-mem, drop-next, position-next, position-stop, position-end}
-use Rattle.chart.specs.Chart.{Chart, stateAt, parentOf}
-use Rattle.chart.specs.Tree.{under, entered}
-use Rattle.chart.proofs.Tree.{size, Parents, parents-at, under-refl, under-up, under-down, under-le}
-use Rattle.chart.proofs.Entered.{entered-at, entered-by}
-use Rattle.chart.proofs.Tables.{parent-at}
-use Rattle.chart.specs.Table.{Rooted}
-use Rattle.network.specs.Network.{Edge}
+use Rattle.lists.specs.Lists.{has, concat, position}
+use Rattle.lists.proofs.Bools.{and-l, and-r, both, same}
+use Rattle.lists.proofs.Position.{index-of, position-end}
+use Rattle.lists.proofs.Lists.{getD-mem, position-next, position-stop}
+use Rattle.lists.proofs.Parts.{drop-next}
+use Rattle.chart_records.specs.Chart.{Chart, stateAt, parentOf}
+use Rattle.chart_records.specs.Tree.{under, entered}
+use Rattle.chart_records.proofs.Tree.{size, Parents, parents-at, under-refl, under-up, under-down, under-le}
+use Rattle.chart_records.proofs.Entered.{entered-at, entered-by}
+use Rattle.chart_tree.proofs.Tables.{parent-at}
+use Rattle.chart_tree.specs.Table.{Rooted}
+use Rattle.network_records.specs.Network.{Edge}
 use Rattle.flattening.specs.Flatten.{Pair, Place, idle, child, samePair, enterPairs, exitPairs, enterChannel, exitChannel, signalling, ownEdge, marksBelow, heardEntries, heardExits}
 use Rattle.flattening.proofs.Numbers.{same-pair-at, same-pair-by}
 use Rattle.flattening.proofs.Channels.{enter-pairs-at, enter-pairs-once, exit-pairs-once}
 use Rattle.flattening.proofs.Counts.{enter-pairs-few}
-use Rattle.flatten_tables.proofs.Chartered.{ranges-of}
+use Rattle.flatten_places.proofs.Chartered.{ranges-of}
 use Rattle.flatten_edges.specs.Adding.{Adds}
 use Rattle.flatten_edges.specs.Ends.{Joins}
 use Rattle.flatten_edges.specs.Hearing.{PairColumns, Entering, HearsEntries, HearsExits}
@@ -154,7 +156,9 @@ module _ (c : Chart) (e : Ends) (parents entries : List ℕ) (q s : ℕ) (states
 
   pub entry-all : (k : ℕ) {f l : List ℕ} {n m : ℕ} → Adds f n l m (concat (entryEdge c q s) (take k (enterPairs c))) → pairs ≤ k → Adds f n l m (map (λ p. ownEdge c (idle q) (child s) (signalling 2 (enterChannel c p))) (heardEntries c s))
   unfolding heardEntries
-  entry-all k {f} {l} {n} {m} W i = subst (Adds f n l m) (map-kept (λ p. entered c (p .state) (p .mark) (parentOf c s) && has (stateAt c s .entries) (p .mark)) (λ p. ownEdge c (idle q) (child s) (signalling 2 (enterChannel c p))) (enterPairs c)) (walk-all (entryEdge c q s) (enterPairs c) k W (omega (arith, H .columns .count)))
+  entry-all k {f} {l} {n} {m} W i = subst (Adds f n l m)
+      (map-kept (λ p. entered c (p .state) (p .mark) (parentOf c s) && has (stateAt c s .entries) (p .mark)) (λ p. ownEdge c (idle q) (child s) (signalling 2 (enterChannel c p))) (enterPairs c))
+      (walk-all (entryEdge c q s) (enterPairs c) k W (omega (arith, H .columns .count)))
 
 module _ (c : Chart) (s : ℕ) (e : Ends) (parents : List ℕ) (below q : ℕ) (states marks : List ℕ) (pairs before : ℕ) (H : HearsExits c s e parents below q states marks pairs before) where
   pub exit-more : (k d mark ch : ℕ) (b : Bool) {f l h : List ℕ} {n m j : ℕ} → Adds f n l m (concat (exitEdge c q s) (take k (exitPairs c))) → k < pairs
@@ -175,7 +179,9 @@ module _ (c : Chart) (s : ℕ) (e : Ends) (parents : List ℕ) (below q : ℕ) (
 
   pub exit-all : (k : ℕ) {f l : List ℕ} {n m : ℕ} → Adds f n l m (concat (exitEdge c q s) (take k (exitPairs c))) → pairs ≤ k → Adds f n l m (map (λ p. ownEdge c (child s) (idle q) (signalling 2 (exitChannel c p))) (heardExits c s))
   unfolding heardExits
-  exit-all k {f} {l} {n} {m} W i = subst (Adds f n l m) (map-kept (λ p. under c (p .state) (parentOf c s) && marksBelow c (p .mark) s) (λ p. ownEdge c (child s) (idle q) (signalling 2 (exitChannel c p))) (exitPairs c)) (walk-all (exitEdge c q s) (exitPairs c) k W (omega (arith, H .columns .count)))
+  exit-all k {f} {l} {n} {m} W i = subst (Adds f n l m)
+      (map-kept (λ p. under c (p .state) (parentOf c s) && marksBelow c (p .mark) s) (λ p. ownEdge c (child s) (idle q) (signalling 2 (exitChannel c p))) (exitPairs c))
+      (walk-all (exitEdge c q s) (exitPairs c) k W (omega (arith, H .columns .count)))
 
 -- a pair's position, as a search along the columns finds it
 pub search-start : (ps : List Pair) (p : Pair) → position (samePair p) ps ≡ 0 + position (samePair p) (drop 0 ps)

@@ -9,18 +9,18 @@ use lib.Bits as Words
 use lib.Dec.{eqb}
 use lib.ListN.{length, getD, take}
 use lib.Seq.{getD-take}
-use Rattle.expr.specs.Lists.{has, bitsFrom, bitsOf}
-use Rattle.expr.specs.Label.{Label}
-use Rattle.expr.proofs.Lists.{getD-map}
-use Rattle.expr.proofs.Bits.{has-bitsOf}
-use Rattle.chart.specs.Chart.{Chart}
-use Rattle.chart.specs.Tree.{sequentials}
+use Rattle.lists.specs.Lists.{has, bitsFrom, bitsOf}
+use Rattle.labels.specs.Label.{Label}
+use Rattle.lists.proofs.Lists.{getD-map}
+use Rattle.lists.proofs.Bits.{has-bitsOf}
+use Rattle.chart_records.specs.Chart.{Chart}
+use Rattle.chart_records.specs.Tree.{sequentials}
 use Rattle.flattening.specs.Flatten.{Place, allPlaces, number, automaton, placeHome, atExit, initialPlace, onValues, writtenBy, edge, ownEdge, signalling}
 use Rattle.flattening.proofs.Automata.{automaton-lt, region-at, region-of-automaton}
 use Rattle.flattening.proofs.Numbers.{IsPlace, all-places-at, number-lt, place-of-number}
 use Rattle.flattening.proofs.Arrivals.{initial-place}
-use Rattle.flatten_tables.specs.Tables.{exitsAt}
-use Rattle.flatten_tables.proofs.Chartered.{passed-of, ranges-of}
+use Rattle.flatten_places.specs.Tables.{exitsAt}
+use Rattle.flatten_places.proofs.Chartered.{passed-of, ranges-of}
 use Rattle.flatten_edges.specs.Gathering.{headOf}
 use Rattle.flatten_edges.specs.Ends.{Flagged, Joins, Signalled, startOff}
 use Rattle.flatten_edges.specs.declared.flag.Ends.{Ends}

@@ -1,6 +1,4 @@
 -- Laws of the definitions of this crate.
-pub mod Keeping
-pub mod Chosen
 pub mod Walks
 pub mod Gathers
 pub mod Xors

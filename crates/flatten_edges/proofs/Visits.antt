@@ -4,14 +4,14 @@ use mathlib.Core.List.{List, [], List·Memᴰ as Mem}
 use Prim.Native.Nat.{ℕ, _+_, _≤_, _<_}
 use native.Mathlib.Omega.{arith}
 use lib.ListN.{length, getD, take}
-use Rattle.expr.specs.Lists.{concat}
-use Rattle.expr.proofs.Lists.{getD-mem}
-use Rattle.chart.specs.Chart.{Chart}
+use Rattle.lists.specs.Lists.{concat}
+use Rattle.lists.proofs.Lists.{getD-mem}
+use Rattle.chart_records.specs.Chart.{Chart}
 use Rattle.flattening.specs.Flatten.{Place, idle, child, pre, post, allPlaces, number, fromPlace, flatten}
 use Rattle.flattening.proofs.Numbers.{number-of-place}
-use Rattle.flatten_tables.specs.Tables.{kindOf, valueOf, markOf, Listed}
-use Rattle.flatten_tables.specs.Walking.{Spread}
-use Rattle.flatten_tables.specs.declared.place.Places.{Places}
+use Rattle.flatten_places.specs.Tables.{kindOf, valueOf, markOf, Listed}
+use Rattle.flatten_places.specs.Walking.{Spread}
+use Rattle.flatten_places.specs.declared.place.Places.{Places}
 use Rattle.flatten_edges.specs.Gathering.{Gathered}
 use Rattle.flatten_edges.specs.Adding.{Adds}
 use Rattle.flatten_edges.proofs.Gathers.{walk-more, walk-all, walk-past}

@@ -8,27 +8,28 @@ use native.Mathlib.Omega.{arith}
 use borrow.Author.Tests.{eqb-true, eq-eqb, ne-eqb}
 use lib.Dec.{eqb}
 use lib.ListN.{length, getD, take}
-use Rattle.expr.specs.Lists.{concat, position}
-use Rattle.expr.proofs.Bools.{clash, decided, and-l, not-no, cond-yes, cond-no}
-use Rattle.expr.proofs.Lists.{index-lt, length-below, getD-below}
-use Rattle.chart.specs.Chart.{Chart, transitionAt, states, parentOf}
-use Rattle.chart.specs.Tree.{isChild, children}
-use Rattle.chart.specs.Table.{Rooted}
-use Rattle.chart.proofs.Tree.{size}
-use Rattle.chart.proofs.Rules.{Passed}
-use Rattle.chart.proofs.Tables.{parent-at, rooted-of}
-use Rattle.chart.proofs.Ranges.{Ranges}
-use Rattle.network.specs.Network.{Edge}
+use Rattle.lists.specs.Lists.{concat, position}
+use Rattle.lists.proofs.Bools.{clash, decided, and-l, not-no, cond-yes, cond-no}
+use Rattle.lists.proofs.Position.{index-lt}
+use Rattle.lists.proofs.Below.{length-below, getD-below}
+use Rattle.chart_records.specs.Chart.{Chart, transitionAt, states, parentOf}
+use Rattle.chart_records.specs.Tree.{isChild, children}
+use Rattle.chart_tree.specs.Table.{Rooted}
+use Rattle.chart_records.proofs.Tree.{size}
+use Rattle.chart_records.proofs.Rules.{Passed}
+use Rattle.chart_tree.proofs.Tables.{parent-at, rooted-of}
+use Rattle.chart_records.proofs.Ranges.{Ranges}
+use Rattle.network_records.specs.Network.{Edge}
 use Rattle.flattening.specs.Flatten.{Pair, Place, idle, child, pre, post, samePair, enterPairs, exitPairs, allPlaces, number, placeHome, arrival, enterChannel, exitChannel, signalling, ownEdge, heardEntries, fromPlace}
 use Rattle.flattening.proofs.Numbers.{IsPlace, all-places-at, all-places-by, child-place, same-pair-at, same-pair-by}
 use Rattle.flattening.proofs.Automata.{Region}
 use Rattle.flattening.proofs.Channels.{pre-enters}
 use Rattle.flattening.proofs.Arrivals.{arrival-place, exit-pair}
-use Rattle.flatten_tables.specs.Tables.{Paired}
-use Rattle.flatten_tables.specs.Walking.{Tabulated, Spread}
-use Rattle.flatten_tables.specs.declared.pair.Pairs.{Pairs}
-use Rattle.flatten_tables.specs.declared.walk.Tables.{Tables}
-use Rattle.flatten_tables.proofs.Chartered.{passed-of, ranges-of, parents-of}
+use Rattle.flatten_places.specs.Tables.{Paired}
+use Rattle.flatten_places.specs.Walking.{Tabulated, Spread}
+use Rattle.flatten_places.specs.declared.pair.Pairs.{Pairs}
+use Rattle.flatten_places.specs.declared.walk.Tables.{Tables}
+use Rattle.flatten_places.proofs.Chartered.{passed-of, ranges-of, parents-of}
 use Rattle.flatten_edges.specs.Gathering.{headOf}
 use Rattle.flatten_edges.specs.Adding.{Adds}
 use Rattle.flatten_edges.specs.Ends.{Flagged, Joins}

@@ -7,11 +7,11 @@ use native.Mathlib.Nat.{mod-lt, pow-suc}
 use lib.Pow.{pow-mono}
 use lib.Bits as Words
 use lib.Dec.{ltb, eqb, lit<}
-use Rattle.expr.specs.Lists.{has, bitsFrom, bitsOf}
-use Rattle.expr.proofs.Bits.{has-ext, has-bits, has-and}
-use Rattle.chart.specs.Chart.{Chart}
+use Rattle.lists.specs.Lists.{has, bitsFrom, bitsOf}
+use Rattle.lists.proofs.Bits.{has-ext, has-bits, has-and}
+use Rattle.chart_records.specs.Chart.{Chart}
 use Rattle.flattening.specs.Flatten.{Place, atExit, initialPlace, placeHome, flagAt, writtenBy, valuesBy}
-use Rattle.flatten_tables.specs.Tables.{exitsAt}
+use Rattle.flatten_places.specs.Tables.{exitsAt}
 
 digit-xor : (x y : ℕ) → x < 2 → y < 2 → eqb (Words.bitXor x y) 1 ≡ xor (eqb x 1) (eqb y 1)
 unfolding xor

@@ -3,7 +3,7 @@ use Prim.Native.Nat.{ℕ}
 use mathlib.Core.Path.{_≡_}
 use mathlib.Core.List.{List, _++_}
 use lib.ListN.{length}
-use Rattle.network.specs.Network.{Edge}
+use Rattle.network_records.specs.Network.{Edge}
 use Rattle.flatten_edges.specs.Gathering.{Gathered}
 
 -- from the bytes s with n edges to l with m: these edges came after those

@@ -4,12 +4,12 @@ use mathlib.Core.Path.{_≡_}
 use mathlib.Core.Bool.{not}
 use mathlib.Core.List.{List, map}
 use lib.ListN.{getD, length, take}
-use Rattle.expr.specs.Lists.{bitsOf}
-use Rattle.expr.specs.Label.{Label}
-use Rattle.chart.specs.Chart.{Chart}
-use Rattle.chart.specs.Tree.{sequentials}
+use Rattle.lists.specs.Lists.{bitsOf}
+use Rattle.labels.specs.Label.{Label}
+use Rattle.chart_records.specs.Chart.{Chart}
+use Rattle.chart_records.specs.Tree.{sequentials}
 use Rattle.flattening.specs.Flatten.{Place, allPlaces, number, automaton, placeHome, atExit, initialPlace, writtenBy, valuesBy}
-use Rattle.flatten_tables.specs.Tables.{Chartered, exitsAt}
+use Rattle.flatten_places.specs.Tables.{Chartered, exitsAt}
 use Rattle.flatten_edges.specs.declared.flag.Ends.{Ends}
 use Rattle.flatten_edges.specs.declared.flag.Signals.{Signals}
 

@@ -3,8 +3,8 @@ use Prim.Native.Nat.{ℕ, _*_, _≤_, min}
 use mathlib.Core.Path.{_≡_}
 use mathlib.Core.List.{List, [], _∷_, _++_}
 use lib.ListN.{length, take}
-use Rattle.expr.specs.Lists.{concat}
-use Rattle.network.specs.Network.{Edge}
+use Rattle.lists.specs.Lists.{concat}
+use Rattle.network_records.specs.Network.{Edge}
 use Rattle.flattening.specs.File.{out2}
 use Rattle.flatten_edges.specs.declared.head.Head.{Head}
 

@@ -3,11 +3,13 @@ use Prim.Native.Nat.{ℕ, _+_, _≤_, _<_}
 use mathlib.Core.Path.{_≡_}
 use mathlib.Core.List.{List, map}
 use lib.ListN.{length, take}
-use Rattle.expr.specs.Lists.{has}
-use Rattle.chart.specs.Chart.{Chart, parentOf}
-use Rattle.chart.specs.Table.{Column, Rooted}
-use Rattle.flattening.specs.Flatten.{Pair, idle, child, enterPairs, exitPairs, marksBelow}
-use Rattle.flatten_tables.specs.Tables.{Chartered}
+use Rattle.lists.specs.Lists.{has}
+use Rattle.chart_records.specs.Chart.{Chart, parentOf}
+use Rattle.chart_tree.specs.Table.{Column, Rooted}
+use Rattle.network_records.specs.Network.{Edge}
+use Rattle.flattening.specs.Flatten.{Pair, idle, child, enterPairs, exitPairs, marksBelow, enterChannel, exitChannel}
+use Rattle.flattening.specs.Flatten.{signalling, ownEdge, heardEntries, heardExits}
+use Rattle.flatten_places.specs.Tables.{Chartered}
 use Rattle.flatten_edges.specs.Ends.{Joins}
 use Rattle.flatten_edges.specs.declared.flag.Ends.{Ends}
 
@@ -44,3 +46,10 @@ pub record HearsExits (c : Chart) (s : ℕ) (e : Ends) (parents : List ℕ) (bel
   pub home-is : q ≡ parentOf c s
   pub marked : (x : ℕ) → has below x ≡ marksBelow c x s
   pub joins : Joins c (child s) (idle q) e
+
+-- the edges by which the child s of q hears that it is entered, and those by which it hears that it is left
+abbrev pub entryEdges : Chart → ℕ → ℕ → List Edge
+entryEdges c q s = map (λ p. ownEdge c (idle q) (child s) (signalling 2 (enterChannel c p))) (heardEntries c s)
+
+abbrev pub exitEdges : Chart → ℕ → ℕ → List Edge
+exitEdges c s q = map (λ p. ownEdge c (child s) (idle q) (signalling 2 (exitChannel c p))) (heardExits c s)

@@ -1,5 +1,4 @@
 pub mod Gathering
-pub mod Choosing
 pub mod Adding
 pub mod Ends
 pub mod Hearing

@@ -1,29 +1,29 @@
 // The edges that bear transitions.
 ghost use mathlib.Core.Path.{_≡_};
-ghost use mathlib.Core.List.{List, map, List·Memᴰ as Mem};
+ghost use mathlib.Core.List.{List, map};
 ghost use Prim.Native.Nat.{ℕ, _<_};
-ghost use lib.ListN.{length};
-ghost use Rattle.expr.specs.Label.{Label};
-ghost use Rattle.chart.specs.Chart.{Chart, transitionAt};
-ghost use Rattle.chart.specs.Laid.{Laid};
-ghost use Rattle.chart.specs.declared.header.Counts.{Counts};
-ghost use Rattle.flattening.specs.Flatten.{Place, child, allPlaces, number, edge, bearing};
-ghost use Rattle.flatten_tables.specs.Walking.{Tabulated, Spread};
+ghost use Rattle.labels.specs.Label.{Label};
+ghost use Rattle.chart_records.specs.Chart.{Chart, transitionAt};
+ghost use Rattle.chart_records.specs.Laid.{Laid};
+ghost use Rattle.chart_records.specs.declared.header.Counts.{Counts};
+ghost use Rattle.flattening.specs.Flatten.{Place, edge};
 ghost use Rattle.flatten_edges.specs.Adding.{Adds};
 ghost use Rattle.flatten_edges.specs.Ends.{Signalled};
-ghost use Rattle.flatten_edges.specs.Bearing.{BearsEach};
-use crate::alternative::alternatives;
+ghost use Rattle.flatten_edges.specs.Bearing.{BearsEach, Recalls, Bears};
 use crate::flag::Ends;
 use crate::flag::Signals;
 use crate::flag::bearing_head;
 use crate::flag::joining;
 use crate::flag::start_off;
 use crate::head::push;
-use chart::transition::channel_of;
-use chart::transition::resets_of;
-use chart::transition::signal_of;
-use flatten_tables::walk::Tables;
-use flatten_tables::walk::of_transition;
+use chart_records::transition::channel_of;
+use chart_records::transition::resets_of;
+use chart_records::transition::signal_of;
+use chart_tree::table::Tree;
+use flatten_alternatives::alternative::alternatives;
+use flatten_places::automaton::Automata;
+use flatten_places::walk::Tables;
+use flatten_places::walk::of_transition;
 
 // What a transition's label has before its body.
 fn signals_of(rest: &[u8], offsets: &[u32], t: u8) -> Signals
@@ -47,7 +47,7 @@ fn bear_each(
     exit: u8,
     off: u16,
     sets: &[u16; 1024],
-    size: u16,
+    size: usize,
 ) -> u16
     ensures { λ r. ⌜ ((c : Chart) (p q : Place) (l : Label) (xs : List ℕ) → BearsEach c p q l xs e s exit off (now (sets .entry)) size → Adds (now (heads .entry)) count (now (heads .exit)) r (map (λ x. edge c p q transition exit x l) xs)) ⌝ }
 {
@@ -57,12 +57,33 @@ fn bear_each(
     let mut n = count;
     let mut k = 0;
     while k < size {
-        let tested = sets[k as usize];
+        let tested = sets[k];
         let h = bearing_head(e, s, transition, exit, tested, tested & off);
         n = push(heads, n, h);
         k += 1;
     }
     n
+}
+
+// The sets of automata by which the state s is left by an exit. They stay in their table for the next transition from s:
+// listed is the exit that they are of, 255 at first, and how many they are.
+fn sets_by(
+    tree: Tree,
+    automata: Automata,
+    s: u8,
+    exit: u8,
+    sets: &mut [u16; 1024],
+    listed: &mut [usize; 2],
+) -> usize
+    ensures { λ r. ⌜ Recalls tree automata s exit (now (sets .entry)) (now (listed .entry)) (now (sets .exit)) (now (listed .exit)) r ⌝ }
+{
+    if listed[0] == exit as usize {
+        return listed[1];
+    }
+    let size = alternatives(tree, automata, s, exit, sets);
+    listed[0] = exit as usize;
+    listed[1] = size;
+    size
 }
 
 // The edges that bear the transition u: from its source, whose number is i, to the place with the number j. Where there
@@ -78,8 +99,12 @@ pub fn bear(
     i: u8,
     j: u8,
     u: u8,
+    sets: &mut [u16; 1024],
+    listed: &mut [usize; 2],
 ) -> u16
-    ensures { λ r. ⌜ ((c : Chart) (n : Counts) (q : Place) → Tabulated c t → Spread c (now (exits .entry)) (now (homes .entry)) → Laid (now (rest .entry)) n (now (offsets .entry)) c → u < length (c .transitions) → i ≡ number c (child (transitionAt c u .source)) → j ≡ number c q → Mem q (allPlaces c) → Adds (now (heads .entry)) count (now (heads .exit)) r (bearing c q u)) ⌝ }
+    ensures { λ r. ⌜ Bears t (now (exits .entry)) (now (homes .entry)) (now (rest .entry)) (now (offsets .entry)) i j u
+        (now (heads .entry)) count (now (heads .exit)) r
+        (now (sets .entry)) (now (listed .entry)) (now (sets .exit)) (now (listed .exit)) ⌝ }
 {
     if count > 1024 {
         return 1025;
@@ -97,10 +122,16 @@ pub fn bear(
     let tree = t.tree;
     let automata = t.automata;
     let off = start_off(exits, &initials, automata.count, exit);
-    let sets = alternatives(tree, automata, of_transition(&sources, u), exit);
-    if sets.over {
+    let size = sets_by(
+        tree,
+        automata,
+        of_transition(&sources, u),
+        exit,
+        sets,
+        listed,
+    );
+    if size > 1024 {
         return 1025;
     }
-    let items = sets.items;
-    bear_each(heads, count, e, s, u, exit, off, &items, sets.count)
+    bear_each(heads, count, e, s, u, exit, off, sets, size)
 }

@@ -1,31 +1,31 @@
 // The edges of the network, place by place.
 ghost use mathlib.Core.Path.{_≡_};
-ghost use mathlib.Core.List.{List, map, List·Memᴰ as Mem};
-ghost use Rattle.expr.specs.Lists.{position};
+ghost use mathlib.Core.List.{List, List·Memᴰ as Mem};
+ghost use Rattle.lists.specs.Lists.{position};
 ghost use lib.ListN.{length};
-ghost use Rattle.chart.specs.Chart.{Chart, parentOf};
-ghost use Rattle.chart.specs.Laid.{Laid};
-ghost use Rattle.chart.specs.declared.header.Counts.{Counts};
-ghost use Rattle.flattening.specs.Flatten.{Pair, Place, idle, child, pre, post, samePair, allPlaces, number, enterChannel, exitChannel, signalling, ownEdge, heardEntries, heardExits, fromPlace, flatten};
-ghost use Rattle.flatten_tables.specs.Tables.{kindOf, valueOf, markOf, Listed};
-ghost use Rattle.flatten_tables.specs.Walking.{Tabulated, Spread};
+ghost use Rattle.chart_records.specs.Chart.{Chart, parentOf};
+ghost use Rattle.chart_records.specs.Laid.{Laid};
+ghost use Rattle.chart_records.specs.declared.header.Counts.{Counts};
+ghost use Rattle.flattening.specs.Flatten.{Pair, Place, idle, child, pre, post, samePair, allPlaces, number, fromPlace, flatten};
+ghost use Rattle.flatten_places.specs.Tables.{kindOf, valueOf, markOf, Listed};
+ghost use Rattle.flatten_places.specs.Walking.{Tabulated, Spread};
 ghost use Rattle.flatten_edges.specs.Gathering.{Gathered};
 ghost use Rattle.flatten_edges.specs.Adding.{Adds};
-ghost use Rattle.flatten_edges.specs.Hearing.{PairColumns};
+ghost use Rattle.flatten_edges.specs.Hearing.{PairColumns, entryEdges, exitEdges};
 use crate::flag::joining;
 use crate::flag::own_head;
 use crate::head::push;
 use crate::hear::hear_entries;
 use crate::hear::hear_exits;
 use crate::source::from_source;
-use expr::field::byte_at;
-use flatten_tables::pair::channel_of;
-use flatten_tables::place::Places;
-use flatten_tables::walk::Tables;
-use flatten_tables::walk::of_automaton;
-use flatten_tables::walk::of_place;
-use flatten_tables::walk::of_state;
-use flatten_tables::walk::of_transition;
+use flatten_places::pair::channel_of;
+use flatten_places::place::Places;
+use flatten_places::walk::Tables;
+use flatten_places::walk::of_automaton;
+use flatten_places::walk::of_place;
+use flatten_places::walk::of_state;
+use flatten_places::walk::of_transition;
+use reading::field::byte_at;
 
 // Where a pair stands in the columns of pairs, of which there are so many.
 fn pair_position(states: &[u8; 64], marks: &[u8; 64], pairs: u8, state: u8, mark: u8) -> u8
@@ -54,7 +54,9 @@ fn to_child(
     q: u8,
     s: u8,
 ) -> u16
-    ensures { λ r. ⌜ ((c : Chart) → Tabulated c t → Spread c (now (exits .entry)) (now (homes .entry)) → Mem (idle q) (allPlaces c) → i ≡ number c (idle q) → Mem (child s) (allPlaces c) → parentOf c s ≡ q → Adds (now (heads .entry)) count (now (heads .exit)) r (map (λ p. ownEdge c (idle q) (child s) (signalling 2 (enterChannel c p))) (heardEntries c s))) ⌝ }
+    ensures { λ r. ⌜ ((c : Chart) → Tabulated c t → Spread c (now (exits .entry)) (now (homes .entry))
+        → Mem (idle q) (allPlaces c) → i ≡ number c (idle q) → Mem (child s) (allPlaces c) → parentOf c s ≡ q
+        → Adds (now (heads .entry)) count (now (heads .exit)) r (entryEdges c q s)) ⌝ }
 {
     let tree = t.tree;
     let parents = tree.parents;
@@ -117,7 +119,9 @@ fn from_pre(
     state: u8,
     mark: u8,
 ) -> u16
-    ensures { λ r. ⌜ ((c : Chart) (p : Pair) → Tabulated c t → Spread c (now (exits .entry)) (now (homes .entry)) → Mem (pre p) (allPlaces c) → i ≡ number c (pre p) → state ≡ p .state → mark ≡ p .mark → Adds (now (heads .entry)) count (now (heads .exit)) r (fromPlace c (pre p))) ⌝ }
+    ensures { λ r. ⌜ ((c : Chart) (p : Pair) → Tabulated c t → Spread c (now (exits .entry)) (now (homes .entry))
+        → Mem (pre p) (allPlaces c) → i ≡ number c (pre p) → state ≡ p .state → mark ≡ p .mark
+        → Adds (now (heads .entry)) count (now (heads .exit)) r (fromPlace c (pre p))) ⌝ }
 {
     let enters = t.enters;
     let states = enters.states;
@@ -168,7 +172,9 @@ fn to_idle(
     i: u8,
     s: u8,
 ) -> u16
-    ensures { λ r. ⌜ ((c : Chart) → Tabulated c t → Spread c (now (exits .entry)) (now (homes .entry)) → Mem (child s) (allPlaces c) → i ≡ number c (child s) → Adds (now (heads .entry)) count (now (heads .exit)) r (map (λ p. ownEdge c (child s) (idle (parentOf c s)) (signalling 2 (exitChannel c p))) (heardExits c s))) ⌝ }
+    ensures { λ r. ⌜ ((c : Chart) → Tabulated c t → Spread c (now (exits .entry)) (now (homes .entry))
+        → Mem (child s) (allPlaces c) → i ≡ number c (child s)
+        → Adds (now (heads .entry)) count (now (heads .exit)) r (exitEdges c s (parentOf c s))) ⌝ }
 {
     let tree = t.tree;
     let parents = tree.parents;
@@ -211,7 +217,10 @@ fn from_child(
     i: u8,
     s: u8,
 ) -> u16
-    ensures { λ r. ⌜ ((c : Chart) (n : Counts) → Tabulated c t → Spread c (now (exits .entry)) (now (homes .entry)) → Laid (now (rest .entry)) n (now (offsets .entry)) c → places ≡ length (allPlaces c) → Mem (child s) (allPlaces c) → i ≡ number c (child s) → Adds (now (heads .entry)) count (now (heads .exit)) r (fromPlace c (child s))) ⌝ }
+    ensures { λ r. ⌜ ((c : Chart) (n : Counts) → Tabulated c t → Spread c (now (exits .entry)) (now (homes .entry))
+        → Laid (now (rest .entry)) n (now (offsets .entry)) c → places ≡ length (allPlaces c)
+        → Mem (child s) (allPlaces c) → i ≡ number c (child s)
+        → Adds (now (heads .entry)) count (now (heads .exit)) r (fromPlace c (child s))) ⌝ }
 {
     let n = to_idle(heads, count, t, exits, homes, i, s);
     from_source(heads, n, t, exits, homes, rest, offsets, places, i, s)
@@ -232,7 +241,10 @@ fn from_place(
     value: u8,
     mark: u8,
 ) -> u16
-    ensures { λ r. ⌜ ((c : Chart) (n : Counts) (p : Place) → Tabulated c t → Spread c (now (exits .entry)) (now (homes .entry)) → Laid (now (rest .entry)) n (now (offsets .entry)) c → places ≡ length (allPlaces c) → Mem p (allPlaces c) → i ≡ number c p → kind ≡ kindOf p → value ≡ valueOf p → mark ≡ markOf p → Adds (now (heads .entry)) count (now (heads .exit)) r (fromPlace c p)) ⌝ }
+    ensures { λ r. ⌜ ((c : Chart) (n : Counts) (p : Place) → Tabulated c t → Spread c (now (exits .entry)) (now (homes .entry))
+        → Laid (now (rest .entry)) n (now (offsets .entry)) c → places ≡ length (allPlaces c)
+        → Mem p (allPlaces c) → i ≡ number c p → kind ≡ kindOf p → value ≡ valueOf p → mark ≡ markOf p
+        → Adds (now (heads .entry)) count (now (heads .exit)) r (fromPlace c p)) ⌝ }
 {
     match kind {
         0 => from_idle(heads, count, t, exits, homes, i, value),

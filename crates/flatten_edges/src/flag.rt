@@ -5,15 +5,15 @@ ghost use mathlib.Core.List.{List, List·Memᴰ as Mem};
 ghost use Prim.Native.Nat.{ℕ, _+_, _*_, _<_};
 ghost use lib.Dec.{eqb};
 ghost use lib.ListN.{length};
-ghost use Rattle.expr.specs.Label.{Label};
-ghost use Rattle.chart.specs.Chart.{Chart};
-ghost use Rattle.chart.specs.Tree.{sequentials};
+ghost use Rattle.labels.specs.Label.{Label};
+ghost use Rattle.chart_records.specs.Chart.{Chart};
+ghost use Rattle.chart_records.specs.Tree.{sequentials};
 ghost use Rattle.flattening.specs.Flatten.{Place, allPlaces, number, onValues, edge, ownEdge, signalling};
 ghost use Rattle.flatten_edges.specs.Gathering.{headOf};
 ghost use Rattle.flatten_edges.specs.Ends.{Flagged, Joins, Signalled, startOff};
 use crate::head::Head;
-use expr::field::byte_at;
-use expr::mark::has;
+use lists::mark::has;
+use reading::field::byte_at;
 
 // The numbers of the two places of an edge, the flags that it writes and their values.
 pub struct Ends {

@@ -2,7 +2,7 @@
 
 ghost use mathlib.Core.Path.{_≡_};
 ghost use mathlib.Core.List.{[], _∷_};
-ghost use Rattle.network.specs.Network.{Edge};
+ghost use Rattle.network_records.specs.Network.{Edge};
 ghost use Rattle.flatten_edges.specs.Gathering.{headOf, headBytes};
 ghost use Rattle.flatten_edges.specs.Adding.{Adds};
 

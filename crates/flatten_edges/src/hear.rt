@@ -1,25 +1,25 @@
 // The edges of the network's own: an automaton hears that a state is entered or left.
 ghost use mathlib.Core.Path.{_≡_};
 ghost use mathlib.Core.Bool.{cond, _&&_};
-ghost use mathlib.Core.List.{[], _∷_, map};
+ghost use mathlib.Core.List.{[], _∷_};
 ghost use Prim.Native.Nat.{ℕ, _<_};
 ghost use lib.ListN.{length};
-ghost use Rattle.expr.specs.Lists.{has};
-ghost use Rattle.chart.specs.Chart.{Chart};
-ghost use Rattle.chart.specs.Tree.{under, entered};
-ghost use Rattle.chart.specs.Table.{Rooted};
-ghost use Rattle.flattening.specs.Flatten.{Place, idle, child, enterChannel, exitChannel, signalling, ownEdge, heardEntries, heardExits};
+ghost use Rattle.lists.specs.Lists.{has};
+ghost use Rattle.chart_records.specs.Chart.{Chart};
+ghost use Rattle.chart_records.specs.Tree.{under, entered};
+ghost use Rattle.chart_tree.specs.Table.{Rooted};
+ghost use Rattle.flattening.specs.Flatten.{Place, idle, child, signalling, ownEdge};
 ghost use Rattle.flatten_edges.specs.Adding.{Adds};
 ghost use Rattle.flatten_edges.specs.Ends.{Joins};
-ghost use Rattle.flatten_edges.specs.Hearing.{Entering, HearsEntries, HearsExits};
+ghost use Rattle.flatten_edges.specs.Hearing.{Entering, HearsEntries, HearsExits, entryEdges, exitEdges};
 use crate::flag::Ends;
 use crate::flag::own_head;
 use crate::head::push;
-use chart::table::marks_at;
-use chart::table::under;
-use expr::field::byte_at;
-use expr::mark::has;
-use flatten_tables::pair::channel_of;
+use chart_tree::table::marks_at;
+use chart_tree::table::under;
+use flatten_places::pair::channel_of;
+use lists::mark::has;
+use reading::field::byte_at;
 
 // Whether entering d by an entry enters s.
 fn enters(parents: &[u8; 48], entries: &[u16; 48], d: u8, e: u8, s: u8) -> bool
@@ -74,7 +74,8 @@ pub fn hear_entries(
     pairs: u8,
     before: u8,
 ) -> u16
-    ensures { λ r. ⌜ ((c : Chart) → HearsEntries c e (now (parents .entry)) (now (entries .entry)) q s (now (states .entry)) (now (marks .entry)) pairs before → Adds (now (heads .entry)) count (now (heads .exit)) r (map (λ p. ownEdge c (idle q) (child s) (signalling 2 (enterChannel c p))) (heardEntries c s))) ⌝ }
+    ensures { λ r. ⌜ ((c : Chart) → HearsEntries c e (now (parents .entry)) (now (entries .entry)) q s (now (states .entry)) (now (marks .entry)) pairs before
+        → Adds (now (heads .entry)) count (now (heads .exit)) r (entryEdges c q s)) ⌝ }
 {
     let own = marks_at(entries, s as usize);
     let mut n = count;
@@ -112,7 +113,8 @@ pub fn hear_exits(
     pairs: u8,
     before: u8,
 ) -> u16
-    ensures { λ r. ⌜ ((c : Chart) (s : ℕ) → HearsExits c s e (now (parents .entry)) below q (now (states .entry)) (now (marks .entry)) pairs before → Adds (now (heads .entry)) count (now (heads .exit)) r (map (λ p. ownEdge c (child s) (idle q) (signalling 2 (exitChannel c p))) (heardExits c s))) ⌝ }
+    ensures { λ r. ⌜ ((c : Chart) (s : ℕ) → HearsExits c s e (now (parents .entry)) below q (now (states .entry)) (now (marks .entry)) pairs before
+        → Adds (now (heads .entry)) count (now (heads .exit)) r (exitEdges c s q)) ⌝ }
 {
     let mut n = count;
     let mut k = 0;

@@ -1,6 +1,4 @@
 // The edges of a network, gathered from the tables of its chart. All of them are in `edge`, what is kept of each in `head`.
-mod alternative;
-pub mod ascending;
 mod bear;
 pub mod edge;
 mod flag;

@@ -1,21 +1,20 @@
 // The edges that bear the transitions from a state.
 ghost use mathlib.Core.Path.{_≡_};
-ghost use mathlib.Core.List.{List·Memᴰ as Mem};
-ghost use Prim.Native.Nat.{ℕ, _≤_};
+ghost use Prim.Native.Nat.{_≤_};
 ghost use lib.ListN.{length};
-ghost use Rattle.expr.specs.Lists.{concat};
-ghost use Rattle.chart.specs.Chart.{Chart};
-ghost use Rattle.chart.specs.Laid.{Laid};
-ghost use Rattle.chart.specs.declared.header.Counts.{Counts};
-ghost use Rattle.flattening.specs.Flatten.{Place, child, allPlaces, number, bearingAll};
-ghost use Rattle.flatten_tables.specs.Tables.{ColumnOf};
-ghost use Rattle.flatten_tables.specs.Walking.{Tabulated, Spread};
+ghost use Rattle.lists.specs.Lists.{concat};
+ghost use Rattle.chart_records.specs.Chart.{Chart};
+ghost use Rattle.chart_records.specs.Laid.{Laid};
+ghost use Rattle.chart_records.specs.declared.header.Counts.{Counts};
+ghost use Rattle.flattening.specs.Flatten.{child, allPlaces, number, bearingAll};
+ghost use Rattle.flatten_places.specs.Tables.{ColumnOf};
+ghost use Rattle.flatten_places.specs.Walking.{Tabulated, Spread};
 ghost use Rattle.flatten_edges.specs.Adding.{Adds};
-ghost use Rattle.flatten_edges.specs.Sourcing.{Sourced, Least};
+ghost use Rattle.flatten_edges.specs.Sourcing.{Sourced, Least, BearsAll};
 use crate::bear::bear;
-use flatten_tables::transition::Transitions;
-use flatten_tables::walk::Tables;
-use flatten_tables::walk::of_transition;
+use flatten_places::transition::Transitions;
+use flatten_places::walk::Tables;
+use flatten_places::walk::of_transition;
 
 // The transitions from a state, ascending.
 pub struct Sources {
@@ -81,8 +80,12 @@ fn to_place(
     size: u8,
     i: u8,
     j: u8,
+    sets: &mut [u16; 1024],
+    listed: &mut [usize; 2],
 ) -> u16
-    ensures { λ r. ⌜ ((c : Chart) (counts : Counts) (s : ℕ) (q : Place) → Tabulated c t → Spread c (now (exits .entry)) (now (homes .entry)) → Laid (now (rest .entry)) counts (now (offsets .entry)) c → Sourced c s (now (items .entry)) size → i ≡ number c (child s) → j ≡ number c q → Mem q (allPlaces c) → Adds (now (heads .entry)) count (now (heads .exit)) r (bearingAll c s q)) ⌝ }
+    ensures { λ r. ⌜ BearsAll t (now (exits .entry)) (now (homes .entry)) (now (rest .entry)) (now (offsets .entry)) (now (items .entry)) size i j
+        (now (heads .entry)) count (now (heads .exit)) r
+        (now (sets .entry)) (now (listed .entry)) (now (sets .exit)) (now (listed .exit)) ⌝ }
 {
     let departures = t.departures;
     let mut n = count;
@@ -90,7 +93,20 @@ fn to_place(
     while k < size {
         let u = of_transition(items, k);
         if of_transition(&departures, u) == j {
-            n = bear(heads, n, t, exits, homes, rest, offsets, i, j, u);
+            n = bear(
+                heads,
+                n,
+                t,
+                exits,
+                homes,
+                rest,
+                offsets,
+                i,
+                j,
+                u,
+                sets,
+                listed,
+            );
         }
         k += 1;
     }
@@ -110,7 +126,9 @@ pub fn from_source(
     i: u8,
     s: u8,
 ) -> u16
-    ensures { λ r. ⌜ ((c : Chart) (counts : Counts) → Tabulated c t → Spread c (now (exits .entry)) (now (homes .entry)) → Laid (now (rest .entry)) counts (now (offsets .entry)) c → places ≡ length (allPlaces c) → i ≡ number c (child s) → Adds (now (heads .entry)) count (now (heads .exit)) r (concat (bearingAll c s) (allPlaces c))) ⌝ }
+    ensures { λ r. ⌜ ((c : Chart) (counts : Counts) → Tabulated c t → Spread c (now (exits .entry)) (now (homes .entry))
+        → Laid (now (rest .entry)) counts (now (offsets .entry)) c → places ≡ length (allPlaces c) → i ≡ number c (child s)
+        → Adds (now (heads .entry)) count (now (heads .exit)) r (concat (bearingAll c s) (allPlaces c))) ⌝ }
 {
     let transitions = t.transitions;
     let sources = transitions.sources;
@@ -120,8 +138,27 @@ pub fn from_source(
     let size = mine.count;
     let mut n = count;
     let mut j = next_departure(&departures, &items, size, 0);
+    if j >= places {
+        return count;
+    }
+    let mut sets = [0; 1024];
+    let mut listed = [255, 0]; // no exit's
     while j < places {
-        n = to_place(heads, n, t, exits, homes, rest, offsets, &items, size, i, j);
+        n = to_place(
+            heads,
+            n,
+            t,
+            exits,
+            homes,
+            rest,
+            offsets,
+            &items,
+            size,
+            i,
+            j,
+            &mut sets,
+            &mut listed,
+        );
         if n > 1024 {
             return 1025;
         }

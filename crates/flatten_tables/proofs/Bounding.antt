@@ -10,24 +10,24 @@ use borrow.Author.Tests.{eq-eqb, ne-eqb, lt-ltb, ltb-true}
 use lib.Dec.{ltb, eqb}
 use lib.ListN.{length, getD, set, drop, replicate, getD-replicate, List·getD-eq-default}
 use lib.Seq.{getD-set-same, getD-set-other}
-use Rattle.expr.specs.Clocks.{free, join, joinTables}
-use Rattle.expr.specs.Lists.{below, keep}
-use Rattle.expr.proofs.Bools.{and-l, and-r}
-use Rattle.expr.proofs.Lists.{getD-mapped, keep-next, keep-left}
-use Rattle.expr.proofs.Clocks.{getD-joinTables}
-use Rattle.chart.specs.Chart.{Chart, State, stateAt, transitionAt, states, parentOf, parallel}
-use Rattle.chart.specs.Tree.{entered}
-use Rattle.chart.specs.Table.{Column, Rooted, adding}
-use Rattle.chart.specs.declared.table.Tree.{Tree}
-use Rattle.chart.proofs.Tree.{size, Parents, parents-at}
-use Rattle.chart.proofs.Tables.{below-next, below-end}
-use Rattle.chart.proofs.Ranges.{chart-at}
+use Rattle.clocks.specs.Clocks.{free, join, joinTables}
+use Rattle.lists.specs.Lists.{below, keep}
+use Rattle.lists.proofs.Bools.{and-l, and-r}
+use Rattle.lists.proofs.Below.{getD-mapped, below-next, below-end}
+use Rattle.lists.proofs.Lists.{keep-next, keep-left}
+use Rattle.clocks.proofs.Clocks.{getD-joinTables}
+use Rattle.chart_records.specs.Chart.{Chart, State, stateAt, transitionAt, states, parentOf, parallel}
+use Rattle.chart_records.specs.Tree.{entered}
+use Rattle.chart_tree.specs.Table.{Column, Rooted, adding}
+use Rattle.chart_tree.specs.declared.table.Tree.{Tree}
+use Rattle.chart_records.proofs.Tree.{size, Parents, parents-at}
+use Rattle.chart_records.proofs.Ranges.{chart-at}
 use Rattle.flattening.specs.Flatten.{Place, idle, child, pre, post, allPlaces, hasEntry, own, carriedFrom, joined, joinAll, preBounds, arrival, arrivalBounds, boundsOf}
 use Rattle.flattening.proofs.Numbers.{all-places-at}
 use Rattle.flattening.proofs.Arrivals.{ends}
 use Rattle.flattening.proofs.Bounds.{enough}
-use Rattle.flatten_tables.specs.Tables.{Chartered, Columned, kindOf, valueOf, markOf}
-use Rattle.flatten_tables.specs.declared.transition.Transitions.{Transitions}
+use Rattle.flatten_places.specs.Tables.{Chartered, Columned, kindOf, valueOf, markOf}
+use Rattle.flatten_places.specs.declared.transition.Transitions.{Transitions}
 use Rattle.flatten_tables.specs.Bounding.{RowsOf, aboveOf, Bounded}
 
 -- rows of the first states
@@ -135,7 +135,7 @@ joins c f k = joinAll (map (joined c) (keep f (drop k (states c))))
 
 pub joins-none : (c : Chart) (f : ℕ → Bool) → size c ≤ 48 → free ≡ joins c f 48
 unfolding joins states keep joinAll
-joins-none c f h = rw (below-end (size c) 48 h)
+joins-none c f h = rw (below-end {m = size c} refl 48 h)
 
 -- the set of the states that pass
 module _ (c : Chart) (f : ℕ → Bool) (set : List Bool) (S : set ≡ adding 48 c f (replicate 48 false)) where
@@ -150,7 +150,7 @@ module _ (c : Chart) (f : ℕ → Bool) (set : List Bool) (S : set ≡ adding 48
         let both : (ltb (n - 1) (size c) && f (n - 1)) ≡ true = sym (in-set (n - 1) (omega arith)) ∙ h in
         let known = ltb-true (n - 1) (size c) (and-l (ltb (n - 1) (size c)) (f (n - 1)) both) in
         let there = and-r (ltb (n - 1) (size c)) (f (n - 1)) both in
-        let left : drop (n - 1) (below (size c)) ≡ (n - 1) ∷ drop n (below (size c)) = below-next (size c) (n - 1) known ∙ ap (λ (k : ℕ). (n - 1) ∷ drop k (below (size c))) (let z : n - 1 + 1 ≡ n = omega arith in z) in
+        let left : drop (n - 1) (below (size c)) ≡ (n - 1) ∷ drop n (below (size c)) = below-next refl (n - 1) known ∙ ap (λ (k : ℕ). (n - 1) ∷ drop k (below (size c))) (let z : n - 1 + 1 ≡ n = omega arith in z) in
         rw (keep-next f left there) (g ∙ ap (λ (x : List ℕ). join x row) (B (n - 1) known) ∙ ap (join (joined c (n - 1))) e)
 
     pub joins-out : getD set (n - 1) false ≡ false → {row : List ℕ} → row ≡ joins c f n → row ≡ joins c f (n - 1)
@@ -158,9 +158,9 @@ module _ (c : Chart) (f : ℕ → Bool) (set : List Bool) (S : set ≡ adding 48
     joins-out h {row} e = elim (decLt (n - 1) (size c)) [
       | yes known ↦
           let not : f (n - 1) ≡ false = sym (rw (lt-ltb (n - 1) (size c) known)) ∙ sym (in-set (n - 1) (omega arith)) ∙ h in
-          let left : drop (n - 1) (below (size c)) ≡ (n - 1) ∷ drop n (below (size c)) = below-next (size c) (n - 1) known ∙ ap (λ (k : ℕ). (n - 1) ∷ drop k (below (size c))) (let z : n - 1 + 1 ≡ n = omega arith in z) in
+          let left : drop (n - 1) (below (size c)) ≡ (n - 1) ∷ drop n (below (size c)) = below-next refl (n - 1) known ∙ ap (λ (k : ℕ). (n - 1) ∷ drop k (below (size c))) (let z : n - 1 + 1 ≡ n = omega arith in z) in
           rw (keep-left f left not) e
-      | no past ↦ rw (below-end (size c) (n - 1) (omega arith)) (e ∙ ap (λ (l : List ℕ). joinAll (map (joined c) (keep f l))) (below-end (size c) n (omega arith)))
+      | no past ↦ rw (below-end {m = size c} {k = size c} refl (n - 1) (omega arith)) (e ∙ ap (λ (l : List ℕ). joinAll (map (joined c) (keep f l))) (below-end {m = size c} {k = size c} refl n (omega arith)))
     ]
 
 pub joins-all : (c : Chart) (d e n : ℕ) → n ≡ 0 → {row : List ℕ} → row ≡ joins c (entered c d e) n → row ≡ preBounds c (record { state = d; mark = e })

@@ -10,29 +10,32 @@ use borrow.Author.Tests.{eq-eqb, ne-eqb, lt-ltb}
 use lib.Dec.{ltb, eqb}
 use lib.ListN.{length, getD, set, take, drop, length-map, length-set}
 use lib.Seq.{getD-set-same, getD-set-other, getD-take}
-use Rattle.expr.specs.Lists.{has, keep}
-use Rattle.expr.specs.Answer as answer
-use Rattle.expr.proofs.Answer.{unless-at, then-at}
-use Rattle.expr.proofs.Bools.{cond-yes, cond-no, not-yes, not-no}
-use Rattle.expr.proofs.Lists.{Once, position-some, getD-map, getD-mapped, getD-mem, any-at, keep-keep}
-use Rattle.expr.proofs.Pairwise.{once-getD, map-once-on}
-use Rattle.chart.specs.Chart.{Chart, stateAt, transitionAt, states, readChart}
-use Rattle.chart.specs.Tree.{isChild, children, sequentials, entered}
-use Rattle.chart.specs.Rules.{parents, entryMarks, stateRules, keepsRules, chartOf}
-use Rattle.chart.specs.Table.{Tabled}
-use Rattle.chart.specs.declared.table.Tree.{Tree}
-use Rattle.chart.proofs.Rules.{passed-at}
-use Rattle.chart.proofs.Ranges.{Ranges}
+use Rattle.lists.specs.Lists.{has, keep}
+use Rattle.reading.specs.Answer as answer
+use Rattle.reading.proofs.Answer.{unless-at, then-at}
+use Rattle.lists.proofs.Bools.{cond-yes, cond-no, not-yes, not-no}
+use Rattle.lists.proofs.Once.{Once}
+use Rattle.lists.proofs.Position.{position-some}
+use Rattle.lists.proofs.Lists.{getD-map, getD-mem, any-at, keep-keep}
+use Rattle.lists.proofs.Below.{getD-mapped}
+use Rattle.lists.proofs.Pairwise.{once-getD, map-once-on}
+use Rattle.chart_records.specs.Chart.{Chart, stateAt, transitionAt, states, readChart}
+use Rattle.chart_records.specs.Tree.{isChild, children, sequentials, entered}
+use Rattle.chart_records.specs.Rules.{parents, entryMarks, stateRules, keepsRules, chartOf}
+use Rattle.chart_tree.specs.Table.{Tabled}
+use Rattle.chart_tree.specs.declared.table.Tree.{Tree}
+use Rattle.chart_records.proofs.Rules.{passed-at}
+use Rattle.chart_records.proofs.Ranges.{Ranges}
 use Rattle.flattening.specs.Flatten.{Pair, Place, idle, child, pre, post, allPlaces, number, samePlace, hasExit, hasEntry, arrival, departure, placeHome, initialPlace, markedChild}
 use Rattle.flattening.proofs.Automata.{Region, region-at}
 use Rattle.flattening.proofs.Numbers.{IsPlace, idle-place, same-place-at, all-places-at, all-places-once, number-lt, place-of-number}
 use Rattle.flattening.proofs.Arrivals.{arrival-place, departure-place, initial-place}
-use Rattle.flatten_tables.specs.Tables.{Chartered, Listed, kindOf, valueOf, markOf}
+use Rattle.flatten_places.specs.Tables.{Chartered, Listed, kindOf, valueOf, markOf}
 use Rattle.flatten_tables.specs.Numbering.{slotOf, slotAt, Numbered, startSet}
-use Rattle.flatten_tables.specs.declared.place.Places.{Places}
-use Rattle.flatten_tables.proofs.Chartered.{passed-of, ranges-of}
-use Rattle.flatten_tables.proofs.Placing.{child-test}
-use Rattle.flatten_tables.proofs.StateWalks.{walk-yes, walk-no, walk-end}
+use Rattle.flatten_places.specs.declared.place.Places.{Places}
+use Rattle.flatten_places.proofs.Chartered.{passed-of, ranges-of}
+use Rattle.flatten_places.proofs.Placing.{child-test}
+use Rattle.flatten_places.proofs.StateWalks.{walk-yes, walk-no, walk-end}
 
 -- a slot by the place's row
 pub slot-row : (x : Place) → slotAt (kindOf x) (valueOf x) (markOf x) ≡ slotOf x

@@ -6,23 +6,23 @@ use native.Mathlib.Omega.{arith}
 use native.Mathlib.Decide.{ℕ-discrete}
 use lib.ListN.{length, getD, set, length-set}
 use lib.Seq.{getD-set-same, getD-set-other}
-use Rattle.chart.specs.Chart.{Chart}
-use Rattle.chart.specs.Tree.{sequentials}
-use Rattle.chart.specs.Layout.{Stated}
-use Rattle.chart.specs.Laid.{Laid}
-use Rattle.chart.specs.Table.{Tabled}
+use Rattle.chart_records.specs.Chart.{Chart}
+use Rattle.chart_records.specs.Tree.{sequentials}
+use Rattle.chart_records.specs.Layout.{Stated}
+use Rattle.chart_records.specs.Laid.{Laid}
+use Rattle.chart_tree.specs.Table.{Tabled}
 use Rattle.chart.specs.Ready.{Ready}
-use Rattle.chart.specs.declared.table.Tree.{Tree}
-use Rattle.chart.specs.declared.header.Counts.{Counts}
-use Rattle.chart.proofs.Ranges.{chart-at, CountRanges, counts-range}
+use Rattle.chart_tree.specs.declared.table.Tree.{Tree}
+use Rattle.chart_records.specs.declared.header.Counts.{Counts}
+use Rattle.chart_records.proofs.Ranges.{chart-at, CountRanges, counts-range}
 use Rattle.flattening.specs.Flatten.{child, allPlaces}
 use Rattle.flattening.proofs.Numbers.{all-places-at, number-lt}
-use Rattle.flatten_tables.specs.Tables.{Chartered, Listed}
-use Rattle.flatten_tables.specs.Walking.{ChildNumbers, Tabulated}
+use Rattle.flatten_places.specs.Tables.{Chartered, Listed}
+use Rattle.flatten_places.specs.Walking.{ChildNumbers, Tabulated}
 use Rattle.flatten_tables.specs.Numbering.{Numbered}
 use Rattle.flatten_tables.specs.Summing.{Summed}
-use Rattle.flatten_tables.specs.declared.place.Places.{Places}
-use Rattle.flatten_tables.specs.declared.walk.Tables.{Tables}
+use Rattle.flatten_places.specs.declared.place.Places.{Places}
+use Rattle.flatten_places.specs.declared.walk.Tables.{Tables}
 
 -- the part of the table of numbers that children have
 pub record Parted (numbers children : List ℕ) (n : ℕ) : Type 0 where

@@ -4,10 +4,10 @@ use mathlib.Core.Path.{_≡_}
 use mathlib.Core.Bool.{true}
 use mathlib.Core.List.{List, []}
 use lib.ListN.{getD, length}
-use Rattle.chart.specs.Chart.{Chart, parentOf}
-use Rattle.chart.specs.Rules.{parents, entryMarks}
-use Rattle.chart.specs.Table.{Tabled}
-use Rattle.chart.specs.declared.table.Tree.{Tree}
+use Rattle.chart_records.specs.Chart.{Chart, parentOf}
+use Rattle.chart_records.specs.Rules.{parents, entryMarks}
+use Rattle.chart_tree.specs.Table.{Tabled}
+use Rattle.chart_tree.specs.declared.table.Tree.{Tree}
 use Rattle.flattening.specs.Flatten.{carriedFrom, joined}
 
 -- a table has such a row of each state of the chart

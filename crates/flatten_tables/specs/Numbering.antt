@@ -5,9 +5,9 @@ use mathlib.Core.Bool.{Bool, cond, _&&_}
 use mathlib.Core.List.{List, map}
 use lib.Dec.{ltb, eqb}
 use lib.ListN.{getD, length}
-use Rattle.expr.specs.Lists.{below}
-use Rattle.chart.specs.Chart.{Chart}
-use Rattle.chart.specs.Tree.{sequentials, entered}
+use Rattle.lists.specs.Lists.{below}
+use Rattle.chart_records.specs.Chart.{Chart}
+use Rattle.chart_records.specs.Tree.{sequentials, entered}
 use Rattle.flattening.specs.Flatten.{Place, idle, child, pre, post, allPlaces, number, initialPlace}
 
 -- where a place's number stands

@@ -2,10 +2,10 @@
 use Prim.Native.Nat.{_+_}
 use mathlib.Core.Path.{_≡_}
 use lib.ListN.{length}
-use Rattle.chart.specs.Chart.{Chart}
-use Rattle.chart.specs.Tree.{sequentials}
+use Rattle.chart_records.specs.Chart.{Chart}
+use Rattle.chart_records.specs.Tree.{sequentials}
 use Rattle.flattening.specs.Flatten.{allPlaces, enterPairs, exitPairs}
-use Rattle.flatten_tables.specs.Tables.{Chartered, Columned, Listed}
+use Rattle.flatten_places.specs.Tables.{Chartered, Columned, Listed}
 use Rattle.flatten_tables.specs.Numbering.{Starting}
 use Rattle.flatten_tables.specs.declared.summary.Summary.{Summary}
 

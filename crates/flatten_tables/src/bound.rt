@@ -4,23 +4,23 @@ ghost use mathlib.Core.Bool.{true};
 ghost use mathlib.Core.List.{List·Memᴰ};
 ghost use Prim.Native.Nat.{suc, _<_};
 ghost use lib.ListN.{length};
-ghost use Rattle.chart.specs.Chart.{Chart};
-ghost use Rattle.chart.specs.Rules.{parents, entryMarks};
-ghost use Rattle.chart.specs.Layout.{Stated};
-ghost use Rattle.chart.specs.Table.{Column, Rooted, Tabled};
-ghost use Rattle.chart.specs.declared.table.Tree.{Tree};
+ghost use Rattle.chart_records.specs.Chart.{Chart};
+ghost use Rattle.chart_records.specs.Rules.{parents, entryMarks};
+ghost use Rattle.chart_records.specs.Layout.{Stated};
+ghost use Rattle.chart_tree.specs.Table.{Column, Rooted, Tabled};
+ghost use Rattle.chart_tree.specs.declared.table.Tree.{Tree};
 ghost use Rattle.flattening.specs.Flatten.{Place, own, carriedFrom, joined, preBounds, arrival, arrivalBounds, boundsOf, allPlaces};
-ghost use Rattle.flatten_tables.specs.Tables.{Chartered, Columned, kindOf, valueOf, markOf};
+ghost use Rattle.flatten_places.specs.Tables.{Chartered, Columned, kindOf, valueOf, markOf};
 ghost use Rattle.flatten_tables.specs.Bounding.{RowsOf, aboveOf, Bounded};
-use crate::place::Places;
-use crate::transition::Transitions;
-use chart::entry::entered;
-use chart::header::Counts;
-use chart::state::bounds_of;
-use chart::table::Tree;
-use expr::clock::join;
-use expr::clock::join_tables;
-use expr::field::byte_at;
+use chart_records::header::Counts;
+use chart_records::state::bounds_of;
+use chart_tree::entry::entered;
+use chart_tree::table::Tree;
+use clocks::clock::join;
+use clocks::clock::join_tables;
+use flatten_places::place::Places;
+use flatten_places::transition::Transitions;
+use reading::field::byte_at;
 
 // The bounds of each state.
 fn own_bounds(rest: &[u8], counts: Counts) -> [[u32; 8]; 48]

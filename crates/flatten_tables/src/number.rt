@@ -3,21 +3,21 @@ ghost use Prim.Native.Nat.{ℕ, _<_};
 ghost use mathlib.Core.Path.{_≡_};
 ghost use mathlib.Core.Bool.{true};
 ghost use lib.ListN.{length, getD};
-ghost use Rattle.chart.specs.Chart.{Chart, transitionAt, sequential};
-ghost use Rattle.chart.specs.Table.{Tabled};
+ghost use Rattle.chart_records.specs.Chart.{Chart, transitionAt, sequential};
+ghost use Rattle.chart_tree.specs.Table.{Tabled};
 ghost use Rattle.flattening.specs.Flatten.{allPlaces, number, arrival, departure, markedChild, initialPlace};
-ghost use Rattle.flatten_tables.specs.Tables.{Chartered, Columned, Automated, Listed, Departing, Arriving};
+ghost use Rattle.flatten_places.specs.Tables.{Chartered, Columned, Automated, Listed, Departing, Arriving};
 ghost use Rattle.flatten_tables.specs.Numbering.{slotAt, Numbered, Idling, Starting, startSet};
-use crate::automaton::Automata;
-use crate::place::Places;
-use crate::place::is_child;
-use crate::transition::Transitions;
-use chart::entry::start_active;
-use chart::table::Tree;
-use chart::table::is_in;
-use chart::table::marks_at;
-use expr::field::byte_at;
-use expr::mark::has;
+use chart_tree::entry::start_active;
+use chart_tree::table::Tree;
+use chart_tree::table::is_in;
+use chart_tree::table::marks_at;
+use flatten_places::automaton::Automata;
+use flatten_places::place::Places;
+use flatten_places::place::is_child;
+use flatten_places::transition::Transitions;
+use lists::mark::has;
+use reading::field::byte_at;
 
 // Where a place's number stands in the table of numbers.
 fn slot(kind: u8, value: u8, mark: u8) -> usize

@@ -1,8 +1,8 @@
 // What is known of a chart when its network is written.
-use crate::place::Places;
-use crate::transition::Transitions;
-use chart::header::Counts;
-use chart::table::Tree;
+use chart_records::header::Counts;
+use chart_tree::table::Tree;
+use flatten_places::place::Places;
+use flatten_places::transition::Transitions;
 
 // The counts, states, transitions and places of the chart, the number of each automaton's initial place, and how many
 // automata and broadcast channels the network has.

@@ -2,31 +2,31 @@
 ghost use mathlib.Core.Path.{_≡_};
 ghost use mathlib.Core.List.{List};
 ghost use Prim.Native.Nat.{ℕ};
-ghost use Rattle.chart.specs.Chart.{Chart};
-ghost use Rattle.chart.specs.Layout.{Stated};
-ghost use Rattle.chart.specs.Table.{Tabled};
+ghost use Rattle.chart_records.specs.Chart.{Chart};
+ghost use Rattle.chart_records.specs.Layout.{Stated};
+ghost use Rattle.chart_tree.specs.Table.{Tabled};
 ghost use Rattle.flattening.specs.Flatten.{enterPairs, allPlaces};
-ghost use Rattle.flatten_tables.specs.Tables.{Chartered, Columned, Automated, Paired, Listed};
-ghost use Rattle.flatten_tables.specs.Walking.{ChildNumbers, Tabulated};
+ghost use Rattle.flatten_places.specs.Tables.{Chartered, Columned, Automated, Paired, Listed};
+ghost use Rattle.flatten_places.specs.Walking.{ChildNumbers, Tabulated};
 ghost use Rattle.flatten_tables.specs.Numbering.{Numbered};
 ghost use Rattle.flatten_tables.specs.Summing.{Summed};
-use crate::automaton::Automata;
-use crate::below::marked_below;
 use crate::number::arrivals;
 use crate::number::departures;
 use crate::number::firsts;
 use crate::number::initials;
 use crate::number::numbers_of;
-use crate::pair::Pairs;
-use crate::pair::channel_of;
-use crate::pair::exit_pairs;
-use crate::place::Places;
 use crate::summary::Summary;
-use crate::transition::Transitions;
-use crate::walk::Tables;
-use chart::header::Counts;
-use chart::table::Tree;
-use expr::field::byte_at;
+use chart_records::header::Counts;
+use chart_tree::table::Tree;
+use flatten_places::automaton::Automata;
+use flatten_places::below::marked_below;
+use flatten_places::pair::Pairs;
+use flatten_places::pair::channel_of;
+use flatten_places::pair::exit_pairs;
+use flatten_places::place::Places;
+use flatten_places::transition::Transitions;
+use flatten_places::walk::Tables;
+use reading::field::byte_at;
 
 // The numbers of the places of children.
 fn child_numbers(numbers: &[u8]) -> [u8; 48]

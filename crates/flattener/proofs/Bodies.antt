@@ -9,19 +9,19 @@ use borrow.Author.Tests.{leb-true, eq-eqb, ne-eqb}
 use lib.Dec.{leb}
 use lib.ListN.{length, getD, take, drop, length-drop}
 use lib.Seq.{take-add, drop-at, drop-drop, length-take-le}
-use Rattle.expr.specs.Reading.{Fault, got, fault, Reader, _>>=_, byte, byte2, such, framed, whole, recorded}
-use Rattle.expr.specs.Guard.{Limits}
-use Rattle.expr.specs.Label.{Label, body, label}
-use Rattle.expr.specs.Places.{onward}
-use Rattle.expr.proofs.Reading.{no-answer, next-at, bind-at, such-at, yield-at, got-value}
-use Rattle.expr.proofs.Places.{length-onward, onward-onward}
-use Rattle.expr.proofs.InFront.{field-at}
-use Rattle.expr.proofs.Sizes.{byte-takes, byte2-takes}
-use Rattle.chart.specs.Chart.{Chart, Transition, transition, transitionAt}
-use Rattle.chart.specs.Layout.{transitionBy}
-use Rattle.chart.specs.Laid.{Laid}
-use Rattle.chart.specs.declared.header.Counts.{Counts}
-use Rattle.network.specs.Network.{Edge}
+use Rattle.reading.specs.Reading.{Fault, got, fault, Reader, _>>=_, byte, byte2, such, framed, whole, recorded}
+use Rattle.labels.specs.Guard.{Limits}
+use Rattle.labels.specs.Label.{Label, body, label}
+use Rattle.reading.specs.Places.{onward}
+use Rattle.reading.proofs.Reading.{no-answer, next-at, bind-at, such-at, yield-at, got-value}
+use Rattle.reading.proofs.Places.{length-onward, onward-onward}
+use Rattle.reading.proofs.InFront.{field-at}
+use Rattle.reading.proofs.Sizes.{byte-takes, byte2-takes}
+use Rattle.chart_records.specs.Chart.{Chart, Transition, transition, transitionAt}
+use Rattle.chart_records.specs.Layout.{transitionBy}
+use Rattle.chart_records.specs.Laid.{Laid}
+use Rattle.chart_records.specs.declared.header.Counts.{Counts}
+use Rattle.network_records.specs.Network.{Edge}
 use Rattle.flattening.specs.Flatten.{Place, idle, child, pre, post, signalling, edge, ownEdge, flatten}
 use Rattle.flattening.proofs.Edges.{Bears, Leaves, edges-at}
 use Rattle.flattener.specs.Records.{bodyOf, Named, Bodied}

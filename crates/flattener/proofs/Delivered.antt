@@ -1,17 +1,19 @@
 -- What the operation answers for a chart that passes.
 use mathlib.Core.Path.{_≡_, refl, sym, ap, _∙_, subst}
+use mathlib.Core.Bool.{Bool, true, false}
 use mathlib.Core.List.{List}
 use Prim.Native.Nat.{ℕ, _+_, _≤_, _<_}
 use native.Mathlib.Omega.{arith}
-use borrow.Author.Tests.{le-leb, lt-leb}
+use borrow.Author.Tests.{le-leb, lt-leb, leb-true}
+use lib.Dec.{leb}
 use lib.ListN.{length}
-use Rattle.expr.specs.Answer.{Answer, done, refused, unless, _>>=_}
-use Rattle.network.specs.Network.{Network}
-use Rattle.chart.specs.Chart.{Chart}
-use Rattle.chart.specs.Rules.{chartOf}
+use Rattle.reading.specs.Answer.{Answer, done, refused, unless, _>>=_}
+use Rattle.network_records.specs.Network.{Network}
+use Rattle.chart_records.specs.Chart.{Chart}
+use Rattle.chart_records.specs.Rules.{chartOf}
 use Rattle.chart.specs.Ready.{Ready}
-use Rattle.chart.specs.declared.header.Counts.{Counts}
-use Rattle.chart.specs.declared.table.Tree.{Tree}
+use Rattle.chart_records.specs.declared.header.Counts.{Counts}
+use Rattle.chart_tree.specs.declared.table.Tree.{Tree}
 use Rattle.flattening.specs.Flatten.{flatten}
 use Rattle.flattening.specs.File.{out4, recordBytes, contentBytes, networkBytes, fitted, flattenOf}
 use Rattle.flatten_tables.specs.Summing.{Summed}
@@ -59,7 +61,8 @@ module _ (c : Chart) (s : Summary) (S : Summed c s) {heads : List ℕ} {edges : 
   pub delivered-long : edges ≤ 1024 → {size : ℕ} → size ≡ length (contentBytes (flatten c)) → length before < 5 + size → Answered (networkFor (length before) c) before (Fl.Refused 16) before
   delivered-long h e k = answered-by _ (refused 16) (too-long c (length before) (few h) (omega (arith, file-length (flatten c) e))) refl refl
 
-  pub delivered-all : edges ≤ 1024 → {size : ℕ} → size ≡ length (contentBytes (flatten c)) → 5 + size ≤ length before → {after : List ℕ} {end : ℕ} → Wrote before 0 (networkBytes (flatten c)) after end → Answered (networkFor (length before) c) before (Fl.Length (5 + size)) after
+  pub delivered-all : edges ≤ 1024 → {size : ℕ} → size ≡ length (contentBytes (flatten c)) → 5 + size ≤ length before
+      → {after : List ℕ} {end : ℕ} → Wrote before 0 (networkBytes (flatten c)) after end → Answered (networkFor (length before) c) before (Fl.Length (5 + size)) after
   delivered-all h e k w =
       let l = file-length (flatten c) e in
       let fits : length (networkBytes (flatten c)) ≤ length before = omega arith in
@@ -73,3 +76,29 @@ flatten-refused file before {k} h = answered-by _ (refused k) (rw h) refl refl
 pub flatten-passed : (file : List ℕ) (before : List ℕ) {c : Chart} → chartOf file ≡ done c → {r : Flattened} {after : List ℕ} → Answered (networkFor (length before) c) before r after → Answered (flattenOf file (length before)) before r after
 unfolding flattenOf _>>=_
 flatten-passed file before h {r} {after} a = subst (λ (x : Answer (List ℕ)). Answered x before r after) (rw h) a
+
+-- a length that is answered is within the buffer
+abbrev Within : ℕ → Flattened → Type 0
+Within room (Fl.Length n) = n ≤ room
+Within room (Fl.Refused k) = Unit {0}
+
+within-fitted : (room : ℕ) (s : List ℕ) → Within room (flattenedOf (fitted room s))
+unfolding unless fitted
+within-fitted room s = go (leb (length s) room) refl
+  where
+    go : (b : Bool) → leb (length s) room ≡ b → Within room (flattenedOf (unless 16 b (done s)))
+    go true e = leb-true (length s) room e
+    go false e = tt
+
+within-unless : (room k : ℕ) (b : Bool) (a : Answer (List ℕ)) → Within room (flattenedOf a) → Within room (flattenedOf (unless k b a))
+unfolding unless
+within-unless room k true a w = w
+within-unless room k false a w = tt
+
+pub flatten-within : (file : List ℕ) (room : ℕ) {n : ℕ} → Fl.Length n ≡ flattenedOf (flattenOf file room) → n ≤ room
+unfolding flattenOf _>>=_
+flatten-within file room e = subst (Within room) (sym e) (go (chartOf file))
+  where
+    go : (a : Answer Chart) → Within room (flattenedOf (a >>= λ c. networkFor room c))
+    go (done c) = within-unless room 15 (leb (length (flatten c .edges)) 1024) _ (within-fitted room (networkBytes (flatten c)))
+    go (refused k) = tt

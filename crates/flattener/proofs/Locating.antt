@@ -8,21 +8,21 @@ use borrow.Author.Tests.{eq-eqb, eqb-true}
 use lib.Dec.{eqb}
 use lib.ListN.{length, getD, take, length-take}
 use lib.Seq.{getD-take}
-use Rattle.expr.specs.Lists.{concat}
-use Rattle.expr.proofs.Bools.{same}
-use Rattle.expr.proofs.Lists.{getD-map, getD-mem}
-use Rattle.network.specs.Network.{Location}
-use Rattle.chart.specs.Chart.{Chart}
-use Rattle.chart.specs.declared.table.Tree.{Tree}
-use Rattle.chart.proofs.Ranges.{chart-at}
+use Rattle.lists.specs.Lists.{concat}
+use Rattle.lists.proofs.Bools.{same}
+use Rattle.lists.proofs.Lists.{getD-map, getD-mem}
+use Rattle.network_records.specs.Network.{Location}
+use Rattle.chart_records.specs.Chart.{Chart}
+use Rattle.chart_tree.specs.declared.table.Tree.{Tree}
+use Rattle.chart_records.proofs.Ranges.{chart-at}
 use Rattle.flattening.specs.File.{out4, locationBytes, recordBytes}
 use Rattle.flattening.specs.Flatten.{Place, idle, child, pre, post, samePlace, allPlaces, number, placeHome, automaton, initialPlace, boundsOf, urgentPlace, locationOf, flatten}
 use Rattle.flattening.proofs.Automata.{automaton-lt, region-of-automaton}
 use Rattle.flattening.proofs.Numbers.{IsPlace, all-places-at, number-of-place, number-injective, same-place-at, same-place-by, locations-length}
 use Rattle.flattening.proofs.Arrivals.{initial-place}
-use Rattle.flatten_tables.specs.Tables.{kindOf, valueOf, markOf}
-use Rattle.flatten_tables.specs.declared.transition.Transitions.{Transitions}
-use Rattle.flatten_tables.specs.declared.place.Places.{Places}
+use Rattle.flatten_places.specs.Tables.{kindOf, valueOf, markOf}
+use Rattle.flatten_places.specs.declared.transition.Transitions.{Transitions}
+use Rattle.flatten_places.specs.declared.place.Places.{Places}
 use Rattle.flattener.specs.Records.{locationRecord}
 use Rattle.flattener.specs.Writing.{Wrote}
 use Rattle.flattener.specs.Locating.{Located}
@@ -42,7 +42,8 @@ location-parts clocks l h = ap (λ (k : ℕ). k ∷ l .automaton ∷ l .urgent �
 pub location-length : (clocks : ℕ) (l : Location) → clocks ≤ 8 → length (l .bounds) ≡ 8 → length (locationRecord clocks l) ≡ 4 + 4 * clocks
 location-length clocks l h k = ap length (location-parts clocks l (omega arith)) ∙ omega (arith, words-length (take clocks (l .bounds)), length-take clocks (l .bounds))
 
-pub location-written : (clocks : ℕ) (l : Location) → clocks ≤ 8 → length (l .bounds) ≡ 8 → {s t u v w x : List ℕ} {at a b d e r : ℕ} → Wrote s at ((3 + 4 * clocks) ∷ []) t a → Wrote t a (l .automaton ∷ []) u b → Wrote u b (l .urgent ∷ []) v d → Wrote v d (l .initial ∷ []) w e
+pub location-written : (clocks : ℕ) (l : Location) → clocks ≤ 8 → length (l .bounds) ≡ 8 → {s t u v w x : List ℕ} {at a b d e r : ℕ}
+    → Wrote s at ((3 + 4 * clocks) ∷ []) t a → Wrote t a (l .automaton ∷ []) u b → Wrote u b (l .urgent ∷ []) v d → Wrote v d (l .initial ∷ []) w e
     → Wrote w e (concat out4 (take clocks (l .bounds))) x r → Wrote s at (locationRecord clocks l) x r
 location-written clocks l h k i j m n o = rw (location-parts clocks l (omega arith)) (wrote-then i (wrote-then j (wrote-then m (wrote-then n o))))
 

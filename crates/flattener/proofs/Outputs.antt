@@ -5,11 +5,11 @@ use Prim.Native.Nat.{ℕ, _+_, _*_, _≤_, _<_}
 use native.Mathlib.Omega.{arith}
 use native.Mathlib.Nat.{suc-mul, zero-mul, mul-le-mul, zero-add}
 use lib.ListN.{length, drop, length-append, length-map}
-use Rattle.expr.specs.Lists.{concat}
-use Rattle.expr.proofs.Lists.{map-at}
-use Rattle.network.specs.Network.{Location}
-use Rattle.chart.specs.Chart.{Chart}
-use Rattle.chart.proofs.Ranges.{chart-at}
+use Rattle.lists.specs.Lists.{concat}
+use Rattle.lists.proofs.Lists.{map-at}
+use Rattle.network_records.specs.Network.{Location}
+use Rattle.chart_records.specs.Chart.{Chart}
+use Rattle.chart_records.proofs.Ranges.{chart-at}
 use Rattle.flattening.specs.File.{out2, out4, recordBytes, contentBytes, networkBytes}
 use Rattle.flattening.specs.Flatten.{placeHome, allPlaces, locationOf, flatten}
 use Rattle.flattening.proofs.Numbers.{all-places-at, places-by}

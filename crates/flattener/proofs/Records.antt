@@ -7,15 +7,16 @@ use native.Mathlib.Nat.{mul-suc, mul-zero}
 use native.Mathlib.Numerals.{add-one}
 use lib.ListN.{length, getD, take, drop, length-append, length-take, length-drop}
 use lib.Seq.{take-suc, take-all, take-take, take-add, drop-drop, drop-at, take-at, getD-take, getD-drop}
-use Rattle.expr.specs.Lists.{concat}
-use Rattle.network.specs.Network.{Edge}
-use Rattle.chart.specs.Chart.{Chart}
+use Rattle.lists.specs.Lists.{concat}
+use Rattle.network_records.specs.Network.{Edge}
+use Rattle.chart_records.specs.Chart.{Chart}
 use Rattle.flattening.specs.File.{out2, edgeBytes, recordBytes}
 use Rattle.flatten_edges.specs.Gathering.{headOf, headBytes}
 use Rattle.flattener.specs.Records.{edgeRecord, bodyOf, Named, Bodied, Writable}
 use Rattle.flattener.specs.Writing.{Wrote, part}
 use Rattle.flattener.proofs.Writing.{wrote-none, wrote-then}
-use Rattle.expr.proofs.Lists.{getD-mem, concat-append}
+use Rattle.lists.proofs.Lists.{getD-mem}
+use Rattle.lists.proofs.Concat.{concat-append}
 
 concat-more : {A B : Type 0} (f : A → List B) (xs : List A) (i : ℕ) (d : A) → i < length xs → concat f (take (i + 1) xs) ≡ concat f (take i xs) ++ f (getD xs i d)
 unfolding concat

@@ -4,8 +4,8 @@ use mathlib.Core.Path.{_≡_}
 use mathlib.Core.List.{List, _++_}
 use lib.Dec.{leb}
 use lib.ListN.{length, drop}
-use Rattle.expr.specs.Answer.{Answer, done, refused, unless}
-use Rattle.chart.specs.Chart.{Chart}
+use Rattle.reading.specs.Answer.{Answer, done, refused, unless}
+use Rattle.chart_records.specs.Chart.{Chart}
 use Rattle.flattening.specs.Flatten.{flatten}
 use Rattle.flattening.specs.File.{networkBytes, fitted}
 use Rattle.flattener.specs.declared.operation.Flattened.{Flattened}

@@ -5,10 +5,10 @@ use mathlib.Core.Bool.{cond}
 use mathlib.Core.List.{List, [], _∷_, List·Memᴰ as Mem}
 use lib.Dec.{eqb}
 use lib.ListN.{length}
-use Rattle.network.specs.Network.{Location, Edge}
-use Rattle.chart.specs.Chart.{Chart, transitionAt}
-use Rattle.chart.specs.Laid.{Laid}
-use Rattle.chart.specs.declared.header.Counts.{Counts}
+use Rattle.network_records.specs.Network.{Location, Edge}
+use Rattle.chart_records.specs.Chart.{Chart, transitionAt}
+use Rattle.chart_records.specs.Laid.{Laid}
+use Rattle.chart_records.specs.declared.header.Counts.{Counts}
 use Rattle.flattening.specs.File.{out2, locationBytes, edgeBytes, recordBytes}
 use Rattle.flatten_edges.specs.Gathering.{Gathered}
 

@@ -2,15 +2,15 @@
 // record, seven bytes after its length.
 ghost use mathlib.Core.Path.{_≡_};
 ghost use lib.ListN.{length};
-ghost use Rattle.chart.specs.Chart.{Chart};
-ghost use Rattle.chart.specs.Laid.{Laid};
-ghost use Rattle.chart.specs.declared.header.Counts.{Counts};
+ghost use Rattle.chart_records.specs.Chart.{Chart};
+ghost use Rattle.chart_records.specs.Laid.{Laid};
+ghost use Rattle.chart_records.specs.declared.header.Counts.{Counts};
 ghost use Rattle.flattener.specs.Records.{bodyOf, Named};
 ghost use Rattle.flattener.specs.Writing.{Wrote};
 use crate::write::copy;
 use crate::write::put_short;
-use chart::transition::offset_at;
-use expr::field::short_at;
+use chart_records::transition::offset_at;
+use reading::field::short_at;
 
 // The length of the body of an edge that bears a transition, or none (255).
 pub fn body_size(rest: &[u8], offsets: &[u32], t: u8) -> u16

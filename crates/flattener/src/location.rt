@@ -4,20 +4,20 @@ ghost use mathlib.Core.Bool.{cond};
 ghost use Prim.Native.Nat.{_<_, _≤_};
 ghost use lib.Dec.{eqb};
 ghost use lib.ListN.{getD, take};
-ghost use Rattle.expr.specs.Lists.{concat};
-ghost use Rattle.chart.specs.Chart.{Chart};
+ghost use Rattle.lists.specs.Lists.{concat};
+ghost use Rattle.chart_records.specs.Chart.{Chart};
 ghost use Rattle.flattening.specs.File.{out4};
 ghost use Rattle.flattening.specs.Flatten.{Place, urgentPlace, flatten};
-ghost use Rattle.flatten_tables.specs.Tables.{kindOf};
+ghost use Rattle.flatten_places.specs.Tables.{kindOf};
 ghost use Rattle.flattener.specs.Records.{locationRecord};
 ghost use Rattle.flattener.specs.Writing.{Wrote};
 ghost use Rattle.flattener.specs.Locating.{Located};
 use crate::write::put;
 use crate::write::put_word;
-use chart::table::Tree;
+use chart_tree::table::Tree;
+use flatten_places::place::Places;
+use flatten_places::transition::Transitions;
 use flatten_tables::bound::place_bounds;
-use flatten_tables::place::Places;
-use flatten_tables::transition::Transitions;
 
 // The bounds of the declared clocks.
 fn write_bounds(out: &mut [u8], at: usize, clocks: u8, bounds: [u32; 8]) -> usize

@@ -1,29 +1,29 @@
 // Flattening.
 ghost use mathlib.Core.Path.{_≡_};
 ghost use lib.ListN.{length};
-ghost use Rattle.chart.specs.Chart.{Chart};
+ghost use Rattle.chart_records.specs.Chart.{Chart};
 ghost use Rattle.chart.specs.Ready.{Ready};
 ghost use Rattle.flattening.specs.File.{flattenOf};
 ghost use Rattle.flattening.specs.Flatten.{flatten};
-ghost use Rattle.flatten_tables.specs.Tables.{Chartered};
+ghost use Rattle.flatten_places.specs.Tables.{Chartered};
 ghost use Rattle.flatten_tables.specs.Summing.{Summed};
 ghost use Rattle.flatten_edges.specs.Gathering.{Gathered};
 ghost use Rattle.flattener.specs.Outcomes.{flattenedOf, lentAfter, networkFor, Answered};
 use crate::output::content_length;
 use crate::output::write_network;
 use chart::check::checked;
-use chart::header::Counts;
-use chart::rule::Checked;
-use chart::table::Tree;
+use chart_records::header::Counts;
+use chart_tree::table::Tree;
 use flatten_edges::edge::all_edges;
-use flatten_tables::automaton::automata_of;
+use flatten_places::automaton::automata_of;
+use flatten_places::pair::enter_pairs;
+use flatten_places::place::places_of;
+use flatten_places::transition::columns;
 use flatten_tables::bound::joined_bounds;
-use flatten_tables::pair::enter_pairs;
-use flatten_tables::place::places_of;
 use flatten_tables::summary::Summary;
 use flatten_tables::tabulate::summary_of;
 use flatten_tables::tabulate::tables_of;
-use flatten_tables::transition::columns;
+use reading::verdict::Verdict;
 
 // The network's length in bytes, or the number of the refusal.
 pub enum Flattened {
@@ -40,7 +40,9 @@ fn deliver(
     rest: &[u8],
     offsets: &[u32],
 ) -> Flattened
-    ensures { λ r. ⌜ ((c : Chart) → Summed c summary → Ready (now (rest .entry)) (summary .counts) (now (offsets .entry)) (summary .tree) c → Gathered (now (heads .entry)) edges (flatten c .edges) → Answered (networkFor (length (now (out .entry))) c) (now (out .entry)) r (now (out .exit))) ⌝ }
+    ensures { λ r. ⌜ ((c : Chart) → Summed c summary → Ready (now (rest .entry)) (summary .counts) (now (offsets .entry)) (summary .tree) c
+        → Gathered (now (heads .entry)) edges (flatten c .edges)
+        → Answered (networkFor (length (now (out .entry))) c) (now (out .entry)) r (now (out .exit))) ⌝ }
 {
     if edges > 1024 {
         return Flattened::Refused(15);
@@ -85,7 +87,7 @@ pub fn flatten(file: &[u8], out: &mut [u8]) -> Flattened
 {
     let f = checked(file);
     let verdict = f.verdict;
-    if let Checked::Refused(k) = verdict {
+    if let Verdict::Refused(k) = verdict {
         return Flattened::Refused(k);
     }
     let counts = f.counts;

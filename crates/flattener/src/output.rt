@@ -3,7 +3,7 @@ ghost use mathlib.Core.Path.{_≡_};
 ghost use mathlib.Core.List.{[], _∷_, _++_};
 ghost use Prim.Native.Nat.{_+_, _*_, _<_};
 ghost use lib.ListN.{length};
-ghost use Rattle.chart.specs.Chart.{Chart};
+ghost use Rattle.chart_records.specs.Chart.{Chart};
 ghost use Rattle.flattening.specs.File.{out2, contentBytes, networkBytes};
 ghost use Rattle.flattening.specs.Flatten.{flatten};
 ghost use Rattle.flatten_tables.specs.Bounding.{Bounded};
@@ -16,7 +16,7 @@ use crate::record::write_edges;
 use crate::write::put;
 use crate::write::put_short;
 use crate::write::put_word;
-use chart::header::Counts;
+use chart_records::header::Counts;
 use flatten_tables::summary::Summary;
 
 // How many bytes the locations take.
@@ -74,7 +74,10 @@ pub fn write_network(
     rest: &[u8],
     offsets: &[u32],
 ) -> usize
-    ensures { λ r. ⌜ ((c : Chart) → Summed c summary → Bounded c (summary .tree) rows → Writable (now (heads .entry)) edges (now (rest .entry)) (now (offsets .entry)) c (flatten c .edges) → size ≡ length (contentBytes (flatten c)) → Wrote (now (out .entry)) 0 (networkBytes (flatten c)) (now (out .exit)) r) ⌝ }
+    ensures { λ r. ⌜ ((c : Chart) → Summed c summary → Bounded c (summary .tree) rows
+        → Writable (now (heads .entry)) edges (now (rest .entry)) (now (offsets .entry)) c (flatten c .edges)
+        → size ≡ length (contentBytes (flatten c))
+        → Wrote (now (out .entry)) 0 (networkBytes (flatten c)) (now (out .exit)) r) ⌝ }
 {
     let counts = summary.counts;
     let tree = summary.tree;

@@ -3,11 +3,11 @@ ghost use mathlib.Core.Path.{_≡_};
 ghost use mathlib.Core.List.{List};
 ghost use Prim.Native.Nat.{_*_, _<_};
 ghost use lib.ListN.{length};
-ghost use Rattle.expr.specs.Lists.{concat};
-ghost use Rattle.network.specs.Network.{Edge};
-ghost use Rattle.chart.specs.Chart.{Chart};
-ghost use Rattle.chart.specs.Laid.{Laid};
-ghost use Rattle.chart.specs.declared.header.Counts.{Counts};
+ghost use Rattle.lists.specs.Lists.{concat};
+ghost use Rattle.network_records.specs.Network.{Edge};
+ghost use Rattle.chart_records.specs.Chart.{Chart};
+ghost use Rattle.chart_records.specs.Laid.{Laid};
+ghost use Rattle.chart_records.specs.declared.header.Counts.{Counts};
 ghost use Rattle.flatten_edges.specs.Gathering.{headOf, headBytes};
 ghost use Rattle.flattener.specs.Records.{edgeRecord, Bodied, Writable};
 ghost use Rattle.flattener.specs.Writing.{Wrote, part};
@@ -15,8 +15,8 @@ use crate::body::body_size;
 use crate::body::write_body;
 use crate::write::copy;
 use crate::write::put_short;
-use expr::field::byte_at;
 use flatten_edges::head::Head;
+use reading::field::byte_at;
 
 // The transition that an edge bears, by its gathered head.
 fn transition_at(heads: &[u8], i: u16) -> u8

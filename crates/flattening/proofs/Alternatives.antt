@@ -9,18 +9,20 @@ use native.Mathlib.Omega.{arith}
 use native.Mathlib.Decide.{ℕ-discrete}
 use borrow.Author.Tests.{eqb-true, eq-eqb}
 use lib.ListN.{length}
-use Rattle.expr.specs.Lists.{has, all, any, below, bitsOf, concat}
-use Rattle.expr.proofs.Bools.{parts, clash, decided, and-l, and-r, both, or-l, or-r, or-cases, same}
-use Rattle.expr.proofs.Lists.{any-at, any-by, concat-at, concat-by, Once}
-use Rattle.expr.proofs.Bits.{has-one, has-zero, has-sum, Apart}
-use Rattle.chart.specs.Chart.{Chart, stateAt, states, basic, sequential, parallel}
-use Rattle.chart.specs.Tree.{under, children, sequentials}
-use Rattle.chart_machine.specs.Machine.{isActive, isTree, completed}
-use Rattle.chart_machine.specs.declared.configuration.Configuration.{Configuration}
-use Rattle.chart.proofs.Tree.{size, Child, children-at, children-by, children-once, Parents, under-refl, under-transitive, child-under, child-above, child-towards, children-disjoint, sequential-not-basic, sequential-not-parallel}
-use Rattle.chart.proofs.Rules.{Passed, kinds-left}
-use Rattle.chart.proofs.Ranges.{Ranges, kinds-of}
-use Rattle.chart_machine.proofs.Active.{active-known, OneChild, IsTree, tree-at, completed-at, completed-by, active-above, active-below}
+use Rattle.lists.specs.Lists.{has, all, any, below, bitsOf, concat}
+use Rattle.lists.proofs.Bools.{parts, clash, decided, and-l, and-r, both, or-l, or-r, or-cases, same}
+use Rattle.lists.proofs.Lists.{any-at, any-by}
+use Rattle.lists.proofs.Concat.{concat-at, concat-by}
+use Rattle.lists.proofs.Once.{Once}
+use Rattle.lists.proofs.Bits.{has-one, has-zero, has-sum, Apart}
+use Rattle.chart_records.specs.Chart.{Chart, stateAt, states, basic, sequential, parallel}
+use Rattle.chart_records.specs.Tree.{under, children, sequentials}
+use Rattle.chart_moves.specs.Machine.{isActive, isTree, completed}
+use Rattle.chart_moves.specs.declared.configuration.Configuration.{Configuration}
+use Rattle.chart_records.proofs.Tree.{size, Child, children-at, children-by, children-once, Parents, under-refl, under-transitive, child-under, child-above, child-towards, children-disjoint, sequential-not-basic, sequential-not-parallel}
+use Rattle.chart_records.proofs.Rules.{Passed, kinds-left}
+use Rattle.chart_records.proofs.Ranges.{Ranges, kinds-of}
+use Rattle.chart_moves.proofs.Active.{active-known, OneChild, IsTree, tree-at, completed-at, completed-by, active-above, active-below}
 use Rattle.flattening.specs.Flatten.{automaton, sumsOf, choicesFrom, alternatives}
 use Rattle.flattening.proofs.Automata.{Region, regionAt, region-of-automaton, automaton-injective, SetOf, set-unique, set-iff, set-none, set-one, set-sum, set-bits}
 use Rattle.flattening.proofs.Sums.{sums-at, sums-by, sorted-at, sorted-by}

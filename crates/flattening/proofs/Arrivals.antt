@@ -9,16 +9,16 @@ use native.Mathlib.Omega.{arith}
 use borrow.Author.Tests.{eqb-true, eqb-false, not-true}
 use lib.Dec.{eqb}
 use lib.ListN.{length}
-use Rattle.expr.proofs.Bools.{clash}
-use Rattle.expr.proofs.Lists.{all-at}
-use Rattle.chart.specs.Chart.{Chart, transitionAt, basic, home}
-use Rattle.chart.specs.Tree.{entered}
-use Rattle.chart.specs.Rules.{exits}
-use Rattle.chart.proofs.Tree.{Child, own-child}
-use Rattle.chart.proofs.Entered.{entered-marked}
-use Rattle.chart.proofs.Rules.{Passed}
-use Rattle.chart.proofs.Ranges.{Ranges}
-use Rattle.chart.proofs.TransitionRules.{siblings-at, transition-mem, entry-of}
+use Rattle.lists.proofs.Bools.{clash}
+use Rattle.lists.proofs.Lists.{all-at}
+use Rattle.chart_records.specs.Chart.{Chart, transitionAt, basic, home}
+use Rattle.chart_records.specs.Tree.{entered}
+use Rattle.chart_records.specs.Rules.{exits}
+use Rattle.chart_records.proofs.Tree.{Child, own-child}
+use Rattle.chart_records.proofs.Entered.{entered-marked}
+use Rattle.chart_records.proofs.Rules.{Passed}
+use Rattle.chart_records.proofs.Ranges.{Ranges}
+use Rattle.chart_rules.proofs.TransitionRules.{siblings-at, transition-mem, entry-of}
 use Rattle.flattening.specs.Flatten.{idle, child, pre, post, hasExit, hasEntry, exitPairs, enterPairs, arrival, departure, placeHome, markedChild, initialPlace}
 use Rattle.flattening.proofs.Automata.{Region, marked-child}
 use Rattle.flattening.proofs.Numbers.{PlaceOf, idle-place, child-place}

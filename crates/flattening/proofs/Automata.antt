@@ -4,20 +4,22 @@ use mathlib.Core.Bool.{Bool, true}
 use mathlib.Core.Logic.{_⊎_, inl, inr, ⊎-elim}
 use mathlib.Core.List.{List·Memᴰ as Mem}
 use Prim.Native.Nat.{ℕ, _+_, _^_, _<_}
-use native.Mathlib.Omega.{arith}
 use borrow.Author.Tests.{eqb-true, eq-eqb, ltb-true}
 use lib.Dec.{ltb, eqb}
 use lib.ListN.{length, getD}
-use Rattle.expr.specs.Lists.{has, all, any, below, keep, bitsOf, ascending}
-use Rattle.expr.proofs.Bools.{parts, clash, and-r, or-l, or-r, or-cases, same}
-use Rattle.expr.proofs.Lists.{all-at, all-by, all-below, below-all, any-at, any-by, any-below, below-any, keep-at, keep-by, Once, once-keep, once-below, getD-mem, position-lt, position-of, position-getD, ascending-keep, ascending-below}
-use Rattle.expr.proofs.Pairwise.{pairwise-order, ascending-pairwise, index-ascends}
-use Rattle.expr.proofs.Bits.{has-ext, has-bitsOf, has-bits, has-one, has-zero, has-sum, Apart}
-use Rattle.chart.specs.Chart.{Chart, stateAt, states, sequential}
-use Rattle.chart.specs.Tree.{children, sequentials}
-use Rattle.chart.proofs.Tree.{size, states-at, states-by, Child, children-at}
-use Rattle.chart.specs.Rules.{marked}
-use Rattle.chart.proofs.Entered.{EntryMarks, marked-one}
+use Rattle.lists.specs.Lists.{has, all, any, below, keep, bitsOf, ascending}
+use Rattle.lists.proofs.Bools.{parts, clash, and-r, or-l, or-r, or-cases, same}
+use Rattle.lists.proofs.Lists.{all-at, all-by, any-at, any-by, keep-at, keep-by, getD-mem}
+use Rattle.lists.proofs.Below.{all-below, below-all, any-below, below-any}
+use Rattle.lists.proofs.Once.{Once, once-keep, once-below}
+use Rattle.lists.proofs.Position.{position-lt, position-of, position-getD}
+use Rattle.lists.proofs.Ascending.{ascending-keep, ascending-below}
+use Rattle.lists.proofs.Bits.{has-ext, has-bitsOf, has-bits, has-one, has-zero, has-sum, Apart}
+use Rattle.chart_records.specs.Chart.{Chart, stateAt, states, sequential}
+use Rattle.chart_records.specs.Tree.{children, sequentials}
+use Rattle.chart_records.proofs.Tree.{size, states-at, states-by, Child, children-at}
+use Rattle.chart_records.specs.Rules.{marked}
+use Rattle.chart_records.proofs.Entered.{EntryMarks, marked-one}
 use Rattle.flattening.specs.Flatten.{automaton, markedChild}
 
 -- a sequential state of the chart
@@ -79,20 +81,12 @@ pub sequentials-ascending : (c : Chart) → ascending (sequentials c) ≡ true
 unfolding sequentials states
 sequentials-ascending c = ascending-keep (sequential c) _ (ascending-below _)
 
-pub automata-ascend : (c : Chart) {q r : ℕ} → Region c q → Region c r → q < r → automaton c q < automaton c r
-unfolding automaton
-automata-ascend c {q} {r} j k h = pairwise-order (λ q r. automaton c q < automaton c r) (λ q r. q < r) (λ x y a b. omega arith) (ascending-pairwise (sequentials c) (sequentials-ascending c))
-    (index-ascends eqb eqb-true (λ x. eq-eqb x x refl) (sequentials c) (sequentials-once c)) (sequentials-by c j) (sequentials-by c k) h
-
 -- x is the set of the automata of the sequential states with a property
 pub record SetOf (c : Chart) (P : ℕ → Type 0) (x : ℕ) : Type 0 where
   pub only : (a : ℕ) → has x a ≡ true → (q : ℕ) × Region c q × (automaton c q ≡ a) × P q
   pub each : (q : ℕ) → Region c q → P q → has x (automaton c q) ≡ true
 
 module _ (c : Chart) where
-  pub set-has : {P : ℕ → Type 0} {x : ℕ} → SetOf c P x → (q : ℕ) → Region c q → has x (automaton c q) ≡ true → P q
-  set-has {P} s q r h = let o = s .only _ h in subst P (automaton-injective c (o .1) r (o .2)) (o .3)
-
   -- a property has one set
   pub set-unique : {P : ℕ → Type 0} {x y : ℕ} → SetOf c P x → SetOf c P y → x ≡ y
   set-unique {P} {x} {y} s t = has-ext x y (λ a. same (has x a) (has y a) (λ h. half s t a h) (λ h. half t s a h))

@@ -4,7 +4,6 @@
 -- bounds-pictured: so a configuration keeps its bounds, just when the places of its picture keep theirs
 -- keeps-pre, keeps-departure: the place before an entry, and the one where a transition departs to, keep their bounds, just
 --   when every state that is entered keeps its joined ones
--- bounds-of-departure: that is, its own, and those that are carried from above the transition's home
 -- bounds-after: after a step the bounds are kept, just when the places where its transitions depart to keep theirs
 use mathlib.Core.Path.{_≡_, refl, sym, ap, _∙_, subst}
 use mathlib.Core.Bool.{Bool, true, false, cond, not, _&&_}
@@ -16,24 +15,25 @@ use native.Mathlib.Decide.{ℕ-discrete}
 use borrow.Author.Tests.{eqb-true, eq-eqb, ne-eqb}
 use lib.Dec.{eqb}
 use lib.ListN.{length, getD}
-use Rattle.expr.specs.Lists.{all, keep, implies}
-use Rattle.expr.specs.Clocks.{free, join, keeps}
-use Rattle.expr.specs.Moves.{clocksAfter}
-use Rattle.expr.proofs.Bools.{clash, decided, and-l, and-r, both, implies-at, implies-by, same}
-use Rattle.expr.proofs.Lists.{all-at, all-by, all-same, all-map, all-keep, keep-at, map-at, map-by, getD-mem}
-use Rattle.expr.proofs.Clocks.{keeps-join}
-use Rattle.expr.proofs.Rows.{ClockValues, IsRow, free-row, join-row, keeps-free, keeps-clocks-after, values-clocks-after}
-use Rattle.chart.specs.Chart.{Chart, Transition, transitionAt, states, parentOf, basic, sequential, parallel, home}
-use Rattle.chart.specs.Tree.{children, sequentials, entered}
-use Rattle.chart_machine.specs.Machine.{isActive, isTree, boundsKept, after}
-use Rattle.chart_machine.specs.declared.configuration.Configuration.{Configuration}
-use Rattle.chart.proofs.Tree.{size, states-at, states-by, Child, children-at, own-child, Parents, tree-induction, child-above, sequential-not-parallel}
-use Rattle.chart.proofs.Entered.{Entry, allEntered, all-entered-at, all-entered-by, entered-alone, entered-top, entered-below-root, entered-parent}
-use Rattle.chart_machine.proofs.Active.{OneChild, one-child-by, IsTree, tree-at, bounds-kept-at, bounds-kept-by}
-use Rattle.chart.proofs.Rules.{Passed, kinds-left}
-use Rattle.chart.proofs.Ranges.{Ranges, kinds-of}
-use Rattle.chart_machine.proofs.After.{Fires, after-clocks, after-cases, after-entered}
-use Rattle.chart_machine.proofs.Step.{Together, together-fires, together-tree}
+use Rattle.lists.specs.Lists.{all, keep, implies}
+use Rattle.clocks.specs.Clocks.{free, join, keeps}
+use Rattle.steps.specs.Moves.{clocksAfter}
+use Rattle.lists.proofs.Bools.{clash, decided, and-l, and-r, both, implies-at, implies-by, same}
+use Rattle.lists.proofs.Lists.{all-at, all-by, all-same, all-map, all-keep, keep-at, map-at, map-by, getD-mem}
+use Rattle.clocks.proofs.Clocks.{keeps-join}
+use Rattle.clocks.proofs.Rows.{ClockValues, IsRow, free-row, join-row, keeps-free}
+use Rattle.steps.proofs.Kept.{keeps-clocks-after, values-clocks-after}
+use Rattle.chart_records.specs.Chart.{Chart, Transition, transitionAt, states, parentOf, basic, sequential, parallel}
+use Rattle.chart_records.specs.Tree.{children, sequentials, entered}
+use Rattle.chart_moves.specs.Machine.{isActive, isTree, boundsKept, after}
+use Rattle.chart_moves.specs.declared.configuration.Configuration.{Configuration}
+use Rattle.chart_records.proofs.Tree.{size, states-at, states-by, Child, children-at, own-child, Parents, tree-induction, child-above}
+use Rattle.chart_records.proofs.Entered.{allEntered, all-entered-at, all-entered-by, entered-alone, entered-below-root}
+use Rattle.chart_moves.proofs.Active.{OneChild, one-child-by, IsTree, tree-at, bounds-kept-at, bounds-kept-by}
+use Rattle.chart_records.proofs.Rules.{Passed, kinds-left}
+use Rattle.chart_records.proofs.Ranges.{Ranges, kinds-of}
+use Rattle.chart_moves.proofs.After.{after-clocks, after-cases, after-entered}
+use Rattle.chart_moves.proofs.Step.{Together, together-fires, together-tree}
 use Rattle.flattening.specs.Flatten.{Pair, Place, idle, child, pre, post, hasExit, hasEntry, places, own, carriedFrom, joined, joinAll, preBounds, arrival, arrivalBounds, boundsOf, departure}
 use Rattle.flattening.specs.Picture.{pictured}
 use Rattle.flattening.proofs.Automata.{sequentials-at, sequentials-by}
@@ -250,47 +250,7 @@ module _ (c : Chart) (ranges : Ranges c) (cs : List ℕ) (values : ClockValues c
       go true z = keeps-alone d e h (eqb-true e 255 z)
       go false z = keeps-pre (record { state = d; mark = e })
 
--- a state d and those that are entered with it, below the sequential state q
-module _ (c : Chart) (passed : Passed c) (ranges : Ranges c) (cs : List ℕ) (values : ClockValues cs) (d e : ℕ) {q : ℕ} (to : Child c q d) (home-is : sequential c q ≡ true) (entry : Entry c d e) where
-  not-root : (s : ℕ) → entered c d e s ≡ true → s ≢ 0
-  not-root s a = entered-below-root c (passed .tree) (passed .entry-marks) d (to .known) s entry (to .below-root) a
-
-  with-parent : (s : ℕ) → s < size c → s ≢ d → entered c d e s ≡ true → entered c d e (parentOf c s) ≡ true
-  with-parent s h x a = entered-parent c (passed .tree) (passed .entry-marks) d (to .known) s entry h x a .1
-
-  module _ (keep-own : (s : ℕ) → s < size c → entered c d e s ≡ true → keeps (own c s) cs ≡ true) (keep-above : keeps (carriedBy c q) cs ≡ true) where
-    entered-carried : (s : ℕ) → s < size c → entered c d e s ≡ true → keeps (carriedBy c s) cs ≡ true
-    entered-carried = tree-induction c (passed .tree) (λ s. entered c d e s ≡ true → keeps (carriedBy c s) cs ≡ true)
-        (λ a. absurd (not-root 0 a refl))
-        (λ s h z f a. ⊎-elim
-        (λ y. keeps-carried c passed ranges cs s h z y ∙ both (keep-own s h a) (f (with-parent s h (λ x. clash y (ap (parallel c) (ap (parentOf c) x ∙ to .parent-is) ∙ sequential-not-parallel c q home-is)) a)))
-        (λ y. keeps-none c cs values s z y)
-        (decided (parallel c (parentOf c s))))
-
-    entered-joined : (s : ℕ) → s < size c → entered c d e s ≡ true → keeps (joined c s) cs ≡ true
-    entered-joined s h a = keeps-joined c passed ranges cs s h (not-root s a) ∙ both (keep-own s h a) (elim (ℕ-discrete s d) [
-      | yes x ↦ ap (λ (x : ℕ). keeps (carriedBy c x) cs) (ap (parentOf c) x ∙ to .parent-is) ∙ keep-above
-      | no x ↦ entered-carried (parentOf c s) (parent-known c passed ranges cs s h (not-root s a)) (with-parent s h x a)
-    ])
-
-  -- they keep their joined bounds, just when they keep their own and what is carried below q is kept
-  pub keeps-entered : allEntered c d e (λ s. keeps (joined c s) cs) ≡ (allEntered c d e (λ s. keeps (own c s) cs) && keeps (carriedBy c q) cs)
-  keeps-entered = same _ _
-      (λ k. both
-      (all-entered-by c d e (λ s. keeps (own c s) cs) (λ s h a. and-l (keeps (own c s) cs) _ (each k s h a)))
-      (ap (λ (x : ℕ). keeps (carriedBy c x) cs) (sym (to .parent-is)) ∙ and-r (keeps (own c d) cs) _ (each k d (to .known) (entered-top c (passed .tree) (passed .entry-marks) d (to .known) entry))))
-      (λ k. all-entered-by c d e (λ s. keeps (joined c s) cs) (entered-joined (all-entered-at c d e (λ s. keeps (own c s) cs) (and-l (all _ (states c)) _ k)) (and-r (all _ (states c)) _ k)))
-    where
-      each : allEntered c d e (λ s. keeps (joined c s) cs) ≡ true → (s : ℕ) → s < size c → entered c d e s ≡ true → (keeps (own c s) cs && keeps (carriedBy c (parentOf c s)) cs) ≡ true
-      each k s h a = sym (keeps-joined c passed ranges cs s h (not-root s a)) ∙ all-entered-at c d e (λ s. keeps (joined c s) cs) k s h a
-
 module _ (c : Chart) (passed : Passed c) (ranges : Ranges c) where
-  -- of a transition that fires: the states that it enters keep their own bounds, and what is carried below its home is kept
-  pub bounds-of-departure : (cs : List ℕ) → ClockValues cs → (p : ℕ → Bool) (m : ℕ) → Fires c p (transitionAt c m)
-      → keeps (boundsOf c (departure c m)) cs ≡ (allEntered c (transitionAt c m .destination) (transitionAt c m .entry) (λ s. keeps (own c s) cs) && keeps (carriedBy c (home c m)) cs)
-  unfolding home
-  bounds-of-departure cs values p m f = keeps-departure c ranges cs values m (f .to .known) ∙ keeps-entered c passed ranges cs values (transitionAt c m .destination) (transitionAt c m .entry) (f .to) (f .home-is) (f .entry-is)
-
   -- transitions that are taken together
   module _ (σ : Configuration) (ms : List ℕ) (tree : isTree c σ ≡ true) (values : ClockValues (σ .clocks)) (together : Together c σ ms) where
     abbrev next : Configuration

@@ -8,13 +8,16 @@ use Prim.Native.Nat.{ℕ, _+_, _≤_, _<_}
 use native.Mathlib.Omega.{arith}
 use borrow.Author.Tests.{eqb-true, eq-eqb}
 use lib.ListN.{length}
-use Rattle.expr.specs.Lists.{has, position}
-use Rattle.expr.proofs.Bools.{parts, and-l, and-r, both}
-use Rattle.expr.proofs.Lists.{keep-at, keep-by, any-below, below-any, Once, once-below, index-lt, index-injective}
-use Rattle.expr.proofs.Pairwise.{Pairwise, pairwise-by, index-ascends}
-use Rattle.chart.specs.Chart.{Chart, stateAt, transitionAt, states, parentOf}
-use Rattle.chart.specs.Tree.{under, entered}
-use Rattle.chart.proofs.Tree.{size, states-at, states-by}
+use Rattle.lists.specs.Lists.{has, position}
+use Rattle.lists.proofs.Bools.{parts, and-l, and-r, both}
+use Rattle.lists.proofs.Lists.{keep-at, keep-by}
+use Rattle.lists.proofs.Below.{any-below, below-any}
+use Rattle.lists.proofs.Once.{Once, once-below}
+use Rattle.lists.proofs.Position.{index-lt, index-injective}
+use Rattle.lists.proofs.Pairwise.{Pairwise, pairwise-by, index-ascends}
+use Rattle.chart_records.specs.Chart.{Chart, stateAt, transitionAt, states, parentOf}
+use Rattle.chart_records.specs.Tree.{under, entered}
+use Rattle.chart_records.proofs.Tree.{size, states-at, states-by}
 use Rattle.flattening.specs.Flatten.{Pair, pre, samePair, transitions, entersBy, leavesBy, enterPairs, exitPairs, enterChannel, exitChannel, marksBelow, heardExits, heardEntries, flatten}
 use Rattle.flattening.proofs.Numbers.{IsPlace, same-pair-at, same-pair-by, pairs-at, pairs-by, pairs-once}
 

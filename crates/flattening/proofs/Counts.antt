@@ -5,14 +5,16 @@ use mathlib.Core.List.{List, _++_, map, List·Memᴰ as Mem, Memᴰ·append-left
 use Prim.Native.Nat.{ℕ, _+_, _-_, _≤_, _<_}
 use native.Mathlib.Omega.{arith}
 use lib.ListN.{length, length-append, length-map}
-use Rattle.expr.specs.Lists.{range, below}
-use Rattle.expr.proofs.Bools.{fails}
-use Rattle.expr.proofs.Lists.{map-by, range-by, below-by, length-range, length-below, mem-some, partners-length, within-length}
-use Rattle.chart.specs.Chart.{Chart, transitionAt, parentOf, basic, parallel}
-use Rattle.chart.specs.Tree.{sequentials}
-use Rattle.chart.proofs.Tree.{size, own-child}
-use Rattle.chart.proofs.Rules.{Passed, kinds-left}
-use Rattle.chart.proofs.Ranges.{Ranges, kinds-of}
+use Rattle.lists.specs.Lists.{range, below}
+use Rattle.lists.proofs.Bools.{fails}
+use Rattle.lists.proofs.Lists.{map-by, mem-some}
+use Rattle.lists.proofs.Below.{range-by, below-by, length-range, length-below}
+use Rattle.lists.proofs.Once.{partners-length, within-length}
+use Rattle.chart_records.specs.Chart.{Chart, transitionAt, parentOf, basic, parallel}
+use Rattle.chart_records.specs.Tree.{sequentials}
+use Rattle.chart_records.proofs.Tree.{size, own-child}
+use Rattle.chart_records.proofs.Rules.{Passed, kinds-left}
+use Rattle.chart_records.proofs.Ranges.{Ranges, kinds-of}
 use Rattle.flattening.specs.Flatten.{Pair, Place, idle, child, pre, post, enterPairs, exitPairs, allPlaces, placeHome}
 use Rattle.flattening.proofs.Automata.{Region, sequentials-by}
 use Rattle.flattening.proofs.Numbers.{IsPlace, idle-place, all-places-at, all-places-by, all-places-once}

@@ -1,5 +1,5 @@
 -- The edges of a chart's network. `Leaves` says which edges leave a place; `edges-at` and `edges-by` that the network has just
--- these. Each comes from one place (`edge-from`), and joins it to a place of the same automaton (`source-of`, `target-of`).
+-- these. Each joins the place that it leaves to a place of the same automaton (`source-of`, `target-of`).
 use mathlib.Core.Path.{_≡_, refl, sym, ap, _∙_, subst}
 use mathlib.Core.Bool.{Bool, true, false, cond, _&&_}
 use mathlib.Core.Logic.{_⊎_, inl, inr, ⊎-elim}
@@ -8,17 +8,21 @@ use Prim.Native.Nat.{ℕ, _<_}
 use borrow.Author.Tests.{eqb-true, eq-eqb}
 use lib.Dec.{eqb}
 use lib.ListN.{length}
-use Rattle.expr.specs.Lists.{keep}
-use Rattle.expr.proofs.Bools.{parts, both}
-use Rattle.expr.proofs.Lists.{keep-at, keep-by, map-at, map-by, concat-at, concat-by, below-at, below-by, getD-mem, mem-getD}
-use Rattle.chart.specs.Chart.{Chart, Transition, transitionAt, parentOf, home}
-use Rattle.chart.specs.Tree.{children}
-use Rattle.chart.proofs.Tree.{Child, children-at, children-by}
-use Rattle.chart.proofs.Rules.{Passed}
-use Rattle.chart.proofs.Ranges.{Ranges}
-use Rattle.network.specs.Network.{Edge, Network, locationAt, edgeAt, ownerOf}
-use Rattle.flattening.specs.Flatten.{Pair, Place, idle, child, pre, post, samePlace, hasExit, hasEntry, transitions, places, allPlaces, number, automaton, placeHome, alternatives, enterChannel, exitChannel, signalling, edge, ownEdge, arrival, departure, bearing, bearingAll, heardExits, heardEntries, toPlace, fromPlace, flatten}
-use Rattle.flattening.proofs.Numbers.{IsPlace, PlaceOf, idle-place, child-place, same-place-at, same-place-by, places-at, places-by, all-places-at, all-places-by, number-injective, automaton-of-place}
+use Rattle.lists.specs.Lists.{keep}
+use Rattle.lists.proofs.Bools.{parts, both}
+use Rattle.lists.proofs.Lists.{keep-at, keep-by, map-at, map-by, getD-mem, mem-getD}
+use Rattle.lists.proofs.Concat.{concat-at, concat-by}
+use Rattle.lists.proofs.Below.{below-at, below-by}
+use Rattle.chart_records.specs.Chart.{Chart, Transition, transitionAt, parentOf, home}
+use Rattle.chart_records.specs.Tree.{children}
+use Rattle.chart_records.proofs.Tree.{Child, children-at, children-by}
+use Rattle.chart_records.proofs.Rules.{Passed}
+use Rattle.chart_records.proofs.Ranges.{Ranges}
+use Rattle.network_records.specs.Network.{Edge, Network, locationAt, edgeAt, ownerOf}
+use Rattle.flattening.specs.Flatten.{Pair, Place, idle, child, pre, post, samePlace, hasExit, hasEntry, transitions, places, allPlaces, number}
+use Rattle.flattening.specs.Flatten.{automaton, placeHome, alternatives, enterChannel, exitChannel, signalling, edge, ownEdge, arrival, departure}
+use Rattle.flattening.specs.Flatten.{bearing, bearingAll, heardExits, heardEntries, toPlace, fromPlace, flatten}
+use Rattle.flattening.proofs.Numbers.{IsPlace, PlaceOf, idle-place, child-place, same-place-at, same-place-by, places-at, places-by, all-places-at, all-places-by, automaton-of-place}
 use Rattle.flattening.proofs.Arrivals.{arrival-place, departure-place}
 
 -- the exit that an edge bearing t tests, and the set of automata: an alternative, or none
@@ -160,23 +164,10 @@ source-of c (child s) e k = ⊎-elim (λ j. ap (λ (x : Edge). x .source) (j .ed
 source-of c (pre p) e k = ap (λ (x : Edge). x .source) k
 source-of c (post t) e k = ap (λ (x : Edge). x .source) k
 
--- so it leaves no other place
-pub leaves-one : (c : Chart) (e : Edge) {p r : Place} → IsPlace c p → IsPlace c r → Leaves c p e → Leaves c r e → p ≡ r
-leaves-one c e {p} {r} j k l m = number-injective c j k (sym (source-of c p e l) ∙ source-of c r e m)
-
 -- the edges of the network: those from its places
 pub edges-at : (c : Chart) {e : Edge} → Mem e (flatten c .edges) → (p : Place) × IsPlace c p × Leaves c p e
 unfolding flatten
 edges-at c m = let r = concat-at (fromPlace c) (allPlaces c) m in (r .0, all-places-at c (r .1), from-place-at c (r .0) (r .2))
-
-pub edge-from : (c : Chart) {e : Edge} → Mem e (flatten c .edges)
-    → (p : Place) × IsPlace c p × Mem e (fromPlace c p) × (e .source ≡ number c p) × ((r : Place) → IsPlace c r → Mem e (fromPlace c r) → r ≡ p)
-unfolding flatten
-edge-from c {e} m =
-    let r = concat-at (fromPlace c) (allPlaces c) m in
-    let k = all-places-at c (r .1) in
-    let l = from-place-at c (r .0) (r .2) in
-    (r .0, k, r .2, source-of c (r .0) e l, λ p j n. leaves-one c e j k (from-place-at c p n) l)
 
 -- its owner is the automaton of that place's home
 pub owner-of : (c : Chart) (p : Place) (e : Edge) → IsPlace c p → Leaves c p e → ownerOf (flatten c) e ≡ automaton c (placeHome c p)

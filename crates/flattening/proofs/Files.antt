@@ -10,22 +10,23 @@ use borrow.Author.Tests.{lt-ltb, le-leb, eq-eqb, eqb-true, leb-true}
 use lib.Dec.{leb, ltb, eqb}
 use lib.ListN.{length, take, length-append, length-take}
 use lib.Pow.{pow-mono}
-use Rattle.expr.specs.Lists.{concat, implies, subset}
-use Rattle.expr.specs.Answer.{done}
-use Rattle.expr.specs.Answer as answer
-use Rattle.expr.specs.Places.{onward}
-use Rattle.expr.specs.Reading.{got, yield, byte, byte2, byte4, many}
-use Rattle.expr.specs.Guard.{Limits, limits}
-use Rattle.expr.specs.Label.{label}
-use Rattle.expr.specs.Clocks.{isBound, clock-limit, no-bound, row}
-use Rattle.expr.proofs.Bools.{both, or-l, or-r, or-cases, implies-by}
-use Rattle.expr.proofs.Lists.{concat-length}
-use Rattle.expr.proofs.Answer.{unless-by}
-use Rattle.expr.proofs.Places.{bind-got, then-got, such-got}
-use Rattle.expr.proofs.Printed.{byte-front, byte2-front, byte4-front, such-front, end-front, bytes-front, many-printed, recorded-printed}
-use Rattle.expr.proofs.Ranges.{Row, row-printed, LabelRange, label-printed}
-use Rattle.network.specs.Network.{Location, Edge, Network, location, edge, records, numbered, headed, countsAt, inRange, countsOf, readNetwork}
-use Rattle.network.specs.declared.header.Counts.{Counts}
+use Rattle.lists.specs.Lists.{concat, implies, subset}
+use Rattle.reading.specs.Answer.{done}
+use Rattle.reading.specs.Answer as answer
+use Rattle.reading.specs.Places.{onward}
+use Rattle.reading.specs.Reading.{got, yield, byte, byte2, byte4, many}
+use Rattle.labels.specs.Guard.{Limits, limits}
+use Rattle.labels.specs.Label.{label}
+use Rattle.clocks.specs.Clocks.{isBound, clock-limit, no-bound, row}
+use Rattle.lists.proofs.Bools.{both, or-l, or-r, or-cases, implies-by}
+use Rattle.lists.proofs.Concat.{concat-length}
+use Rattle.reading.proofs.Answer.{unless-by}
+use Rattle.reading.proofs.Places.{bind-got, then-got, such-got}
+use Rattle.reading.proofs.Printed.{byte-front, byte2-front, byte4-front, such-front, end-front, bytes-front, many-printed, recorded-printed}
+use Rattle.clocks.proofs.Ranges.{Row, row-printed}
+use Rattle.labels.proofs.LabelRanges.{LabelRange, label-printed}
+use Rattle.network_records.specs.Network.{Location, Edge, Network, location, edge, records, numbered, headed, countsAt, inRange, countsOf, readNetwork}
+use Rattle.network_records.specs.declared.header.Counts.{Counts}
 use Rattle.flattening.specs.File.{out2, out4, locationBytes, edgeBytes, recordBytes, contentBytes, networkBytes}
 
 -- numbers
@@ -147,7 +148,10 @@ counts-printed n p =
     ap (λ (e : ℕ). record { automata = n .automata; locations = length (n .locations); edges = e; clocks = n .clocks; variables = n .variables; rendezvous = n .rendezvous; broadcasts = n .broadcasts }) z
 
 in-range-printed : (n : Network) → Printable n → inRange (countsIn n) ≡ true
-in-range-printed n p = both (le-leb _ _ (p .automata-some)) (both (le-leb _ _ (p .automata-few)) (both (le-leb _ _ (p .locations-some)) (both (le-leb _ _ (p .locations-few)) (both (le-leb _ _ (p .edges-few)) (both (le-leb _ _ (p .clocks-few)) (both (le-leb _ _ (p .variables-few)) (both (le-leb _ _ (p .rendezvous-few)) (le-leb _ _ (p .broadcasts-few)))))))))
+in-range-printed n p = both (le-leb _ _ (p .automata-some)) (both (le-leb _ _ (p .automata-few))
+    (both (le-leb _ _ (p .locations-some)) (both (le-leb _ _ (p .locations-few)) (both (le-leb _ _ (p .edges-few))
+    (both (le-leb _ _ (p .clocks-few)) (both (le-leb _ _ (p .variables-few))
+    (both (le-leb _ _ (p .rendezvous-few)) (le-leb _ _ (p .broadcasts-few)))))))))
 
 network-length : (n : Network) → length (networkBytes n) ≡ 5 + length (contentBytes n)
 unfolding networkBytes recordBytes out4

@@ -2,10 +2,10 @@
 use mathlib.Core.Path.{_≡_, refl}
 use mathlib.Core.Bool.{Bool, true, false, cond, _&&_, xor}
 use Prim.Native.Nat.{ℕ, _<_}
-use Rattle.expr.specs.Lists.{has, bitsOf}
-use Rattle.expr.proofs.Bits.{has-bitsOf, bits-same}
-use Rattle.chart.specs.Chart.{Chart}
-use Rattle.network_machine.specs.Machine.{overwrite}
+use Rattle.lists.specs.Lists.{has, bitsOf}
+use Rattle.lists.proofs.Bits.{has-bitsOf, bits-same}
+use Rattle.chart_records.specs.Chart.{Chart}
+use Rattle.network_moves.specs.Machine.{overwrite}
 use Rattle.flattening.specs.Flatten.{Place, placeHome, atExit, initialPlace, flagAt, writtenBy, valuesBy}
 
 -- an edge writes exactly the flags in which its ends differ

@@ -6,15 +6,15 @@ use Prim.Native.Nat.{ℕ, zero, suc, _<_}
 use native.Mathlib.Omega.{arith}
 use native.Mathlib.Decide.{decLt}
 use lib.Dec.{eqb}
-use Rattle.expr.specs.Lists.{keep}
-use Rattle.expr.specs.Clocks.{free, join}
-use Rattle.expr.proofs.Bools.{clash}
-use Rattle.expr.proofs.Lists.{keep-at, map-at}
-use Rattle.chart.specs.Chart.{Chart, transitionAt, states, parentOf, parallel}
-use Rattle.chart.specs.Tree.{entered}
-use Rattle.chart.proofs.Tree.{size, states-at, basic-not-parallel, unknown-parent, unknown-basic}
-use Rattle.chart.proofs.Ranges.{Ranges}
-use Rattle.chart.proofs.TransitionRules.{transition-mem}
+use Rattle.lists.specs.Lists.{keep}
+use Rattle.clocks.specs.Clocks.{free, join}
+use Rattle.lists.proofs.Bools.{clash}
+use Rattle.lists.proofs.Lists.{keep-at, map-at}
+use Rattle.chart_records.specs.Chart.{Chart, transitionAt, states, parentOf, parallel}
+use Rattle.chart_records.specs.Tree.{entered}
+use Rattle.chart_records.proofs.Tree.{size, states-at, basic-not-parallel, unknown-parent, unknown-basic}
+use Rattle.chart_records.proofs.Ranges.{Ranges}
+use Rattle.chart_rules.proofs.TransitionRules.{transition-mem}
 use Rattle.flattening.specs.Flatten.{Pair, Place, idle, child, pre, post, hasEntry, own, carriedFrom, joined, joinAll, preBounds, arrival, arrivalBounds, boundsOf}
 use Rattle.flattening.proofs.Numbers.{Stands}
 

@@ -1,27 +1,31 @@
 -- The places of a chart's automata, and their numbers. `IsPlace` says which places there are, `PlaceOf` which an automaton
 -- has; `places-at`, `places-by`, `all-places-at` and `all-places-by` that the lists have just these, each once. Numbers are
 -- below their count (`number-lt`), no two places share one (`number-injective`), and the location of that number is the
--- place's (`location-of-place`). They ascend from automaton to automaton (`numbers-ascend-between`), and in one along its
--- places (`numbers-ascend-within`, `number-order`); `idle-number`, `child-number`, `pre-number` and `post-number` count them.
-use mathlib.Core.Path.{_≡_, refl, sym, ap, ap₂, _∙_, subst}
-use mathlib.Core.Bool.{Bool, true, false, _&&_}
-use mathlib.Core.Logic.{⊎-elim, _≢_}
+-- place's (`location-of-place`). They ascend along the places of all automata (`numbers-ascend`), so along those of one
+-- (`numbers-ascend-within`).
+use mathlib.Core.Path.{_≡_, refl, sym, ap, _∙_, subst}
+use mathlib.Core.Bool.{Bool, true, _&&_}
+use mathlib.Core.Logic.{⊎-elim}
 use mathlib.Core.List.{List, _++_, map, List·Memᴰ as Mem, List·Memᴰ·head as here, List·Memᴰ·tail as there, List·Memᴰ·append-cases as append-cases, Memᴰ·append-left as append-left, Memᴰ·append-right as append-right, List·Memᴰ·cases-cons as cases-cons}
-use Prim.Native.Nat.{ℕ, suc, _+_, _<_}
+use Prim.Native.Nat.{ℕ, _+_, _<_}
 use native.Mathlib.Omega.{arith}
-use borrow.Author.Tests.{eqb-true, eq-eqb, ltb-true, lt-ltb}
-use lib.Dec.{eqb, ltb}
+use borrow.Author.Tests.{eqb-true, eq-eqb}
+use lib.Dec.{eqb}
 use lib.ListN.{length, getD, length-map}
-use Rattle.expr.specs.Lists.{any, below, keep, concat, position}
-use Rattle.expr.proofs.Bools.{parts, clash, fails, both, same}
-use Rattle.expr.proofs.Lists.{keep-at, keep-by, map-at, map-by, concat-at, concat-by, any-by, none-any, below-at, below-by, getD-mem, Once, once-keep, once-below, position-left, position-right, position-map, position-concat, index-lt, index-at, index-injective, index-of, getD-map}
-use Rattle.expr.proofs.Pairwise.{Pairwise, pairwise-in, pairwise-between, pairwise-order, ascending-pairwise, map-once, append-once, concat-once, index-ascends}
-use Rattle.chart.specs.Chart.{Chart, parentOf, home}
-use Rattle.chart.specs.Tree.{children, sequentials}
-use Rattle.chart.proofs.Tree.{Child, children-at, children-by, children-once, own-child}
-use Rattle.network.specs.Network.{Location, locationAt}
+use Rattle.lists.specs.Lists.{below, keep}
+use Rattle.lists.proofs.Bools.{parts, clash, both}
+use Rattle.lists.proofs.Lists.{keep-at, keep-by, map-at, map-by, getD-mem, getD-map}
+use Rattle.lists.proofs.Concat.{concat-at, concat-by}
+use Rattle.lists.proofs.Below.{below-at, below-by}
+use Rattle.lists.proofs.Once.{Once, once-keep, once-below}
+use Rattle.lists.proofs.Position.{position-left, position-right, position-map, position-concat, index-lt, index-at, index-injective, index-of}
+use Rattle.lists.proofs.Pairwise.{Pairwise, pairwise-in, map-once, append-once, concat-once, index-ascends}
+use Rattle.chart_records.specs.Chart.{Chart, parentOf, home}
+use Rattle.chart_records.specs.Tree.{children, sequentials}
+use Rattle.chart_records.proofs.Tree.{Child, children-at, children-by, children-once, own-child}
+use Rattle.network_records.specs.Network.{Location, locationAt}
 use Rattle.flattening.specs.Flatten.{Pair, Place, idle, child, pre, post, samePair, samePlace, pairs, entersBy, hasExit, transitions, places, allPlaces, number, automaton, placeHome, urgentPlace, boundsOf, locationOf, flatten}
-use Rattle.flattening.proofs.Automata.{Region, sequentials-at, sequentials-by, sequentials-once, sequentials-ascending, regionAt, region-at, automaton-of-region, automaton-injective}
+use Rattle.flattening.proofs.Automata.{Region, sequentials-at, sequentials-by, sequentials-once, regionAt, region-at, automaton-of-region, automaton-injective}
 
 -- equality of pairs and of places is tested
 pub same-pair-at : (p r : Pair) → samePair p r ≡ true → p ≡ r
@@ -127,9 +131,6 @@ sort (post t) = 3
 sort-of : {A : Type 0} (f : A → Place) (k : ℕ) → ((a : A) → sort (f a) ≡ k) → (xs : List A) {p : Place} → Mem p (map f xs) → sort p ≡ k
 sort-of f k g xs m = let r = map-at f xs m in ap sort (r .2) ∙ g (r .0)
 
-other-sort : {A : Type 0} (p : Place) (f : A → Place) (k : ℕ) → ((a : A) → sort (f a) ≡ k) → (xs : List A) → sort p ≢ k → any (samePlace p) (map f xs) ≡ false
-other-sort p f k g xs d = none-any (samePlace p) (map f xs) (λ x m. fails (samePlace p x) (λ e. d (ap sort (same-place-at p x e) ∙ sort-of f k g xs m)))
-
 module _ (c : Chart) where
   -- a child of its home
   under-home : {q s : ℕ} → parentOf c s ≡ q → Child c (parentOf c s) s → Child c q s
@@ -230,15 +231,6 @@ module _ (c : Chart) where
   unfolding allPlaces
   numbers-ascend-within g = pairwise-in (λ p r. number c p < number c r) (places c) numbers-ascend (sequentials-by c g)
 
-  -- and from automaton to automaton
-  pub numbers-ascend-between : {p r : Place} → IsPlace c p → IsPlace c r → placeHome c p < placeHome c r → number c p < number c r
-  unfolding allPlaces
-  numbers-ascend-between {p} {r} j k h =
-      pairwise-order (λ q s. (x y : Place) → Mem x (places c q) → Mem y (places c s) → number c x < number c y) (λ x y. x < y) (λ x y a b. omega arith)
-      (ascending-pairwise (sequentials c) (sequentials-ascending c)) (pairwise-between (λ p r. number c p < number c r) (places c) (sequentials c) numbers-ascend)
-      (sequentials-by c (j .region)) (sequentials-by c (k .region)) h
-      p r (places-by _ p refl (j .stands)) (places-by _ r refl (k .stands))
-
   -- there are as many locations as places
   pub locations-length : length (flatten c .locations) ≡ length (allPlaces c)
   unfolding flatten
@@ -270,58 +262,3 @@ module _ (c : Chart) where
       let n : number c p ≡ i = number-of-place (idle 0) i known in
       let owner : automaton c (placeHome c p) ≡ a = sym (automaton-of-place j) ∙ ap (λ (x : ℕ). locationAt (flatten c) x .automaton) n ∙ e in
       (p, record { is-place = j; home-is = automaton-injective c (j .region) (region-at c a h) (owner ∙ sym (automaton-of-region c a h)) }, n)
-
-  -- a place's number, counted: the places of the automata before, and those of its own before it
-  pub number-counts : {q : ℕ} (p : Place) → PlaceOf c q p → number c p ≡ length (concat (places c) (keep (λ r. ltb r q) (sequentials c))) + position (samePlace p) (places c q)
-  unfolding number allPlaces
-  number-counts {q} p k = position-concat (samePlace p) (places c) (sequentials c) (sequentials-ascending c) (sequentials-by c (subst (Region c) (k .home-is) (k .is-place .region)))
-      (λ r m l. none-any (samePlace p) (places c r) (λ x n. fails (samePlace p x) (λ e. let same : q ≡ r = sym (k .home-is) ∙ ap (placeHome c) (same-place-at p x e) ∙ places-at r n .0 in omega arith)))
-      (any-by (samePlace p) (places-by q p (k .home-is) (k .is-place .stands)) (same-place-by p))
-
-  -- so in one automaton the order of the numbers is that of the places
-  pub number-order : {q : ℕ} {p r : Place} → PlaceOf c q p → PlaceOf c q r → ltb (number c p) (number c r) ≡ ltb (position (samePlace p) (places c q)) (position (samePlace r) (places c q))
-  number-order {q} {p} {r} j k =
-      let a = number-counts p j in
-      let b = number-counts r k in
-      same _ _ (λ h. lt-ltb (position (samePlace p) (places c q)) (position (samePlace r) (places c q)) (omega (arith, ltb-true (number c p) (number c r) h)))
-      (λ h. lt-ltb (number c p) (number c r) (omega (arith, ltb-true (position (samePlace p) (places c q)) (position (samePlace r) (places c q)) h)))
-
-  -- the numbers of each sort
-  idle-position : (q : ℕ) → position (samePlace (idle q)) (places c q) ≡ 0
-  unfolding places position samePlace
-  idle-position q = rw (eq-eqb q q refl)
-
-  child-position : (q s : ℕ) → Child c q s → position (samePlace (child s)) (places c q) ≡ suc (position (eqb s) (children c q))
-  unfolding places position samePlace
-  child-position q s k = ap suc (position-left (samePlace (child s)) (map child (children c q)) _ (any-by _ (map-by child (children-by c k)) (same-place-by (child s))) ∙ position-map (samePlace (child s)) child (children c q))
-
-  pre-position : (q : ℕ) (p : Pair) → Mem p (prePairs c q) → position (samePlace (pre p)) (places c q) ≡ suc (length (children c q) + position (samePair p) (prePairs c q))
-  unfolding places position samePlace
-  pre-position q p m = ap suc (position-right (samePlace (pre p)) (map child (children c q)) _ (other-sort (pre p) child 1 (λ a. refl) (children c q) (omega arith))
-      ∙ ap₂ (λ (x y : ℕ). x + y) (length-map (children c q) child)
-      (position-left (samePlace (pre p)) (map pre (prePairs c q)) _ (any-by _ (map-by pre m) (same-place-by (pre p))) ∙ position-map (samePlace (pre p)) pre (prePairs c q)))
-
-  post-position : (q t : ℕ) → position (samePlace (post t)) (places c q) ≡ suc (length (children c q) + (length (prePairs c q) + position (eqb t) (postTransitions c q)))
-  unfolding places position samePlace
-  post-position q t = ap suc (position-right (samePlace (post t)) (map child (children c q)) _ (other-sort (post t) child 1 (λ a. refl) (children c q) (omega arith))
-      ∙ ap₂ (λ (x y : ℕ). x + y) (length-map (children c q) child)
-      (position-right (samePlace (post t)) (map pre (prePairs c q)) _ (other-sort (post t) pre 2 (λ a. refl) (prePairs c q) (omega arith))
-      ∙ ap₂ (λ (x y : ℕ). x + y) (length-map (prePairs c q) pre) (position-map (samePlace (post t)) post (postTransitions c q))))
-
-  pub idle-number : {q : ℕ} → Region c q → number c (idle q) ≡ length (concat (places c) (keep (λ r. ltb r q) (sequentials c)))
-  idle-number {q} g = number-counts (idle q) (idle-place c g) ∙ omega (arith, idle-position q)
-
-  from-idle : {q : ℕ} (p : Place) (n : ℕ) → PlaceOf c q p → position (samePlace p) (places c q) ≡ n → number c p ≡ number c (idle q) + n
-  from-idle {q} p n k e = number-counts p k ∙ omega (arith, idle-number (subst (Region c) (k .home-is) (k .is-place .region)))
-
-  pub child-number : {q s : ℕ} → PlaceOf c q (child s) → number c (child s) ≡ number c (idle q) + suc (position (eqb s) (children c q))
-  unfolding placeHome
-  child-number {q} {s} k = from-idle (child s) _ k (child-position q s (under-home (k .home-is) (k .is-place .stands)))
-
-  pub pre-number : {q : ℕ} {p : Pair} → PlaceOf c q (pre p) → number c (pre p) ≡ number c (idle q) + suc (length (children c q) + position (samePair p) (prePairs c q))
-  unfolding placeHome
-  pre-number {q} {p} k = let z = k .is-place .stands in
-      from-idle (pre p) _ k (pre-position q p (pairs-by (entersBy c) (c .entries) (children c q) p (children-by c (under-home (k .home-is) (z .0))) (z .1) (z .2)))
-
-  pub post-number : {q t : ℕ} → PlaceOf c q (post t) → number c (post t) ≡ number c (idle q) + suc (length (children c q) + (length (prePairs c q) + position (eqb t) (postTransitions c q)))
-  post-number {q} {t} k = from-idle (post t) _ k (post-position q t)

@@ -9,14 +9,18 @@ use native.Mathlib.Omega.{arith}
 use borrow.Author.Tests.{eqb-true, eq-eqb, lt-ltb}
 use lib.Dec.{eqb, ltb}
 use lib.ListN.{length}
-use Rattle.expr.specs.Lists.{keep, concat}
-use Rattle.expr.proofs.Bools.{parts, both, or-l, or-r}
-use Rattle.expr.proofs.Lists.{keep-at, map-at, ascending-keep, ascending-below, Once}
-use Rattle.expr.proofs.Pairwise.{Pairwise, pairwise-by, pairwise-keep, pairwise-left, pairwise-map, pairwise-of-map, pairwise-concat, pairwise-once, pairwise-getD, once-getD, ascending-pairwise}
-use Rattle.chart.specs.Chart.{Chart, Transition, transitionAt, parentOf}
-use Rattle.chart.specs.Tree.{children}
-use Rattle.network.specs.Network.{Edge, edgeAt, edgesAscend, key}
-use Rattle.flattening.specs.Flatten.{Pair, Place, idle, child, pre, post, samePlace, hasExit, transitions, places, allPlaces, number, placeHome, alternatives, exitPairs, enterPairs, enterChannel, exitChannel, signalling, edge, ownEdge, departure, bearing, bearingAll, heardExits, heardEntries, toPlace, fromPlace, flatten}
+use Rattle.lists.specs.Lists.{keep, concat}
+use Rattle.lists.proofs.Bools.{parts, both, or-l, or-r}
+use Rattle.lists.proofs.Lists.{keep-at, map-at}
+use Rattle.lists.proofs.Ascending.{ascending-keep, ascending-below}
+use Rattle.lists.proofs.Once.{Once}
+use Rattle.lists.proofs.Pairwise.{Pairwise, pairwise-by, pairwise-keep, pairwise-left, pairwise-map, pairwise-of-map, pairwise-concat, pairwise-once, once-getD, ascending-pairwise}
+use Rattle.chart_records.specs.Chart.{Chart, Transition, transitionAt, parentOf}
+use Rattle.chart_records.specs.Tree.{children}
+use Rattle.network_records.specs.Network.{Edge, edgeAt, edgesAscend, key}
+use Rattle.flattening.specs.Flatten.{Pair, Place, idle, child, pre, post, samePlace, hasExit, transitions, places, allPlaces, number, placeHome}
+use Rattle.flattening.specs.Flatten.{alternatives, exitPairs, enterPairs, enterChannel, exitChannel, signalling, edge, ownEdge, departure, bearing}
+use Rattle.flattening.specs.Flatten.{bearingAll, heardExits, heardEntries, toPlace, fromPlace, flatten}
 use Rattle.flattening.proofs.Sums.{sorted-ascending}
 use Rattle.flattening.proofs.Automata.{Region}
 use Rattle.flattening.proofs.Numbers.{IsPlace, places-at, all-places-at, numbers-ascend, numbers-ascend-within}
@@ -167,7 +171,3 @@ module _ (c : Chart) where
   pub edge-at-injective : (m k : ℕ) → m < length (flatten c .edges) → k < length (flatten c .edges) → edgeAt (flatten c) m ≡ edgeAt (flatten c) k → m ≡ k
   unfolding edgeAt
   edge-at-injective m k h l e = once-getD (flatten c .edges) _ m k edges-once h l e
-
-  pub edge-at-ascends : (m k : ℕ) → m < k → k < length (flatten c .edges) → Less (edgeAt (flatten c) m) (edgeAt (flatten c) k)
-  unfolding edgeAt
-  edge-at-ascends m k h l = pairwise-getD Less (flatten c .edges) _ m k edges-pairwise h l

@@ -4,13 +4,13 @@ use mathlib.Core.Bool.{Bool, true, false, cond}
 use mathlib.Core.Logic.{_⊎_, inl, inr, ⊎-elim}
 use Prim.Native.Nat.{ℕ}
 use native.Mathlib.Omega.{arith}
-use Rattle.expr.specs.Lists.{has}
-use Rattle.expr.proofs.Bools.{clash, decided, fails, and-l, and-r, both, same, cond-yes, cond-no}
-use Rattle.chart.specs.Chart.{Chart, stateAt, basic}
-use Rattle.chart_machine.specs.Machine.{isActive, isTree}
-use Rattle.chart_machine.specs.declared.configuration.Configuration.{Configuration}
-use Rattle.chart.proofs.Tree.{Child}
-use Rattle.chart_machine.proofs.Active.{tree-at}
+use Rattle.lists.specs.Lists.{has}
+use Rattle.lists.proofs.Bools.{clash, decided, fails, and-l, and-r, both, same, cond-yes, cond-no}
+use Rattle.chart_records.specs.Chart.{Chart, stateAt, basic}
+use Rattle.chart_moves.specs.Machine.{isActive, isTree}
+use Rattle.chart_moves.specs.declared.configuration.Configuration.{Configuration}
+use Rattle.chart_records.proofs.Tree.{Child}
+use Rattle.chart_moves.proofs.Active.{tree-at}
 use Rattle.flattening.specs.Flatten.{Place, idle, child, atExit, urgentPlace}
 use Rattle.flattening.specs.Picture.{pictured}
 use Rattle.flattening.proofs.Automata.{Region}

@@ -9,27 +9,28 @@ use borrow.Author.Tests.{lt-ltb, leb-true, ne-eqb}
 use lib.Dec.{ltb, eqb}
 use lib.ListN.{length}
 use lib.Pow.{pow-pos}
-use Rattle.expr.specs.Lists.{has, subset}
-use Rattle.expr.specs.Answer.{done}
-use Rattle.expr.specs.Answer as answer
-use Rattle.expr.specs.Reading.{yield, many}
-use Rattle.expr.specs.Guard.{Limits, limits}
-use Rattle.expr.specs.Label.{Label, body, channelFits}
-use Rattle.expr.proofs.Bools.{clash, and-l, and-r}
-use Rattle.expr.proofs.Lists.{map-at}
-use Rattle.expr.proofs.Bits.{has-bits, has-zero, bits-lt, has-low-lt, subset-by}
-use Rattle.expr.proofs.Answer.{unless-at, unless-by, then-at, done-injective}
-use Rattle.expr.proofs.Places.{bind-got}
-use Rattle.expr.proofs.Printed.{byte-front}
-use Rattle.expr.proofs.Ranges.{Row, row-free, row-join, LabelRange, label-range-more}
-use Rattle.network.specs.Network.{Edge, readNetwork, networkOf}
-use Rattle.chart.specs.Chart.{Chart, transitionAt}
-use Rattle.chart.specs.Tree.{sequentials}
-use Rattle.chart.specs.Rules.{chartOf}
-use Rattle.chart.proofs.Tree.{size}
-use Rattle.chart.proofs.Rules.{Passed, kinds-left}
-use Rattle.chart.proofs.Ranges.{Ranges, kinds-of, chart-at}
-use Rattle.chart.proofs.TransitionRules.{transition-mem}
+use Rattle.lists.specs.Lists.{has, subset}
+use Rattle.reading.specs.Answer.{done}
+use Rattle.reading.specs.Answer as answer
+use Rattle.reading.specs.Reading.{yield, many}
+use Rattle.labels.specs.Guard.{Limits, limits}
+use Rattle.labels.specs.Label.{Label, body, channelFits}
+use Rattle.lists.proofs.Bools.{clash, and-l, and-r}
+use Rattle.lists.proofs.Lists.{map-at}
+use Rattle.lists.proofs.Bits.{has-bits, has-zero, bits-lt, has-low-lt, subset-by}
+use Rattle.reading.proofs.Answer.{unless-at, unless-by, then-at, done-injective}
+use Rattle.reading.proofs.Places.{bind-got}
+use Rattle.reading.proofs.Printed.{byte-front}
+use Rattle.clocks.proofs.Ranges.{Row, row-free, row-join}
+use Rattle.labels.proofs.LabelRanges.{LabelRange, label-range-more}
+use Rattle.network_records.specs.Network.{Edge, readNetwork, networkOf}
+use Rattle.chart_records.specs.Chart.{Chart, transitionAt}
+use Rattle.chart_records.specs.Tree.{sequentials}
+use Rattle.chart_records.specs.Rules.{chartOf}
+use Rattle.chart_records.proofs.Tree.{size}
+use Rattle.chart_records.proofs.Rules.{Passed, kinds-left}
+use Rattle.chart_records.proofs.Ranges.{Ranges, kinds-of, chart-at}
+use Rattle.chart_rules.proofs.TransitionRules.{transition-mem}
 use Rattle.flattening.specs.Flatten.{Place, idle, child, pre, post, samePlace, hasExit, own, boundsOf, atExit, initialPlace, flagAt, writtenBy, valuesBy, placeHome, allPlaces, alternatives, onValues, signalling, edge, ownEdge, departure, urgentPlace, locationOf, flatten}
 use Rattle.flattening.specs.File.{edgeBytes, out2, networkBytes, flattenOf, fitted}
 use Rattle.flattening.proofs.Automata.{automaton-lt}

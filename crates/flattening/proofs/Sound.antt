@@ -8,16 +8,18 @@ use native.Mathlib.Omega.{arith}
 use borrow.Author.Tests.{eqb-true, eq-eqb}
 use lib.Dec.{eqb}
 use lib.ListN.{length}
-use Rattle.expr.specs.Lists.{all, below}
-use Rattle.expr.specs.Label.{assignsOnce, distinct}
-use Rattle.expr.proofs.Bools.{parts, both, or-r, cond-yes}
-use Rattle.expr.proofs.Lists.{all-at, all-by, below-all, below-at, below-by, keep-at, keep-by, once-keep, once-below, one-length}
-use Rattle.chart.specs.Chart.{Chart}
-use Rattle.chart.specs.Tree.{sequentials}
-use Rattle.chart.proofs.Rules.{Passed}
-use Rattle.chart.proofs.Ranges.{Ranges}
-use Rattle.chart.proofs.TransitionRules.{transition-mem}
-use Rattle.network.specs.Network.{Edge, Location, locationAt, ownerOf, initials, sound}
+use Rattle.lists.specs.Lists.{all, below, distinct}
+use Rattle.labels.specs.Label.{assignsOnce}
+use Rattle.lists.proofs.Bools.{parts, both, or-r, cond-yes}
+use Rattle.lists.proofs.Lists.{all-at, all-by, keep-at, keep-by}
+use Rattle.lists.proofs.Below.{below-all, below-at, below-by}
+use Rattle.lists.proofs.Once.{once-keep, once-below, one-length}
+use Rattle.chart_records.specs.Chart.{Chart}
+use Rattle.chart_records.specs.Tree.{sequentials}
+use Rattle.chart_records.proofs.Rules.{Passed}
+use Rattle.chart_records.proofs.Ranges.{Ranges}
+use Rattle.chart_rules.proofs.TransitionRules.{transition-mem}
+use Rattle.network_records.specs.Network.{Edge, Location, locationAt, ownerOf, initials, sound}
 use Rattle.flattening.specs.Flatten.{Place, samePlace, number, automaton, placeHome, initialPlace, locationOf, signalling, flatten}
 use Rattle.flattening.proofs.Automata.{regionAt, region-at, automaton-of-region}
 use Rattle.flattening.proofs.Numbers.{IsPlace, same-place-at, same-place-by, number-lt, location-of-place, automaton-of-place, locations-length, place-of-location}

@@ -7,8 +7,10 @@ use Prim.Native.Nat.{ℕ, _+_, _<_}
 use borrow.Author.Tests.{eqb-true, eqb-false, ltb-true, ltb-false}
 use native.Mathlib.Omega.{arith}
 use lib.Dec.{ltb, eqb}
-use Rattle.expr.specs.Lists.{ascending}
-use Rattle.expr.proofs.Lists.{concat-at, concat-by, map-at, map-by, ascending-nil, ascending-cons, ascending-tail, ascending-above}
+use Rattle.lists.specs.Lists.{ascending}
+use Rattle.lists.proofs.Concat.{concat-at, concat-by}
+use Rattle.lists.proofs.Lists.{map-at, map-by}
+use Rattle.lists.proofs.Ascending.{ascending-nil, ascending-cons, ascending-tail, ascending-above}
 use Rattle.flattening.specs.Flatten.{sums, insert, sorted}
 
 pub sums-at : (xs ys : List ℕ) {z : ℕ} → Mem z (sums xs ys) → (x : ℕ) × (y : ℕ) × Mem x xs × Mem y ys × (z ≡ x + y)

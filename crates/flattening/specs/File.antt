@@ -4,11 +4,11 @@ use mathlib.Core.Bool.{Bool, true, false, not, _&&_, _||_}
 use mathlib.Core.List.{List, [], _∷_, _++_, map}
 use lib.Dec.{leb, ltb, eqb}
 use lib.ListN.{getD, length, take, drop}
-use Rattle.expr.specs.Lists.{concat}
-use Rattle.expr.specs.Label.{Label}
-use Rattle.expr.specs.Answer.{Answer, done, refused, unless, _>>=_}
-use Rattle.network.specs.Network.{Location, Edge, Network}
-use Rattle.chart.specs.Rules.{chartOf}
+use Rattle.lists.specs.Lists.{concat}
+use Rattle.labels.specs.Label.{Label}
+use Rattle.reading.specs.Answer.{Answer, done, refused, unless, _>>=_}
+use Rattle.network_records.specs.Network.{Location, Edge, Network}
+use Rattle.chart_records.specs.Rules.{chartOf}
 use Rattle.flattening.specs.Flatten.{flatten}
 
 unfoldable pub out2 : ℕ → List ℕ

@@ -4,12 +4,12 @@ use mathlib.Core.Bool.{cond}
 use mathlib.Core.List.{map}
 use lib.Dec.{ltb}
 use lib.ListN.{getD, length}
-use Rattle.expr.specs.Lists.{below, keep, bitsOf}
-use Rattle.chart.specs.Chart.{Chart}
-use Rattle.chart.specs.Tree.{children, sequentials}
-use Rattle.chart_machine.specs.Machine.{isActive}
-use Rattle.chart_machine.specs.declared.configuration.Configuration as chart-type
-use Rattle.network_machine.specs.declared.configuration.Configuration as network-type
+use Rattle.lists.specs.Lists.{below, keep, bitsOf}
+use Rattle.chart_records.specs.Chart.{Chart}
+use Rattle.chart_records.specs.Tree.{children, sequentials}
+use Rattle.chart_moves.specs.Machine.{isActive}
+use Rattle.chart_moves.specs.declared.configuration.Configuration as chart-type
+use Rattle.network_moves.specs.declared.configuration.Configuration as network-type
 use Rattle.flattening.specs.Flatten.{Place, idle, child, number, flagAt}
 
 -- the place of a sequential state: its active child, or idle

@@ -3,13 +3,13 @@ use Prim.Native.Nat.{ℕ, zero, suc, _+_}
 use mathlib.Core.List.{List, [], _∷_, _++_, map}
 use lib.IntN.{ℤ, pos, negsuc}
 use lib.ListN.{replicate}
-use Rattle.expr.specs.Lists.{below, concat, elem, padded}
-use Rattle.expr.specs.Answer.{Answer, done, refused}
-use Rattle.chart.specs.Rules.{chartOf}
-use Rattle.chart_machine.specs.Machine as chart
-use Rattle.chart_machine.specs.declared.configuration.Configuration.{Configuration as ChartConfiguration}
-use Rattle.network_machine.specs.Machine as network
-use Rattle.network_machine.specs.declared.configuration.Configuration.{Configuration as NetworkConfiguration}
+use Rattle.lists.specs.Lists.{below, concat, elem, padded}
+use Rattle.reading.specs.Answer.{Answer, done, refused}
+use Rattle.chart_records.specs.Rules.{chartOf}
+use Rattle.chart_moves.specs.Machine as chart
+use Rattle.chart_moves.specs.declared.configuration.Configuration.{Configuration as ChartConfiguration}
+use Rattle.network_moves.specs.Machine as network
+use Rattle.network_moves.specs.declared.configuration.Configuration.{Configuration as NetworkConfiguration}
 use Rattle.flattening.specs.File.{out2, recordBytes, flattenOf}
 
 -- what is asked

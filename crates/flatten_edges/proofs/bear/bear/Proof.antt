@@ -5,7 +5,7 @@ use Rattle.flatten_edges.proofs.bear.bear.Statement.{statement}
 use Rattle.flatten_edges.proofs.bear.bear.Tie as tie
 
 returns : tie.Need-returns
-returns c = λ d n q T S L h f g m. adds-past _ _ _ (c .if1 .taken)
+returns c = λ d n s q T S L h o f g m R. (adds-past _ _ _ (c .if1 .taken), R)
 
 joining-requires : tie.Need-joining-requires
 joining-requires c κs = search needs
@@ -23,7 +23,14 @@ push-requires : tie.Need-push-requires
 push-requires c κs = search needs
 
 returns-2 : tie.Need-returns-2
-returns-2 c = λ d n q T S L h f g m. bear-none d _ _ _ T S n _ _ L _ h _ _ q f g m (c .before .before .before .before .before .before .before .joining .ensures) (c .before .before .before .before .before .before .signals-of .ensures) _ (c .before .before .before .before .of-transition .ensures) (c .before .before .before .if2 .taken) (c .before .bearing-head .ensures) (c .push .ensures)
+returns-2 c = λ d n s q T S L h o f g m R.
+    let none = c .before .before .before in
+    let by = none .before in
+    let ends = by .before .before in (
+      bear-none d _ _ _ T S n _ _ L _ h _ o _ _ q f g m (ends .before .joining .ensures) (ends .signals-of .ensures) _ (by .of-transition .ensures)
+          (none .if2 .taken) (c .before .bearing-head .ensures) (c .push .ensures),
+      R,
+    )
 
 start-off-requires : tie.Need-start-off-requires
 start-off-requires c κs = search needs
@@ -31,17 +38,31 @@ start-off-requires c κs = search needs
 of-transition-requires-2 : tie.Need-of-transition-requires-2
 of-transition-requires-2 c κs = search needs
 
-alternatives-requires : tie.Need-alternatives-requires
-alternatives-requires c κs = search needs
+sets-by-requires : tie.Need-sets-by-requires
+sets-by-requires c κs = search needs
 
 returns-3 : tie.Need-returns-3
-returns-3 c = λ d n q T S L h f g m. bear-over d _ _ _ T S n _ _ L _ h _ _ q f g m (c .before .before .before .before .before .before .before .before .before .before .before .before .joining .ensures) (c .before .before .before .before .before .before .before .before .before .before .before .signals-of .ensures) _ (c .before .before .before .before .before .before .before .before .before .of-transition .ensures) (c .before .before .before .before .before .before .before .before .if2 .left) (c .before .before .of-transition2 .ensures) (c .before .alternatives .ensures) _ _ (c .if3 .taken)
+returns-3 c = λ d n s q T S L h o f g m R.
+    let from = c .before .before .before .before in
+    let some = from .before .before .before .before .before .before in
+    let by = some .before in
+    let ends = by .before .before in
+    bear-over d _ _ _ T S n _ _ L _ h _ o _ _ q f g m (ends .before .joining .ensures) (ends .signals-of .ensures) _ (by .of-transition .ensures)
+    (some .if2 .left) (from .of-transition2 .ensures) (c .before .sets-by .ensures) R _ _ (c .if3 .taken)
 
 bear-each-requires : tie.Need-bear-each-requires
 bear-each-requires c κs = search needs
 
 returns-4 : tie.Need-returns-4
-returns-4 c = λ d n q T S L h f g m. bear-some d _ _ _ T S n _ _ L _ h _ _ q f g m (c .before .before .before .before .before .before .before .before .before .before .before .before .before .before .before .before .joining .ensures) (c .before .before .before .before .before .before .before .before .before .before .before .before .before .before .before .signals-of .ensures) _ (c .before .before .before .before .before .before .before .before .before .before .before .before .before .of-transition .ensures) (c .before .before .before .before .before .before .before .before .before .before .before .before .if2 .left) (c .before .before .before .before .before .before .of-transition2 .ensures) (c .before .before .before .before .before .alternatives .ensures) (c .before .before .before .before .if3 .left) (c .before .before .before .before .before .before .before .before .start-off .ensures) (c .bear-each .ensures)
+returns-4 c = λ d n s q T S L h o f g m R.
+    let few = c .before .before .before in
+    let from = few .before .before .before .before in
+    let off = from .before .before in
+    let some = off .before .before .before .before in
+    let by = some .before in
+    let ends = by .before .before in
+    bear-some d _ _ _ T S n _ _ L _ h _ o _ _ q f g m (ends .before .joining .ensures) (ends .signals-of .ensures) _ (by .of-transition .ensures)
+    (some .if2 .left) (from .of-transition2 .ensures) (few .before .sets-by .ensures) R (few .if3 .left) (off .start-off .ensures) (c .bear-each .ensures)
 
 pub bear-spec : {M : Type 1} → statement M
 bear-spec =
@@ -56,7 +77,7 @@ bear-spec =
     returns-2
     start-off-requires
     of-transition-requires-2
-    alternatives-requires
+    sets-by-requires
     returns-3
     bear-each-requires
     returns-4)

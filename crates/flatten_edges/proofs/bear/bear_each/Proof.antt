@@ -3,9 +3,9 @@ use Rattle.flatten_edges.specs.Bearing.{BearsEach}
 use Rattle.flatten_edges.specs.Adding.{Adds}
 use Rattle.flatten_edges.proofs.Bears.{setEdge, set-more, set-all}
 use Rattle.flatten_edges.proofs.Gathers.{walk-none}
-use Rattle.chart.specs.Chart.{Chart}
-use Rattle.expr.specs.Label.{Label}
-use Rattle.expr.specs.Lists.{concat}
+use Rattle.chart_records.specs.Chart.{Chart}
+use Rattle.labels.specs.Label.{Label}
+use Rattle.lists.specs.Lists.{concat}
 use lib.ListN.{take}
 use native.Mathlib.Omega.{arith}
 use Prim.Native.Nat.{ℕ, _-_}
@@ -26,9 +26,6 @@ returns c = λ d p q l xs B. absurd (omega (arith, c .if1 .taken, B .few))
 
 loop-holds : tie.Need-loop-holds Inv-loop μ-loop
 loop-holds c = λ d p q l xs B. walk-none _ xs _ _
-
-cast-tested : tie.Need-cast-tested Inv-loop μ-loop
-cast-tested c = search needs
 
 mul-tested : tie.Need-mul-tested Inv-loop μ-loop
 mul-tested c = search needs
@@ -62,7 +59,6 @@ bear-each-spec =
     μ-loop
     returns
     loop-holds
-    cast-tested
     mul-tested
     element-copy-out-tested
     bearing-head-requires

@@ -1,13 +1,13 @@
 use Rattle.flattening.specs.Flatten.{allPlaces, fromPlace}
-use Rattle.flatten_tables.specs.Walking.{Tabulated}
-use Rattle.flatten_tables.specs.Tables.{Listed}
+use Rattle.flatten_places.specs.Walking.{Tabulated}
+use Rattle.flatten_places.specs.Tables.{Listed}
 use Rattle.flatten_edges.specs.Adding.{Adds}
 use Rattle.flatten_edges.proofs.Visits.{spread-of, place-more, edges-all, place-past}
 use Rattle.flatten_edges.proofs.Gathers.{walk-none}
-use Rattle.chart.specs.declared.header.Counts.{Counts}
-use Rattle.chart.specs.Laid.{Laid}
-use Rattle.chart.specs.Chart.{Chart}
-use Rattle.expr.specs.Lists.{concat}
+use Rattle.chart_records.specs.declared.header.Counts.{Counts}
+use Rattle.chart_records.specs.Laid.{Laid}
+use Rattle.chart_records.specs.Chart.{Chart}
+use Rattle.lists.specs.Lists.{concat}
 use lib.ListN.{take}
 use native.Mathlib.Omega.{arith}
 use Prim.Native.Nat.{_-_}
@@ -38,7 +38,10 @@ from-place-requires c κs = search needs
 
 returns : tie.Need-returns Inv-loop μ-loop
 returns c = λ d r T P L e.
-    place-past d _ P _ _ _ _ (c .before .before .before .before .before .before .before .before .before .before .before .before .before .loop .inv d r T P L) (c .before .before .before .before .before .before .before .before .before .before .before .if1 .taken) (c .before .before .before .before .before .before .before .before .before .of-place .ensures) (c .before .before .before .before .before .before .before .of-place2 .ensures) (c .before .before .before .before .before .of-place3 .ensures)
+    let kind = c .before .before .before .before .before .before .before .before .before in
+    let test = kind .before .before in
+    place-past d _ P _ _ _ _ (test .before .before .loop .inv d r T P L) (test .if1 .taken) (kind .of-place .ensures)
+    (c .before .before .before .before .before .before .before .of-place2 .ensures) (c .before .before .before .before .before .of-place3 .ensures)
     (λ p m f k v a. c .before .from-place .ensures d r p T (spread-of d _ P) L (P .count) m f k v a) (c .if2 .taken) e
 
 add-i : tie.Need-add-i Inv-loop μ-loop
@@ -49,7 +52,10 @@ loop-less c = omega arith
 
 loop-again : tie.Need-loop-again Inv-loop μ-loop
 loop-again c = λ d r T P L.
-    place-more d _ P _ _ _ _ (c .before .before .before .before .before .before .before .before .before .before .before .before .before .loop .inv d r T P L) (c .before .before .before .before .before .before .before .before .before .before .before .if1 .taken) (c .before .before .before .before .before .before .before .before .before .of-place .ensures) (c .before .before .before .before .before .before .before .of-place2 .ensures) (c .before .before .before .before .before .of-place3 .ensures)
+    let kind = c .before .before .before .before .before .before .before .before .before in
+    let test = kind .before .before in
+    place-more d _ P _ _ _ _ (test .before .before .loop .inv d r T P L) (test .if1 .taken) (kind .of-place .ensures)
+    (c .before .before .before .before .before .before .before .of-place2 .ensures) (c .before .before .before .before .before .of-place3 .ensures)
     (λ p m f k v a. c .before .from-place .ensures d r p T (spread-of d _ P) L (P .count) m f k v a)
 
 returns-2 : tie.Need-returns-2 Inv-loop μ-loop

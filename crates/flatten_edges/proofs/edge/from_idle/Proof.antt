@@ -1,10 +1,10 @@
 use Rattle.flattening.specs.Flatten.{idle, allPlaces, number}
-use Rattle.flatten_tables.specs.Walking.{Tabulated, Spread}
+use Rattle.flatten_places.specs.Walking.{Tabulated, Spread}
 use Rattle.flatten_edges.specs.Adding.{Adds}
 use Rattle.flatten_edges.proofs.Walks.{idleEdges, idle-skip, idle-more, idle-all}
 use Rattle.flatten_edges.proofs.Gathers.{walk-none}
-use Rattle.chart.specs.Chart.{Chart, states}
-use Rattle.expr.specs.Lists.{concat}
+use Rattle.chart_records.specs.Chart.{Chart, states}
+use Rattle.lists.specs.Lists.{concat}
 use lib.ListN.{take}
 use native.Mathlib.Omega.{arith}
 use Prim.Native.Nat.{_-_}

@@ -32,7 +32,11 @@ push-requires c κs = search needs
 
 returns : tie.Need-returns
 returns c = λ d T S m f.
-    post-adds d _ _ _ T S _ _ _ _ _ _ _ _ _ _ m f (c .before .before .before .before .before .before .before .before .before .before .before .before .before .of-transition .ensures) (c .before .before .before .before .before .before .before .before .before .before .of-transition2 .ensures) (c .before .before .before .before .before .before .before .before .of-transition3 .ensures) (c .before .before .before .before .before .before .before .before .before .before .before .before .joining .ensures)
+    let left = c .before .before .before .before .before .before .before .before in
+    let from = left .before .before in
+    let ends = from .before .before in
+    post-adds d _ _ _ T S _ _ _ _ _ _ _ _ _ _ m f (ends .before .of-transition .ensures) (from .of-transition2 .ensures) (left .of-transition3 .ensures)
+    (ends .joining .ensures)
     (c .before .before .before .before .before .pair-position .ensures) (c .before .before .before .before .channel-of .ensures) (c .before .before .channel-of2 .ensures) (c .before .own-head .ensures) (c .push .ensures)
 
 pub from-post-spec : {M : Type 1} → statement M

@@ -4,7 +4,7 @@ use mathlib.Core.List.{List}
 use Prim.Native.Nat.{_+_, _-_}
 use native.Mathlib.Omega.{arith}
 use lib.ListN.{drop}
-use Rattle.expr.specs.Lists.{position}
+use Rattle.lists.specs.Lists.{position}
 use Rattle.flattening.specs.Flatten.{Pair, samePair}
 use Rattle.flatten_edges.specs.Hearing.{PairColumns}
 use Rattle.flatten_edges.proofs.Hears.{search-start, search-on, search-found, search-none}

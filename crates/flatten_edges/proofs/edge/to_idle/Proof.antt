@@ -25,7 +25,13 @@ hear-exits-requires : tie.Need-hear-exits-requires
 hear-exits-requires c κs = search needs
 
 returns : tie.Need-returns
-returns c = λ d T S m f. idle-adds d _ T _ m _ _ S _ f (c .before .before .before .before .before .before .before .before .before .before .before .before .before .of-state .ensures) (c .before .before .before .before .before .before .before .before .before .before .before .of-state2 .ensures) (c .before .before .before .before .before .before .before .before .before .of-place .ensures) (c .before .before .before .before .before .before .before .before .of-automaton .ensures) (c .before .before .before .before .before .before .joining .ensures) (c .before .before .before .before .before .channel-of .ensures) (c .hear-exits .ensures)
+returns c = λ d T S m f.
+    let before = c .before .before .before .before .before in
+    let first = before .before .before .before in
+    let home = first .before in
+    let low = home .before .before in
+    idle-adds d _ T _ m _ _ S _ f (low .before .before .of-state .ensures) (low .of-state2 .ensures) (home .of-place .ensures)
+    (first .of-automaton .ensures) (before .before .joining .ensures) (before .channel-of .ensures) (c .hear-exits .ensures)
 
 pub to-idle-spec : {M : Type 1} → statement M
 to-idle-spec =

@@ -1,5 +1,5 @@
 use borrow.Author.Needs.{needs}
-use Rattle.expr.specs.Lists.{has}
+use Rattle.lists.specs.Lists.{has}
 use Rattle.flatten_edges.proofs.Joining.{OffFrom, off-none, off-more, off-all, off-many}
 use Rattle.flatten_edges.proofs.flag.start_off.Statement.{statement}
 use Rattle.flatten_edges.proofs.flag.start_off.Tie as tie

@@ -4,8 +4,8 @@ use Prim.Native.Nat.{_<_}
 use native.Mathlib.Omega.{arith}
 use borrow.Author.Tests.{not-true, not-false}
 use lib.ListN.{length}
-use Rattle.chart.specs.Chart.{Chart}
-use Rattle.chart.specs.Tree.{entered}
+use Rattle.chart_records.specs.Chart.{Chart}
+use Rattle.chart_records.specs.Tree.{entered}
 use Rattle.flatten_edges.specs.Hearing.{Entering}
 use Rattle.flatten_edges.proofs.Hears.{enter-less, enter-not, enter-on, enter-end}
 use Rattle.flatten_edges.proofs.hear.enters.Statement.{statement}
@@ -50,8 +50,11 @@ loop-less c = search needs
 
 loop-again : tie.Need-loop-again Inv-loop μ-loop
 loop-again c = λ d E h l.
-    let i = c .before .before .before .before .before .before .before .before .loop .inv d E h l in
-    (omega (arith, c .if2 .left, i .0), i .1 ∙ enter-on d _ _ E _ l _ (i .0) (c .before .before .before .before .before .before .before .loop-test .taken) (c .before .before .before .before .before .marks-at .ensures) (c .before .before .before .before .has .ensures) (not-false _ (c .before .before .before .if1 .left)) (c .before .byte-at .ensures))
+    let i = c .before .before .before .before .before .before .before .before .loop .inv d E h l in (
+      omega (arith, c .if2 .left, i .0),
+      i .1 ∙ enter-on d _ _ E _ l _ (i .0) (c .before .before .before .before .before .before .before .loop-test .taken)
+          (c .before .before .before .before .before .marks-at .ensures) (c .before .before .before .before .has .ensures) (not-false _ (c .before .before .before .if1 .left)) (c .before .byte-at .ensures),
+    )
 
 marks-at-requires-2 : tie.Need-marks-at-requires-2 Inv-loop μ-loop
 marks-at-requires-2 c κs = search needs

@@ -2,8 +2,8 @@ use borrow.Author.Needs.{needs}
 use Prim.Native.Nat.{_-_}
 use native.Mathlib.Omega.{arith}
 use lib.ListN.{take}
-use Rattle.expr.specs.Lists.{concat}
-use Rattle.chart.specs.Chart.{Chart}
+use Rattle.lists.specs.Lists.{concat}
+use Rattle.chart_records.specs.Chart.{Chart}
 use Rattle.flattening.specs.Flatten.{enterPairs}
 use Rattle.flatten_edges.specs.Adding.{Adds}
 use Rattle.flatten_edges.specs.Hearing.{HearsEntries}
@@ -54,7 +54,8 @@ loop-less c = omega arith
 loop-again : tie.Need-loop-again Inv-loop μ-loop
 loop-again c = λ d H.
     entry-more d _ _ _ _ _ _ _ _ _ H _ _ _ _ _ _ (c .before .before .before .before .before .before .before .before .before .loop .inv d H) (c .before .before .before .before .before .before .before .before .loop-test .taken)
-    (c .before .before .before .before .before .before .byte-at .ensures) (c .before .before .before .before .byte-at2 .ensures) (c .before .before .before .before .before .before .before .before .before .before .marks-at .ensures) (c .before .before .before .hears-entry .ensures) (c .before .channel-of .ensures) (c .push-if .ensures)
+    (c .before .before .before .before .before .before .byte-at .ensures) (c .before .before .before .before .byte-at2 .ensures)
+    (c .before .before .before .before .before .before .before .before .before .before .marks-at .ensures) (c .before .before .before .hears-entry .ensures) (c .before .channel-of .ensures) (c .push-if .ensures)
 
 returns : tie.Need-returns Inv-loop μ-loop
 returns c = λ d H. entry-all d _ _ _ _ _ _ _ _ _ H _ (c .before .loop .inv d H) (c .loop-test .left)

@@ -2,8 +2,8 @@ use borrow.Author.Needs.{needs}
 use Prim.Native.Nat.{ℕ, _-_}
 use native.Mathlib.Omega.{arith}
 use lib.ListN.{take}
-use Rattle.expr.specs.Lists.{concat}
-use Rattle.chart.specs.Chart.{Chart}
+use Rattle.lists.specs.Lists.{concat}
+use Rattle.chart_records.specs.Chart.{Chart}
 use Rattle.flattening.specs.Flatten.{exitPairs}
 use Rattle.flatten_edges.specs.Adding.{Adds}
 use Rattle.flatten_edges.specs.Hearing.{HearsExits}

@@ -1,6 +1,6 @@
 use borrow.Author.Needs.{needs}
 use borrow.Author.Tests.{not-true, not-false}
-use Rattle.chart.specs.Tree.{entered}
+use Rattle.chart_records.specs.Tree.{entered}
 use Rattle.flatten_edges.proofs.Hears.{unheard, heard}
 use Rattle.flatten_edges.proofs.hear.hears_entry.Statement.{statement}
 use Rattle.flatten_edges.proofs.hear.hears_entry.Tie as tie

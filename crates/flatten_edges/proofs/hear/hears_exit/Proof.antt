@@ -1,6 +1,6 @@
 use borrow.Author.Needs.{needs}
 use borrow.Author.Tests.{not-true, not-false}
-use Rattle.chart.specs.Tree.{under}
+use Rattle.chart_records.specs.Tree.{under}
 use Rattle.flatten_edges.proofs.Hears.{unheard, heard}
 use Rattle.flatten_edges.proofs.hear.hears_exit.Statement.{statement}
 use Rattle.flatten_edges.proofs.hear.hears_exit.Tie as tie

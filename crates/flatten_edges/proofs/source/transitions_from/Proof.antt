@@ -1,6 +1,6 @@
-use Rattle.flatten_tables.specs.Tables.{ColumnOf}
+use Rattle.flatten_places.specs.Tables.{ColumnOf}
 use Rattle.flatten_edges.proofs.Departs.{comesFrom, Kept, kept-none, kept-yes, kept-no, sourced-all}
-use Rattle.chart.specs.Chart.{Chart}
+use Rattle.chart_records.specs.Chart.{Chart}
 use borrow.Author.Tests.{eq-eqb, ne-eqb}
 use lib.ListN.{length, length-set}
 use native.Mathlib.Omega.{arith}

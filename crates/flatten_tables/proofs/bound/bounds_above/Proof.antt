@@ -4,8 +4,8 @@ use mathlib.Core.Path.{_≡_}
 use mathlib.Core.Logic.{⊎-elim}
 use Prim.Native.Nat.{_-_, _≤_}
 use lib.ListN.{length, length-set}
-use Rattle.chart.specs.Chart.{Chart}
-use Rattle.chart.specs.Table.{Column, Rooted}
+use Rattle.chart_records.specs.Chart.{Chart}
+use Rattle.chart_tree.specs.Table.{Column, Rooted}
 use Rattle.flattening.specs.Flatten.{own}
 use Rattle.flatten_tables.specs.Bounding.{RowsOf, aboveOf}
 use Rattle.flatten_tables.proofs.Bounding.{RowsTo, rows-more, rows-skip, above-first, above-next, parent-lt}
@@ -62,7 +62,11 @@ loop-again c =
     (λ w. (
       omega arith,
       rw (w .4, length-set) (v .1),
-      λ d R K f. rw (w .4) (rows-more (c .before .before .before .loop .s) (aboveOf d) _ (c .before .before .before .loop .table) _ (v .2 d R K f) (omega arith) (λ h. above-next d R _ h (v .0) (c .before .byte-at .ensures) (w .0 .taken) (c .before .before .before .before .before .before .args .t3) (c .before .before .before .loop .table) f (v .2 d R K f) (w .3 .ensures d R K))),
+      λ d R K f.
+          let at = c .before .before .before in
+          rw (w .4) (rows-more (at .loop .s) (aboveOf d) _ (at .loop .table) _ (v .2 d R K f) (omega arith)
+          (λ h. above-next d R _ h (v .0) (c .before .byte-at .ensures) (w .0 .taken) (at .before .before .before .args .t3) (at .loop .table) f
+          (v .2 d R K f) (w .3 .ensures d R K))),
     ))
     (λ w. (
       omega arith,

@@ -22,7 +22,10 @@ join-requires : tie.Need-join-requires
 join-requires c κs = search needs
 
 returns-3 : tie.Need-returns-3
-returns-3 c d R K h e f = carried-join d R (c .before .before .before .before .before .before .before .args .kinds .now) K _ h (c .before .before .before .before .if1 .left) (c .before .before .before .byte-at .ensures) (c .before .before .byte-at2 .ensures) (c .before .if2 .left) e f (c .join .ensures)
+returns-3 c d R K h e f =
+    let above = c .before .before .before in
+    carried-join d R (above .before .before .before .before .args .kinds .now) K _ h (above .before .if1 .left) (above .byte-at .ensures) (c .before .before .byte-at2 .ensures)
+    (c .before .if2 .left) e f (c .join .ensures)
 
 pub carried-spec : {M : Type 1} → statement M
 carried-spec =

@@ -1,5 +1,5 @@
 use borrow.Author.Needs.{needs}
-use Rattle.chart.proofs.Tables.{rooted-of}
+use Rattle.chart_tree.proofs.Tables.{rooted-of}
 use Rattle.flatten_tables.proofs.Bounding.{rows-joined}
 use Rattle.flatten_tables.proofs.bound.joined_bounds.Statement.{statement}
 use Rattle.flatten_tables.proofs.bound.joined_bounds.Tie as tie
@@ -20,7 +20,16 @@ join-tables-requires : tie.Need-join-tables-requires
 join-tables-requires c κs = search needs
 
 returns : tie.Need-returns
-returns c d S T r5 r8 = record { tabled = T; parents = r5; entry-marks = r8; rows = rows-joined d (c .before .before .before .before .before .before .own-bounds .result) (c .before .bounds-above .result) (c .before .before .before .before .before .before .own-bounds .ensures d S) (c .before .bounds-above .ensures d (rooted-of d _ T r5) (T .kind) (c .before .before .before .before .before .before .own-bounds .ensures d S)) (c .join-tables .ensures) }
+returns c d S T r5 r8 =
+    let mine = c .before .before .before .before .before .before .own-bounds in
+    let above = c .before .bounds-above in
+    record {
+      tabled = T;
+      parents = r5;
+      entry-marks = r8;
+      rows = rows-joined d (mine .result) (above .result) (mine .ensures d S) (above .ensures d (rooted-of d _ T r5) (T .kind) (mine .ensures d S))
+          (c .join-tables .ensures);
+    }
 
 pub joined-bounds-spec : {M : Type 1} → statement M
 joined-bounds-spec =

@@ -3,9 +3,9 @@ use borrow.Author.Needs.{needs}
 use mathlib.Core.Path.{_≡_}
 use Prim.Native.Nat.{_-_, _≤_}
 use lib.ListN.{length, length-set}
-use Rattle.chart.specs.Chart.{Chart}
-use Rattle.chart.specs.Layout.{Stated}
-use Rattle.chart.proofs.Ranges.{counts-range}
+use Rattle.chart_records.specs.Chart.{Chart}
+use Rattle.chart_records.specs.Layout.{Stated}
+use Rattle.chart_records.proofs.Ranges.{counts-range}
 use Rattle.flattening.specs.Flatten.{own}
 use Rattle.flatten_tables.proofs.Bounding.{RowsTo, rows-more, own-is}
 use Rattle.flatten_tables.proofs.bound.own_bounds.Statement.{statement}

@@ -4,9 +4,9 @@ use mathlib.Core.Path.{_≡_}
 use mathlib.Core.Bool.{Bool, false}
 use Prim.Native.Nat.{ℕ, _≤_}
 use lib.ListN.{length, replicate}
-use Rattle.chart.specs.Chart.{Chart}
-use Rattle.chart.specs.Tree.{entered}
-use Rattle.chart.specs.Table.{adding}
+use Rattle.chart_records.specs.Chart.{Chart}
+use Rattle.chart_records.specs.Tree.{entered}
+use Rattle.chart_tree.specs.Table.{adding}
 use Rattle.flattening.specs.Flatten.{joined}
 use Rattle.flatten_tables.specs.Bounding.{RowsOf}
 use Rattle.flatten_tables.proofs.Bounding.{joins, joins-none, joins-in, joins-out, joins-all}
@@ -45,7 +45,13 @@ loop-less : tie.Need-loop-less Inv-loop μ-loop
 loop-less c = search needs
 
 loop-again : tie.Need-loop-again Inv-loop μ-loop
-loop-again c = (omega arith, λ d f few R S. joins-in d f _ S _ (c .before .before .before .loop-test .taken) (c .before .before .before .before .loop .inv .0) (c .before .before .before .before .before .before .args .t2) R (c .before .before .if1 .taken) (c .before .before .before .before .loop .inv .1 d f few R S) (c .join .ensures))
+loop-again c =
+    let test = c .before .before .before in
+    let i = test .before .loop .inv in (
+      omega arith,
+      λ d f few R S. joins-in d f _ S _ (test .loop-test .taken) (i .0) (test .before .before .before .args .t2) R
+          (c .before .before .if1 .taken) (i .1 d f few R S) (c .join .ensures),
+    )
 
 loop-less-2 : tie.Need-loop-less-2 Inv-loop μ-loop
 loop-less-2 c = search needs

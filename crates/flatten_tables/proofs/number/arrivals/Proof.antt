@@ -1,11 +1,11 @@
 use mathlib.Core.Path.{refl}
 use Prim.Native.Nat.{_-_}
 use lib.ListN.{length}
-use Rattle.chart.specs.Chart.{Chart}
+use Rattle.chart_records.specs.Chart.{Chart}
 use Rattle.flattening.specs.Flatten.{number, arrival}
-use Rattle.flatten_tables.specs.Tables.{Chartered, ColumnOf}
+use Rattle.flatten_places.specs.Tables.{Chartered, ColumnOf}
 use Rattle.flatten_tables.specs.Numbering.{Numbered}
-use Rattle.flatten_tables.proofs.Filling.{FilledAmong, filled-among-none, filled-among-more}
+use Rattle.flatten_places.proofs.Filling.{FilledAmong, filled-among-none, filled-among-more}
 use borrow.Author.Needs.{needs}
 use native.Mathlib.Omega.{arith}
 use Rattle.flatten_tables.proofs.number.arrivals.Statement.{statement}

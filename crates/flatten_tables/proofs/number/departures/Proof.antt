@@ -1,18 +1,21 @@
 use mathlib.Core.Path.{refl}
 use Prim.Native.Nat.{_-_}
 use lib.ListN.{length}
-use Rattle.chart.specs.Chart.{Chart}
+use Rattle.chart_records.specs.Chart.{Chart}
 use Rattle.flattening.specs.Flatten.{number, departure}
-use Rattle.flatten_tables.specs.Tables.{Chartered, ColumnOf}
+use Rattle.flatten_places.specs.Tables.{Chartered, ColumnOf}
 use Rattle.flatten_tables.specs.Numbering.{Numbered}
-use Rattle.flatten_tables.proofs.Filling.{FilledAmong, filled-among-none, filled-among-more}
+use Rattle.flatten_places.proofs.Filling.{FilledAmong, filled-among-none, filled-among-more}
 use borrow.Author.Needs.{needs}
 use native.Mathlib.Omega.{arith}
 use Rattle.flatten_tables.proofs.number.departures.Statement.{statement}
 use Rattle.flatten_tables.proofs.number.departures.Tie as tie
 
 abbrev Inv-loop : tie.InvT-loop
-Inv-loop numbers destinations exits entries reached₀ t₀ reached t = (k : Chart) → Chartered k → ColumnOf (λ u. u .destination) k destinations → ColumnOf (λ u. u .exit) k exits → ColumnOf (λ u. u .entry) k entries → Numbered k numbers → FilledAmong 64 (length (k .transitions)) (λ t. number k (departure k t)) reached t
+Inv-loop numbers destinations exits entries reached₀ t₀ reached t =
+    (k : Chart) → Chartered k → ColumnOf (λ u. u .destination) k destinations → ColumnOf (λ u. u .exit) k exits
+    → ColumnOf (λ u. u .entry) k entries → Numbered k numbers
+    → FilledAmong 64 (length (k .transitions)) (λ t. number k (departure k t)) reached t
 
 abbrev μ-loop : tie.MeasureT-loop
 μ-loop numbers destinations exits entries reached₀ t₀ reached t = 64 - t

@@ -1,12 +1,12 @@
 use Prim.Native.Nat.{ℕ, _<_, _-_}
 use lib.ListN.{getD, length}
-use Rattle.chart.specs.Tree.{sequentials}
+use Rattle.chart_records.specs.Tree.{sequentials}
 use mathlib.Core.Path.{_≡_, refl, _∙_}
-use Rattle.chart.specs.Chart.{Chart}
+use Rattle.chart_records.specs.Chart.{Chart}
 use Rattle.flattening.specs.Flatten.{idle, number}
 use Rattle.flatten_tables.specs.Numbering.{Numbered}
-use Rattle.flatten_tables.proofs.Filling.{FilledAmong, filled-among-none, filled-among-more}
-use Rattle.flatten_tables.proofs.Placing.{state-column}
+use Rattle.flatten_places.proofs.Filling.{FilledAmong, filled-among-none, filled-among-more}
+use Rattle.flatten_places.proofs.Placing.{state-column}
 use Rattle.flatten_tables.proofs.Slots.{found-idle}
 use borrow.Author.Needs.{needs}
 use native.Mathlib.Omega.{arith}

@@ -1,15 +1,15 @@
 use mathlib.Core.Path.{_≡_, refl, sym, ap, _∙_, subst}
 use Prim.Native.Nat.{ℕ, _-_, _<_}
 use lib.ListN.{length, getD}
-use Rattle.chart.specs.Chart.{Chart}
-use Rattle.chart.specs.Table.{Tabled}
-use Rattle.chart.specs.Tree.{sequentials}
+use Rattle.chart_records.specs.Chart.{Chart}
+use Rattle.chart_tree.specs.Table.{Tabled}
+use Rattle.chart_records.specs.Tree.{sequentials}
 use Rattle.flattening.specs.Flatten.{number, initialPlace}
 use Rattle.flattening.proofs.Automata.{Region, region-at}
-use Rattle.flatten_tables.specs.Tables.{Chartered}
+use Rattle.flatten_places.specs.Tables.{Chartered}
 use Rattle.flatten_tables.specs.Numbering.{Numbered, startSet}
-use Rattle.flatten_tables.proofs.Filling.{FilledAmong, filled-among-none, filled-among-more}
-use Rattle.flatten_tables.proofs.Placing.{state-column}
+use Rattle.flatten_places.proofs.Filling.{FilledAmong, filled-among-none, filled-among-more}
+use Rattle.flatten_places.proofs.Placing.{state-column}
 use Rattle.flatten_tables.proofs.Slots.{rules-of}
 use borrow.Author.Needs.{needs}
 use native.Mathlib.Omega.{arith}
@@ -17,7 +17,10 @@ use Rattle.flatten_tables.proofs.number.initials.Statement.{statement}
 use Rattle.flatten_tables.proofs.number.initials.Tie as tie
 
 abbrev Inv-loop : tie.InvT-loop
-Inv-loop tree numbers active states initial₀ a₀ initial a = (k : Chart) → Chartered k → Tabled k tree → ((b : ℕ) → b < length (sequentials k) → getD states b 0 ≡ getD (sequentials k) b 0) → Numbered k numbers → active ≡ startSet k → FilledAmong 16 (length (sequentials k)) (λ a. number k (initialPlace k (getD (sequentials k) a 0))) initial a
+Inv-loop tree numbers active states initial₀ a₀ initial a =
+    (k : Chart) → Chartered k → Tabled k tree → ((b : ℕ) → b < length (sequentials k) → getD states b 0 ≡ getD (sequentials k) b 0)
+    → Numbered k numbers → active ≡ startSet k
+    → FilledAmong 16 (length (sequentials k)) (λ a. number k (initialPlace k (getD (sequentials k) a 0))) initial a
 
 abbrev μ-loop : tie.MeasureT-loop
 μ-loop tree numbers active states initial₀ a₀ initial a = 16 - a

@@ -1,7 +1,7 @@
 use mathlib.Core.Path.{_≡_, sym, _∙_}
 use Prim.Native.Nat.{_-_}
-use Rattle.chart.specs.Chart.{Chart}
-use Rattle.chart.specs.Table.{Tabled}
+use Rattle.chart_records.specs.Chart.{Chart}
+use Rattle.chart_tree.specs.Table.{Tabled}
 use Rattle.flattening.specs.Flatten.{markedChild}
 use Rattle.flatten_tables.proofs.Slots.{startFrom, start-all, start-yes, start-no, start-end, start-test}
 use borrow.Author.Needs.{needs}

@@ -2,9 +2,9 @@ use mathlib.Core.Path.{_≡_, refl}
 use mathlib.Core.Logic.{⊎-elim}
 use Prim.Native.Nat.{_-_, _<_}
 use lib.ListN.{getD}
-use Rattle.chart.specs.Chart.{Chart}
+use Rattle.chart_records.specs.Chart.{Chart}
 use Rattle.flattening.specs.Flatten.{allPlaces}
-use Rattle.flatten_tables.specs.Tables.{Chartered, Listed}
+use Rattle.flatten_places.specs.Tables.{Chartered, Listed}
 use Rattle.flatten_tables.proofs.Slots.{Inverse, inverse-none, keysOf, key-at, keys-more, keys-all}
 use borrow.Author.Needs.{needs}
 use native.Mathlib.Omega.{arith}
@@ -64,7 +64,11 @@ loop-again c =
     let at = c .before .before .before .before .before .before .before .before in
     let l = at .if1 .taken in
     let i = at .before .before .loop .inv in
-    let key : (k : Chart) (h : Chartered k) (L : Listed k (allPlaces k) (at .before .before .before .before .before .before .args .places)) → (c .before .slot .result ≡ getD (keysOf k) (at .before .before .loop .i) 0) × (c .before .slot .result < 1024) = λ k h L. key-at k h _ L _ l _ _ _ _ (c .before .before .before .before .before .before .byte-at .ensures) (c .before .before .before .before .byte-at2 .ensures) (c .before .before .byte-at3 .ensures) (c .before .slot .ensures) in
+    let found = c .before .slot in
+    let key : (k : Chart) (h : Chartered k) (L : Listed k (allPlaces k) (at .before .before .before .before .before .before .args .places))
+    → (found .result ≡ getD (keysOf k) (at .before .before .loop .i) 0) × (found .result < 1024) =
+    λ k h L. key-at k h _ L _ l _ _ _ _ (c .before .before .before .before .before .before .byte-at .ensures) (c .before .before .before .before .byte-at2 .ensures)
+    (c .before .before .byte-at3 .ensures) (found .ensures) in
     ⊎-elim
     (λ w. rw (w .1) (λ k h L. keys-more k h _ L _ l _ _ (i k h L) (key k h L .0) (key k h L .1)))
     (λ w. rw (w .1) (λ k h L. absurd (omega (arith, w .0 .left, key k h L .1))))

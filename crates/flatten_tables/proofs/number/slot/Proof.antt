@@ -1,6 +1,6 @@
 use mathlib.Core.Path.{sym}
 use borrow.Author.Tests.{eq-eqb, ne-eqb}
-use Rattle.expr.proofs.Bools.{cond-yes, cond-no}
+use Rattle.lists.proofs.Bools.{cond-yes, cond-no}
 use Rattle.flatten_tables.specs.Numbering.{slotAt}
 use borrow.Author.Needs.{needs}
 use Rattle.flatten_tables.proofs.number.slot.Statement.{statement}

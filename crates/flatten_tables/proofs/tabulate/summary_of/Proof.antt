@@ -13,10 +13,11 @@ channel-of-requires-2 c κs = search needs
 returns : tie.Need-returns
 returns c = (
   λ d file S t l.
-      let e = enters-small d S (c .before .before .before .before .before .before .before .before .args .t) (c .before .before .before .before .before .before .before .before .args .places) t l in
-      let f = leaves-small d S (c .before .before .before .before .before .before .before .before .args .t) (c .before .before .before .before .before .before .before .before .args .places) t l in
+      let a = c .before .before .before .before .before .before .before .before .args in
+      let e = enters-small d S (a .t) (a .places) t l in
+      let f = leaves-small d S (a .t) (a .places) t l in
       let first = c .before .channel-of .ensures (channels-small d S .1) e in
-      summed d S (c .before .before .before .before .before .before .before .before .args .t) (c .before .before .before .before .before .before .before .before .args .places) t l first (c .channel-of2 .ensures (entering-small d S (c .before .before .before .before .before .before .before .before .args .t) (c .before .before .before .before .before .before .before .before .args .places) t l first) f),
+      summed d S (a .t) (a .places) t l first (c .channel-of2 .ensures (entering-small d S (a .t) (a .places) t l first) f),
   (refl, refl),
 )
 

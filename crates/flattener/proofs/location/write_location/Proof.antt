@@ -36,8 +36,13 @@ same-length c = search needs
 returns-2 : tie.Need-returns-2
 returns-2 c h =
     let a = c .before .before .before .before .before .before .before .before .before .before .before .before .before .before .before .before .before .before .before .before .before .before .args in
-    location-written (a .clocks) (record { automaton = a .automaton; urgent = a .urgent; initial = a .initial; bounds = a .bounds }) h (let z : length (a .bounds) ≡ 8 = search needs in z)
-    (c .before .before .before .before .before .before .before .before .before .before .before .before .before .before .before .before .before .before .put .ensures) (c .before .before .before .before .before .before .before .before .before .before .before .before .before .before .put2 .ensures) (c .before .before .before .before .before .before .before .before .before .before .put3 .ensures) (c .before .before .before .before .before .before .put4 .ensures) (c .before .before .write-bounds .ensures h)
+    let wide : length (a .bounds) ≡ 8 = search needs in
+    let at4 = c .before .before .before .before .before .before in
+    let at3 = at4 .before .before .before .before in
+    let at2 = at3 .before .before .before .before in
+    let at1 = at2 .before .before .before .before in
+    location-written (a .clocks) (record { automaton = a .automaton; urgent = a .urgent; initial = a .initial; bounds = a .bounds }) h wide
+    (at1 .put .ensures) (at2 .put2 .ensures) (at3 .put3 .ensures) (at4 .put4 .ensures) (c .before .before .write-bounds .ensures h)
 
 pub write-location-spec : {M : Type 1} → statement M
 write-location-spec =

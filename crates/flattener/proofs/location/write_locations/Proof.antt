@@ -3,7 +3,7 @@ use borrow.Author.Needs.{needs}
 use mathlib.Core.Path.{_≡_, refl, _∙_}
 use Prim.Native.Nat.{_-_, _≤_}
 use lib.ListN.{length}
-use Rattle.chart.specs.Chart.{Chart}
+use Rattle.chart_records.specs.Chart.{Chart}
 use Rattle.flattening.specs.Flatten.{idle, locationOf, flatten}
 use Rattle.flattener.specs.Records.{locationRecord}
 use Rattle.flattener.specs.Locating.{Located}

@@ -1,22 +1,22 @@
 use native.Mathlib.Omega.{arith}
 use borrow.Author.Needs.{needs}
-use mathlib.Core.Path.{_≡_, sym, subst}
+use mathlib.Core.Path.{_≡_, sym, _∙_, subst}
 use mathlib.Core.List.{List}
 use Prim.Native.Nat.{ℕ, _≤_}
 use lib.ListN.{length}
-use Rattle.expr.specs.Answer.{done}
-use Rattle.expr.proofs.Places.{answered, part-onward}
-use Rattle.chart.specs.Chart.{Chart}
-use Rattle.chart.specs.Rules.{chartOf}
-use Rattle.chart.specs.Answers.{checkedOf}
+use Rattle.reading.specs.Answer.{done}
+use Rattle.reading.proofs.Places.{part-onward}
+use Rattle.reading.proofs.Verdicts.{verdict-done-at, was-refused}
+use Rattle.chart_records.specs.Chart.{Chart}
+use Rattle.chart_records.specs.Rules.{chartOf}
 use Rattle.chart.specs.Ready.{Ready}
-use Rattle.chart.proofs.Verdicts.{verdict-refused-at, verdict-done-at, chart-long}
+use Rattle.chart.proofs.Files.{chart-long}
 use Rattle.flattener.proofs.Delivered.{flatten-refused, flatten-passed}
 use Rattle.flattener.proofs.operation.flatten.Statement.{statement}
 use Rattle.flattener.proofs.operation.flatten.Tie as tie
 
 chart : (c : tie.After-enum-told) → (k : Chart) × (chartOf (c .before .before .before .before .before .args .file .now) ≡ done k)
-chart c = verdict-done-at _ (answered checkedOf (c .before .before .checked .ensures .0) (c .enum-told .given .1))
+chart c = verdict-done-at _ (sym (c .before .before .checked .ensures .0) ∙ c .enum-told .given .1)
 
 long : (c : tie.After-enum-told) → 11 ≤ length (c .before .before .before .before .before .args .file .now)
 long c = chart-long _ (chart c .1)
@@ -29,7 +29,7 @@ enum-known-verdict c = search needs
 
 returns : tie.Need-returns
 returns c =
-    let a = flatten-refused _ (c .before .before .before .before .before .before .args .out .now) (verdict-refused-at _ (answered checkedOf (c .before .before .before .checked .ensures .0) (c .before .verdict .given .1))) in
+    let a = flatten-refused _ (c .before .before .before .before .before .before .args .out .now) (was-refused (chartOf _) (c .before .before .before .checked .ensures .0) (c .before .verdict .given .1)) in
     (a .is, a .bytes)
 
 enum-told : tie.Need-enum-told

@@ -24,7 +24,12 @@ same-length c = search needs
 
 returns : tie.Need-returns
 returns c d S B W e =
-    network-written d _ S e (writable-count W) (c .before .before .before .before .before .before .before .before .before .before .before .before .before .before .before .before .before .before .put .ensures) (c .before .before .before .before .before .before .before .before .before .before .before .before .before .before .put-word .ensures) (c .before .before .before .before .before .before .before .before .before .before .write-counts .ensures) (c .before .before .before .before .before .before .write-locations .ensures d (located d _ S B) (S .clocks)) (c .before .before .write-edges .ensures d _ W)
+    let at4 = c .before .before .before .before .before .before in
+    let at3 = at4 .before .before .before .before in
+    let at2 = at3 .before .before .before .before in
+    let at1 = at2 .before .before .before .before in
+    network-written d _ S e (writable-count W) (at1 .put .ensures) (at2 .put-word .ensures) (at3 .write-counts .ensures)
+    (at4 .write-locations .ensures d (located d _ S B) (S .clocks)) (c .before .before .write-edges .ensures d _ W)
 
 pub write-network-spec : {M : Type 1} → statement M
 write-network-spec =

@@ -3,8 +3,8 @@ use borrow.Author.Needs.{needs}
 use mathlib.Core.List.{List}
 use Prim.Native.Nat.{_*_, _-_, _≤_}
 use lib.ListN.{getD}
-use Rattle.network.specs.Network.{Edge}
-use Rattle.chart.specs.Chart.{Chart}
+use Rattle.network_records.specs.Network.{Edge}
+use Rattle.chart_records.specs.Chart.{Chart}
 use Rattle.flattener.specs.Records.{edgeRecord, Writable}
 use Rattle.flattener.proofs.Records.{Adding, adding-none, adding-more, adding-all, noEdge, named, record-length, writable-lt, writable-le, writable-head, writable-body}
 use Rattle.flattener.proofs.record.edges_length.Statement.{statement}

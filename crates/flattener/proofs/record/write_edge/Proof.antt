@@ -34,7 +34,10 @@ returns : tie.Need-returns
 returns c d n e L h b =
     let t = c .before .before .before .before .before .before .before .before .before .before .before .before .before .transition-at .ensures e h in
     let k = named d e b t in
-    record-written d e b _ _ h t (c .before .before .before .before .before .before .before .before .before .before .before .before .body-size .ensures d n L k) (c .before .before .before .before .before .before .before .before .before .before .put-short .ensures) (c .before .before .before .before .before .before .copy .ensures) (c .before .before .write-body .ensures d n L k)
+    let body = c .before .before .before .before .before .before in
+    let head = body .before .before .before .before in
+    record-written d e b _ _ h t (head .before .before .body-size .ensures d n L k) (head .put-short .ensures) (body .copy .ensures)
+    (c .before .before .write-body .ensures d n L k)
 
 pub write-edge-spec : {M : Type 1} → statement M
 write-edge-spec =

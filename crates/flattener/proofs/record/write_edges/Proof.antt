@@ -4,8 +4,8 @@ use mathlib.Core.Path.{_≡_, refl, _∙_}
 use mathlib.Core.List.{List}
 use Prim.Native.Nat.{_-_, _≤_}
 use lib.ListN.{length, getD}
-use Rattle.network.specs.Network.{Edge}
-use Rattle.chart.specs.Chart.{Chart}
+use Rattle.network_records.specs.Network.{Edge}
+use Rattle.chart_records.specs.Chart.{Chart}
 use Rattle.flattener.specs.Records.{edgeRecord, Writable}
 use Rattle.flattener.proofs.Records.{Listing, listing-none, listing-more, listing-all, noEdge, writable-lt, writable-le, writable-head, writable-body}
 use Rattle.flattener.proofs.record.write_edges.Statement.{statement}

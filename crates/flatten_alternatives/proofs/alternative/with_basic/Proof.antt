@@ -1,0 +1,30 @@
+use borrow.Author.Needs.{needs}
+use Rattle.lists.specs.Lists.{has}
+use Rattle.flatten_alternatives.proofs.Keeping.{kept-if, kept-unless}
+use Rattle.flatten_alternatives.proofs.alternative.with_basic.Statement.{statement}
+use Rattle.flatten_alternatives.proofs.alternative.with_basic.Tie as tie
+
+byte-at-requires : tie.Need-byte-at-requires
+byte-at-requires c κs = search needs
+
+cast-has : tie.Need-cast-has
+cast-has c = search needs
+
+has-requires : tie.Need-has-requires
+has-requires c κs = search needs
+
+with-each-requires : tie.Need-with-each-requires
+with-each-requires c κs = search needs
+
+returns : tie.Need-returns
+returns c xs ys k l a =
+    let m = c .before .before in
+    kept-if _ _ (m .before .before .before .before .args .own) xs ys (m .before .has .ensures) (m .before .before .byte-at .ensures) (m .if1 .taken) (c .with-each .ensures xs ys k l a)
+
+returns-2 : tie.Need-returns-2
+returns-2 c xs ys k l a = kept-unless _ _ (c .before .before .before .before .args .own) xs ys (c .before .has .ensures) (c .before .before .byte-at .ensures) (c .if1 .left) l
+
+pub with-basic-spec : {M : Type 1} → statement M
+with-basic-spec =
+    tie.close
+    (tie.spec byte-at-requires cast-has has-requires with-each-requires returns returns-2)
