@@ -1,5 +1,5 @@
-//! With the feature `proved` the static library of the proved implementation is linked. It is
-//! made beforehand: `tools/bench` does so.
+//! With the feature `proved` the static libraries of the proved implementation are linked. They
+//! are made beforehand: `tools/library` does so.
 
 use std::env;
 use std::path::Path;
@@ -11,7 +11,9 @@ fn main() {
     }
     let here = env::var("CARGO_MANIFEST_DIR").expect("cargo sets it");
     let folder = Path::new(&here).join("../target/staticlib");
-    println!("cargo:rerun-if-changed={}", folder.join("liblibrary.a").display());
     println!("cargo:rustc-link-search=native={}", folder.display());
-    println!("cargo:rustc-link-lib=static=library");
+    for name in ["library", "network_machine"] {
+        println!("cargo:rerun-if-changed={}", folder.join(format!("lib{name}.a")).display());
+        println!("cargo:rustc-link-lib=static={name}");
+    }
 }

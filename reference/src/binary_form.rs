@@ -1,5 +1,5 @@
-//! Requests as bytes, for programs that read all their input into one buffer, and the lines that
-//! such programs print. README.md describes the layout.
+//! Requests as bytes, for programs that read them one after the other, and the lines that such
+//! programs print. README.md describes the layout.
 
 use crate::chart_machine::ChartConfiguration;
 use crate::limits::{AUTOMATA, CLOCKS, STATES, VARIABLES};
@@ -15,8 +15,31 @@ use crate::values::Values;
 /// The operation that runs a chart and its network side by side.
 const RUN: u8 = 8;
 
+/// A request to one machine, or to run both.
+#[derive(Clone, PartialEq, Eq, Debug)]
+pub enum AnyRequest {
+    One(Request),
+    Run(RunRequest),
+}
+
 /// The bytes of one request.
-pub fn request_to_bytes(request: &Request) -> Vec<u8> {
+pub fn any_request_to_bytes(request: &AnyRequest) -> Vec<u8> {
+    match request {
+        AnyRequest::One(request) => request_to_bytes(request),
+        AnyRequest::Run(request) => run_request_to_bytes(request),
+    }
+}
+
+/// The lines that answer a request, each with its line feed.
+pub fn answer_to_lines(request: &AnyRequest) -> String {
+    match request {
+        AnyRequest::One(request) => answer_to_line(&request.answer()) + "\n",
+        AnyRequest::Run(request) => run_answer_to_lines(&request.answer()),
+    }
+}
+
+/// The bytes of a request to one machine.
+fn request_to_bytes(request: &Request) -> Vec<u8> {
     let mut bytes = head_to_bytes(operation(request), request.file());
     match request {
         Request::Check(_) | Request::ChartStart(_) | Request::NetworkStart(_) => {}
@@ -42,7 +65,7 @@ pub fn request_to_bytes(request: &Request) -> Vec<u8> {
 }
 
 /// The bytes of a request to run both machines.
-pub fn run_request_to_bytes(request: &RunRequest) -> Vec<u8> {
+fn run_request_to_bytes(request: &RunRequest) -> Vec<u8> {
     let mut bytes = head_to_bytes(RUN, &request.file);
     bytes.extend((request.calls.len() as u16).to_be_bytes());
     for call in &request.calls {
@@ -83,23 +106,11 @@ pub fn operation(request: &Request) -> u8 {
 }
 
 /// All requests of an input, or none if the input is not made of whole requests.
-pub fn requests_from_bytes(input: &[u8]) -> Option<Vec<Request>> {
-    all_from_bytes(input, request_from_reader)
-}
-
-/// The same of requests to run both machines.
-pub fn run_requests_from_bytes(input: &[u8]) -> Option<Vec<RunRequest>> {
-    all_from_bytes(input, run_request_from_reader)
-}
-
-fn all_from_bytes<T>(
-    input: &[u8],
-    from_reader: impl Fn(&mut Reader) -> Result<T, Fault>,
-) -> Option<Vec<T>> {
+pub fn requests_from_bytes(input: &[u8]) -> Option<Vec<AnyRequest>> {
     let mut reader = Reader::new(input);
     let mut requests = Vec::new();
     while reader.end().is_err() {
-        requests.push(from_reader(&mut reader).ok()?);
+        requests.push(request_from_reader(&mut reader).ok()?);
     }
     Some(requests)
 }
@@ -110,9 +121,9 @@ fn head_from_reader(reader: &mut Reader) -> Result<(u8, Vec<u8>), Fault> {
     Ok((operation, reader.take(length as usize)?.to_vec()))
 }
 
-fn request_from_reader(reader: &mut Reader) -> Result<Request, Fault> {
+fn request_from_reader(reader: &mut Reader) -> Result<AnyRequest, Fault> {
     let (operation, file) = head_from_reader(reader)?;
-    Ok(match operation {
+    Ok(AnyRequest::One(match operation {
         0 => Request::Check(file),
         1 => Request::Flatten(file, reader.four_bytes()?),
         2 => Request::ChartStart(file),
@@ -121,18 +132,14 @@ fn request_from_reader(reader: &mut Reader) -> Result<Request, Fault> {
         5 => Request::NetworkStart(file),
         6 => Request::NetworkStep(file, network_configuration(reader)?, list_from_reader(reader)?),
         7 => Request::NetworkWait(file, network_configuration(reader)?, reader.four_bytes()?),
+        RUN => return Ok(AnyRequest::Run(RunRequest { file, calls: calls_from_reader(reader)? })),
         _ => return Err(Fault::Field),
-    })
+    }))
 }
 
-fn run_request_from_reader(reader: &mut Reader) -> Result<RunRequest, Fault> {
-    let (operation, file) = head_from_reader(reader)?;
-    if operation != RUN {
-        return Err(Fault::Field);
-    }
+fn calls_from_reader(reader: &mut Reader) -> Result<Vec<Call>, Fault> {
     let count = reader.two_bytes()?;
-    let calls = (0..count).map(|_| call_from_reader(reader)).collect::<Result<_, Fault>>()?;
-    Ok(RunRequest { file, calls })
+    (0..count).map(|_| call_from_reader(reader)).collect()
 }
 
 fn call_from_reader(reader: &mut Reader) -> Result<Call, Fault> {
@@ -144,7 +151,7 @@ fn call_from_reader(reader: &mut Reader) -> Result<Call, Fault> {
 }
 
 /// The line that answers a request, without its line feed.
-pub fn answer_to_line(answer: &Result<Success, Refusal>) -> String {
+fn answer_to_line(answer: &Result<Success, Refusal>) -> String {
     match answer {
         Ok(Success::Passed) => "ok".to_string(),
         Ok(Success::Flattened(network)) => {
@@ -161,7 +168,7 @@ pub fn answer_to_line(answer: &Result<Success, Refusal>) -> String {
 }
 
 /// The lines that answer a request to run both machines, each with its line feed.
-pub fn run_answer_to_lines(answer: &RunAnswer) -> String {
+fn run_answer_to_lines(answer: &RunAnswer) -> String {
     let views = answer.views.iter().map(view_to_line);
     let lines = std::iter::once(answer_to_line(&answer.flattened)).chain(views);
     lines.map(|line| line + "\n").collect()

@@ -1,5 +1,5 @@
-//! Requests answered by this implementation and by the proved one. The first on which they differ
-//! stops the program.
+//! Requests answered by this implementation and by the proved one, those on networks by both sets
+//! of its functions. The first on which they differ stops the program.
 
 use std::collections::BTreeMap;
 use std::fmt;
@@ -30,9 +30,12 @@ impl Agreed {
     }
 
     pub fn compare(&mut self, request: &Request) {
+        let expected = request.answer();
         let answer = proved::answer(request);
-        if answer != request.answer() {
-            panic!("{answer:?} to\n{}", request_to_text(request));
+        for given in proved::answer_in_place(request).iter().chain([&answer]) {
+            if *given != expected {
+                panic!("{given:?} to\n{}", request_to_text(request));
+            }
         }
         let counts = if answer.is_ok() { &mut self.accepted } else { &mut self.refused };
         *counts.entry(operation_name(request)).or_insert(0) += 1;

@@ -1,4 +1,5 @@
-//! The proved implementation, called through its C functions (`crates/library`).
+//! The proved implementation, called through its C functions: those of `crates/library`, and for
+//! networks also those that a board calls, `crates/network_machine`.
 //!
 //! A slice is a pointer and a number of elements; an array that is lent is a pointer. A function
 //! answers 0, or the number of the refusal, and then leaves what was lent as it was.
@@ -70,6 +71,33 @@ extern "C" {
         clocks: &mut [u32; CLOCKS],
         ticks: u32,
     ) -> u8;
+    fn figrummy_start_in_place(
+        file: *const u8,
+        length: usize,
+        configuration: &mut BoardConfiguration,
+    ) -> u8;
+    fn figrummy_step_in_place(
+        file: *const u8,
+        length: usize,
+        configuration: &mut BoardConfiguration,
+        list: *const u16,
+        count: usize,
+    ) -> u8;
+    fn figrummy_wait_in_place(
+        file: *const u8,
+        length: usize,
+        configuration: &mut BoardConfiguration,
+        ticks: u32,
+    ) -> u8;
+}
+
+/// A network's configuration as a board keeps it.
+#[repr(C)]
+struct BoardConfiguration {
+    locations: [u8; AUTOMATA],
+    flags: [u8; AUTOMATA],
+    variables: [i32; VARIABLES],
+    clocks: [u32; CLOCKS],
 }
 
 /// The answer. A refused call changes nothing that was lent, which is tested here.
@@ -140,6 +168,23 @@ pub fn answer(request: &Request) -> Result<Success, Refusal> {
             })
         }
         Request::Flatten(file, room) => on_buffer(file, *room as usize),
+    }
+}
+
+/// The answer of the functions that move a network's configuration on in place; none to other
+/// requests. Here too a refused call must change nothing that was lent.
+pub fn answer_in_place(request: &Request) -> Option<Result<Success, Refusal>> {
+    match request {
+        Request::NetworkStart(file) => Some(on_board(LENT_NETWORK, |board| unsafe {
+            figrummy_start_in_place(file.as_ptr(), file.len(), board)
+        })),
+        Request::NetworkStep(file, given, list) => Some(on_board(*given, |board| unsafe {
+            figrummy_step_in_place(file.as_ptr(), file.len(), board, list.as_ptr(), list.len())
+        })),
+        Request::NetworkWait(file, given, ticks) => Some(on_board(*given, |board| unsafe {
+            figrummy_wait_in_place(file.as_ptr(), file.len(), board, *ticks)
+        })),
+        _ => None,
     }
 }
 
@@ -221,6 +266,27 @@ fn on_network(
             Err(refusal)
         }
     }
+}
+
+/// A call that is lent a network's configuration as one struct.
+fn on_board(
+    given: NetworkConfiguration,
+    call: impl FnOnce(&mut BoardConfiguration) -> u8,
+) -> Result<Success, Refusal> {
+    on_network(given, |locations, flags, variables, clocks| {
+        let mut board = BoardConfiguration {
+            locations: *locations,
+            flags: *flags,
+            variables: *variables,
+            clocks: *clocks,
+        };
+        let number = call(&mut board);
+        *locations = board.locations;
+        *flags = board.flags;
+        *variables = board.variables;
+        *clocks = board.clocks;
+        number
+    })
 }
 
 /// The refusal that a number stands for; none for 0.

@@ -1,8 +1,6 @@
-//! The vector files for programs: requests as bytes, and the lines that are the right output.
+//! The vector file for programs: requests as bytes, and the lines that are the right output.
 
-use crate::binary_form::{
-    answer_to_line, request_to_bytes, run_answer_to_lines, run_request_to_bytes,
-};
+use crate::binary_form::{answer_to_lines, any_request_to_bytes, AnyRequest};
 use crate::chart::Chart;
 use crate::chart_machine::{self, ChartConfiguration};
 use crate::check::check;
@@ -23,10 +21,13 @@ use crate::special;
 use crate::values::Values;
 use crate::walk::{chart_requests, network_requests};
 
-/// Most bytes of one input.
+/// How many bytes the program holds at a time.
+pub const WINDOW: usize = 131_072;
+
+/// Most bytes of the requests of one part that are chosen.
 pub const MOST_INPUT_BYTES: usize = 60_000;
 
-/// Most bytes of one output.
+/// Most bytes of the answers to them.
 pub const MOST_OUTPUT_BYTES: usize = 300_000;
 
 /// How many requests with one feature are wanted.
@@ -38,8 +39,23 @@ const MOST_NETWORK_BYTES: usize = 4_000;
 /// How many charts the requests are chosen from.
 const CHARTS: u64 = 400;
 
-/// The input of one program and the output that is right.
+/// The input of the program and the output that is right, part by part.
 pub struct VectorFile {
+    pub parts: Vec<Part>,
+}
+
+impl VectorFile {
+    pub fn input(&self) -> Vec<u8> {
+        self.parts.iter().flat_map(|part| part.input.iter().copied()).collect()
+    }
+
+    pub fn output(&self) -> String {
+        self.parts.iter().map(|part| part.output.as_str()).collect()
+    }
+}
+
+/// Requests of one kind, and the answers.
+pub struct Part {
     pub name: &'static str,
     pub input: Vec<u8>,
     pub output: String,
@@ -58,36 +74,37 @@ struct Candidate {
 
 impl Candidate {
     fn new(request: Request) -> Candidate {
-        Candidate::of(&request, None)
+        Candidate::of(request, None)
     }
 
     /// With the layout of the network, which came from a chart.
     fn with_layout(request: Request, layout: &Layout) -> Candidate {
-        Candidate::of(&request, Some(layout))
+        Candidate::of(request, Some(layout))
     }
 
-    fn of(request: &Request, layout: Option<&Layout>) -> Candidate {
-        Candidate {
-            input: request_to_bytes(request),
-            output: answer_to_line(&request.answer()) + "\n",
-            features: features(request, layout),
-            taken: false,
-        }
+    fn of(request: Request, layout: Option<&Layout>) -> Candidate {
+        let features = features(&request, layout);
+        Candidate::answered(&AnyRequest::One(request), features)
     }
 
     fn of_run(file: Vec<u8>, calls: Vec<Call>) -> Candidate {
         let request = RunRequest { file, calls };
+        let features = run_features(&request);
+        Candidate::answered(&AnyRequest::Run(request), features)
+    }
+
+    fn answered(request: &AnyRequest, features: Features) -> Candidate {
         Candidate {
-            input: run_request_to_bytes(&request),
-            output: run_answer_to_lines(&request.answer()),
-            features: run_features(&request),
+            input: any_request_to_bytes(request),
+            output: answer_to_lines(request),
+            features,
             taken: false,
         }
     }
 }
 
-/// All vector files. They are the same at every call.
-pub fn vector_files() -> Vec<VectorFile> {
+/// The vector file. It is the same at every call.
+pub fn vector_file() -> VectorFile {
     let mut network = Vec::new();
     let mut chart = Vec::new();
     let mut flatten = Vec::new();
@@ -115,12 +132,23 @@ pub fn vector_files() -> Vec<VectorFile> {
         .into_iter()
         .map(Request::NetworkStart)
         .collect();
-    vec![
-        choose("chart", checks, chart),
-        choose("flatten", flattens, flatten),
-        choose("network", starts, network),
-        choose("side_by_side", Vec::new(), runs),
-    ]
+    VectorFile {
+        parts: vec![
+            choose("chart", checks, chart),
+            choose("flatten", flattens, flatten),
+            longest(),
+            choose("network", starts, network),
+            choose("side by side", Vec::new(), runs),
+        ],
+    }
+}
+
+/// A chart of nearly as many bytes as there can be. It stands so that the end of what a program
+/// reads first, `WINDOW` bytes, falls into its file.
+fn longest() -> Part {
+    let mut part = Part::new("longest");
+    part.push(&Candidate::new(Request::ChartStart(special::largest().write())));
+    part
 }
 
 fn special_charts() -> Vec<Chart> {
@@ -138,7 +166,7 @@ fn special_charts() -> Vec<Chart> {
     ]
 }
 
-/// Wishes for charts that are small enough for many requests to fit in a file.
+/// Wishes for charts that are small enough for many requests to fit.
 fn small_wish(seed: u64) -> Wish {
     let wish = Wish::from_seed(seed);
     Wish {
@@ -294,41 +322,44 @@ fn changed_bytes(file: &[u8], most: usize, random: &mut Random) -> Vec<Vec<u8>> 
 
 /// Takes the fixed requests, and of the candidates, shortest first, those that have a feature of
 /// which not enough were taken yet: first one of each, then more.
-fn choose(name: &'static str, fixed: Vec<Request>, mut candidates: Vec<Candidate>) -> VectorFile {
-    let mut file = VectorFile {
-        name,
-        input: Vec::new(),
-        output: String::new(),
-        requests: 0,
-        counts: Counts::new(),
-    };
+fn choose(name: &'static str, fixed: Vec<Request>, mut candidates: Vec<Candidate>) -> Part {
+    let mut part = Part::new(name);
     for request in fixed {
-        take(&mut file, &mut Candidate::new(request));
+        part.take(&mut Candidate::new(request));
     }
     candidates.sort_by_key(|candidate| candidate.input.len());
     for enough in 1..=WANTED_OF_EACH {
         for candidate in candidates.iter_mut().filter(|candidate| !candidate.taken) {
-            let too_few = |feature| file.counts.get(feature).is_none_or(|&count| count < enough);
+            let too_few = |feature| part.counts.get(feature).is_none_or(|&count| count < enough);
             if candidate.features.iter().any(too_few) {
-                take(&mut file, candidate);
+                part.take(candidate);
             }
         }
     }
-    file
+    part
 }
 
-/// Adds a request to a file if it has room.
-fn take(file: &mut VectorFile, candidate: &mut Candidate) {
-    let input_fits = file.input.len() + candidate.input.len() <= MOST_INPUT_BYTES;
-    let output_fits = file.output.len() + candidate.output.len() <= MOST_OUTPUT_BYTES;
-    if !input_fits || !output_fits {
-        return;
+impl Part {
+    fn new(name: &'static str) -> Part {
+        Part { name, input: Vec::new(), output: String::new(), requests: 0, counts: Counts::new() }
     }
-    file.input.extend(&candidate.input);
-    file.output.push_str(&candidate.output);
-    file.requests += 1;
-    candidate.taken = true;
-    for feature in &candidate.features {
-        *file.counts.entry(feature.clone()).or_insert(0) += 1;
+
+    /// Adds a request if there is room for it.
+    fn take(&mut self, candidate: &mut Candidate) {
+        let input_fits = self.input.len() + candidate.input.len() <= MOST_INPUT_BYTES;
+        let output_fits = self.output.len() + candidate.output.len() <= MOST_OUTPUT_BYTES;
+        if input_fits && output_fits {
+            self.push(candidate);
+            candidate.taken = true;
+        }
+    }
+
+    fn push(&mut self, candidate: &Candidate) {
+        self.input.extend(&candidate.input);
+        self.output.push_str(&candidate.output);
+        self.requests += 1;
+        for feature in &candidate.features {
+            *self.counts.entry(feature.clone()).or_insert(0) += 1;
+        }
     }
 }

@@ -1,7 +1,8 @@
-//! The proved implementation gives the same answers. A refused call changes nothing that was
-//! lent, and flattening nothing after the network, which `proved::answer` tests.
+//! The proved implementation gives the same answers, on networks by both sets of its functions. A
+//! refused call changes nothing that was lent, and flattening nothing after the network, which
+//! `proved` tests.
 
-use reference::binary_form::requests_from_bytes;
+use reference::binary_form::{requests_from_bytes, AnyRequest};
 use reference::compare::Agreed;
 use reference::random::Random;
 use reference::special;
@@ -13,13 +14,9 @@ fn every_vector_agrees() {
     for line in include_str!("../vectors/text.requests").lines() {
         agreed.compare(&request_from_text(line).expect("a request"));
     }
-    let files: [&[u8]; 3] = [
-        include_bytes!("../vectors/chart.stdin"),
-        include_bytes!("../vectors/flatten.stdin"),
-        include_bytes!("../vectors/network.stdin"),
-    ];
-    for file in files {
-        for request in requests_from_bytes(file).expect("whole requests") {
+    let requests = requests_from_bytes(include_bytes!("../vectors/requests.stdin"));
+    for request in requests.expect("whole requests") {
+        if let AnyRequest::One(request) = request {
             agreed.compare(&request);
         }
     }

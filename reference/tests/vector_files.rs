@@ -1,25 +1,31 @@
-//! The vector files for programs: what is in the repository is what is written, and it covers
-//! every refusal and every kind of guard, relation, signal and place.
+//! The vector file for programs: what is in the repository is what is written, and it covers every
+//! refusal and every kind of guard, relation, signal and place.
 
 use std::fs;
 use std::path::Path;
 use std::sync::OnceLock;
 
 use reference::binary_form::{
-    answer_to_line, request_to_bytes, requests_from_bytes, run_answer_to_lines,
-    run_request_to_bytes, run_requests_from_bytes,
+    answer_to_lines, any_request_to_bytes, requests_from_bytes, AnyRequest,
 };
 use reference::coverage::Counts;
-use reference::vector_files::{vector_files, VectorFile, MOST_INPUT_BYTES, MOST_OUTPUT_BYTES};
+use reference::vector_files::{
+    vector_file, Part, VectorFile, MOST_INPUT_BYTES, MOST_OUTPUT_BYTES, WINDOW,
+};
 
-/// The files, written once for all tests.
-fn files() -> &'static [VectorFile] {
-    static FILES: OnceLock<Vec<VectorFile>> = OnceLock::new();
-    FILES.get_or_init(vector_files)
+/// The file, written once for all tests.
+fn file() -> &'static VectorFile {
+    static FILE: OnceLock<VectorFile> = OnceLock::new();
+    FILE.get_or_init(vector_file)
 }
 
-fn file(name: &str) -> &'static VectorFile {
-    files().iter().find(|file| file.name == name).expect("the file is written")
+fn part(name: &str) -> &'static Part {
+    file().parts.iter().find(|part| part.name == name).expect("the part is written")
+}
+
+/// All requests, in their order.
+fn requests() -> Vec<AnyRequest> {
+    requests_from_bytes(&file().input()).expect("whole requests")
 }
 
 fn assert_covered(counts: &Counts, wanted: impl IntoIterator<Item = String>) {
@@ -79,49 +85,48 @@ const SETS: [&str; 6] = [
 ];
 
 #[test]
-fn the_repository_has_the_files_as_written() {
+fn the_repository_has_the_file_as_written() {
     let folder = Path::new(env!("CARGO_MANIFEST_DIR")).join("vectors");
-    for file in files() {
-        let input = fs::read(folder.join(format!("{}.stdin", file.name))).unwrap();
-        let output = fs::read_to_string(folder.join(format!("{}.stdout", file.name))).unwrap();
-        assert!(input == file.input && output == file.output, "{} differs", file.name);
+    assert!(fs::read(folder.join("requests.stdin")).unwrap() == file().input());
+    assert!(fs::read_to_string(folder.join("requests.stdout")).unwrap() == file().output());
+}
+
+#[test]
+fn the_file_can_be_read_and_answered() {
+    let requests = requests();
+    let count: usize = file().parts.iter().map(|part| part.requests).sum();
+    assert_eq!(requests.len(), count);
+    let again: Vec<u8> = requests.iter().flat_map(any_request_to_bytes).collect();
+    assert!(again == file().input());
+    assert!(requests.iter().map(answer_to_lines).collect::<String>() == file().output());
+}
+
+#[test]
+fn the_chosen_requests_are_few_enough() {
+    for part in file().parts.iter().filter(|part| part.name != "longest") {
+        assert!(part.input.len() <= MOST_INPUT_BYTES);
+        assert!(part.output.len() <= MOST_OUTPUT_BYTES);
     }
 }
 
 #[test]
-fn the_files_can_be_read_and_answered() {
-    for file in ["chart", "flatten", "network"].map(file) {
-        let requests = requests_from_bytes(&file.input).expect("whole requests");
-        assert_eq!(requests.len(), file.requests);
-        let again: Vec<u8> = requests.iter().flat_map(request_to_bytes).collect();
-        assert!(again == file.input);
-        let lines = requests.iter().map(|request| answer_to_line(&request.answer()) + "\n");
-        assert!(lines.collect::<String>() == file.output);
+fn requests_pass_the_end_of_what_is_read_first() {
+    let mut at = 0;
+    let mut across = 0;
+    for request in requests() {
+        let next = at + any_request_to_bytes(&request).len();
+        if at < WINDOW && WINDOW < next {
+            across = next - at;
+        }
+        at = next;
     }
+    assert!(across > MOST_INPUT_BYTES);
+    assert!(at - WINDOW > MOST_INPUT_BYTES);
 }
 
 #[test]
-fn the_file_of_runs_can_be_read_and_answered() {
-    let file = file("side_by_side");
-    let requests = run_requests_from_bytes(&file.input).expect("whole requests");
-    assert_eq!(requests.len(), file.requests);
-    let again: Vec<u8> = requests.iter().flat_map(run_request_to_bytes).collect();
-    assert!(again == file.input);
-    let lines = requests.iter().map(|request| run_answer_to_lines(&request.answer()));
-    assert!(lines.collect::<String>() == file.output);
-}
-
-#[test]
-fn the_files_are_short_enough() {
-    for file in files() {
-        assert!(file.input.len() <= MOST_INPUT_BYTES);
-        assert!(file.output.len() <= MOST_OUTPUT_BYTES);
-    }
-}
-
-#[test]
-fn the_chart_file_covers_everything() {
-    let counts = &file("chart").counts;
+fn the_chart_requests_cover_everything() {
+    let counts = &part("chart").counts;
     assert_covered(counts, refusals("check", 1..=14));
     assert_covered(counts, parts("check", &["ok"]));
     assert_covered(counts, parts("check", &LABEL_PARTS));
@@ -139,8 +144,8 @@ fn the_chart_file_covers_everything() {
 }
 
 #[test]
-fn the_flatten_file_covers_everything() {
-    let counts = &file("flatten").counts;
+fn the_flatten_requests_cover_everything() {
+    let counts = &part("flatten").counts;
     assert_covered(counts, refusals("flatten", 1..=16));
     assert_covered(counts, parts("flatten", &LABEL_PARTS));
     assert_covered(counts, guards().iter().map(|guard| format!("flatten: guard {guard}")));
@@ -164,8 +169,8 @@ fn the_flatten_file_covers_everything() {
 }
 
 #[test]
-fn the_network_file_covers_everything() {
-    let counts = &file("network").counts;
+fn the_network_requests_cover_everything() {
+    let counts = &part("network").counts;
     for operation in ["network start", "network step", "network wait"] {
         assert_covered(counts, refusals(operation, [24, 25]));
         assert_covered(counts, parts(operation, &["ok"]));
@@ -191,8 +196,8 @@ fn the_network_file_covers_everything() {
 }
 
 #[test]
-fn the_file_of_runs_covers_everything() {
-    let counts = &file("side_by_side").counts;
+fn the_runs_cover_everything() {
+    let counts = &part("side by side").counts;
     assert_covered(counts, refusals("side by side", 1..=15));
     let refused = |call, numbers: &[u8]| -> Vec<String> {
         numbers.iter().map(|number| format!("side by side: {call} refused {number}")).collect()

@@ -6,9 +6,9 @@ use native.Mathlib.Omega.{arith}
 use native.Mathlib.Numerals.{add-one}
 use lib.ListN.{length, take, set, length-map, length-set}
 use lib.Seq.{take-all, take-suc, take-suc-set}
-use Rattle.expr.specs.Lists.{below}
-use Rattle.expr.proofs.Lists.{length-below, getD-mapped}
-use Rattle.expr.proofs.Loops.{Filled, filled-none, filled-more}
+use Rattle.lists.specs.Lists.{below}
+use Rattle.lists.proofs.Below.{length-below, getD-mapped}
+use Rattle.lists.proofs.Loops.{Filled, filled-none, filled-more}
 
 module _ {A : Type 0} (n : ℕ) (f : ℕ → A) (l : List A) where
   pub fill-none : length l ≡ n → Filled n (map f (below n)) l 0

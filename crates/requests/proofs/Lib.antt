@@ -1,5 +1,4 @@
 -- Laws of the parts of a request.
 pub mod Numbers
 pub mod Fills
-pub mod Bits
-pub mod Checksums
+pub mod Requests

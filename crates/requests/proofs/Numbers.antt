@@ -5,12 +5,12 @@ use Prim.Native.Nat.{ℕ, zero, suc, _+_, _*_, _-_, _/_, _≤_, _<_}
 use native.Mathlib.Omega.{arith}
 use lib.ListN.{length, getD, take, length-map}
 use lib.Seq.{take-all, take-suc}
-use Rattle.expr.specs.Lists.{below}
-use Rattle.expr.specs.Reading.{got, fault, length-fault, byte2, many}
-use Rattle.expr.specs.Places.{onward}
-use Rattle.expr.proofs.Lists.{length-below, getD-mapped}
-use Rattle.expr.proofs.Places.{byte2-some, byte2-none, getD-onward}
-use Rattle.expr.proofs.Many.{Going, going-none, going-more, going-stop, going-all}
+use Rattle.lists.specs.Lists.{below}
+use Rattle.reading.specs.Reading.{got, fault, length-fault, byte2, many}
+use Rattle.reading.specs.Places.{onward}
+use Rattle.lists.proofs.Below.{length-below, getD-mapped}
+use Rattle.reading.proofs.Places.{byte2-some, byte2-none, getD-onward}
+use Rattle.reading.proofs.Many.{Going, going-none, going-more, going-stop, going-all}
 use Rattle.requests.specs.Parts.{shortAt}
 
 -- n numbers that stand in s from a place on

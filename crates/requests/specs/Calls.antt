@@ -3,9 +3,9 @@ use Prim.Native.Nat.{ℕ, _*_}
 use mathlib.Core.Bool.{cond}
 use mathlib.Core.List.{List, map}
 use lib.Dec.{eqb, ltb}
-use Rattle.expr.specs.Lists.{below}
-use Rattle.expr.specs.Reading.{Read, got, fault, Reader, yield, _>>=_, byte, byte2, byte4, such, many}
-use Rattle.expr.specs.Places.{onward, faultOf}
+use Rattle.lists.specs.Lists.{below}
+use Rattle.reading.specs.Reading.{Read, got, fault, Reader, yield, _>>=_, byte, byte2, byte4, such, many}
+use Rattle.reading.specs.Places.{onward, faultOf}
 use Rattle.requests.specs.Parts.{shortAt}
 use Rattle.requests.specs.declared.calls.Call as declared
 use Rattle.requests.specs.declared.calls.Call.the-variants as Cl
@@ -28,8 +28,11 @@ unfoldable pub waited : Reader Call
 waited = byte4 >>= λ d. yield (wait d)
 
 -- 0 is a step and 1 a wait
+unfoldable pub body : ℕ → Reader Call
+body k = cond (eqb k 0) stepped waited
+
 unfoldable pub call : Reader Call
-call = such byte (λ k. ltb k 2) >>= λ k. cond (eqb k 0) stepped waited
+call = such byte (λ k. ltb k 2) >>= body
 
 unfoldable pub calls : Reader (List Call)
 calls = byte2 >>= λ n. many n call

@@ -1,3 +1,3 @@
 pub mod Calls
-pub mod Checksum
 pub mod Parts
+pub mod Requests

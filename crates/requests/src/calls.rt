@@ -2,20 +2,20 @@
 ghost use mathlib.Core.Path.{_≡_};
 ghost use Prim.Native.Nat.{_≤_};
 ghost use lib.ListN.{length};
-ghost use Rattle.expr.specs.Reading.{skipped, many};
-ghost use Rattle.expr.specs.Places.{onward, reached, reachedEnd};
-ghost use Rattle.requests.specs.Calls.{stepped, waited, call, calls, callOf, callEnd};
-use expr::field::ByteRead;
-use expr::field::Fault;
-use expr::field::Reached;
-use expr::field::ShortRead;
-use expr::field::WordRead;
-use expr::field::byte_fault;
-use expr::field::read_below;
-use expr::field::read_short;
-use expr::field::read_word;
-use expr::field::short_fault;
-use expr::field::word_fault;
+ghost use Rattle.reading.specs.Reading.{skipped, many};
+ghost use Rattle.reading.specs.Places.{onward, reached, reachedEnd};
+ghost use Rattle.requests.specs.Calls.{stepped, waited, body, call, calls, callOf, callEnd};
+use reading::field::ByteRead;
+use reading::field::Fault;
+use reading::field::Reached;
+use reading::field::ShortRead;
+use reading::field::WordRead;
+use reading::field::byte_fault;
+use reading::field::read_below;
+use reading::field::read_short;
+use reading::field::read_word;
+use reading::field::short_fault;
+use reading::field::word_fault;
 
 // A step has so many numbers, which stand from a place on; a wait has ticks.
 pub enum Call {
@@ -57,6 +57,18 @@ fn read_wait(s: &[u8], at: usize) -> CallRead
     CallRead::Value(Call::Wait(ticks), to)
 }
 
+// What follows the byte of a call.
+pub(crate) fn read_body(s: &[u8], at: usize, kind: u8) -> CallRead
+    ensures means { λ r. ⌜ callOf (now (s .entry)) r ≡ body kind (onward (now (s .entry)) at) ⌝ }
+    ensures within { λ r. ⌜ callEnd r ≤ length (now (s .entry)) ⌝ }
+{
+    if kind == 0 {
+        read_step(s, at)
+    } else {
+        read_wait(s, at)
+    }
+}
+
 pub fn read_call(s: &[u8], at: usize) -> CallRead
     ensures means { λ r. ⌜ callOf (now (s .entry)) r ≡ call (onward (now (s .entry)) at) ⌝ }
     ensures within { λ r. ⌜ callEnd r ≤ length (now (s .entry)) ⌝ }
@@ -65,11 +77,7 @@ pub fn read_call(s: &[u8], at: usize) -> CallRead
     let ByteRead::Value(kind, next) = b else {
         return CallRead::Fault(byte_fault(b));
     };
-    if kind == 0 {
-        read_step(s, next)
-    } else {
-        read_wait(s, next)
-    }
+    read_body(s, next, kind)
 }
 
 // The place after one call.

@@ -3,17 +3,17 @@ ghost use mathlib.Core.Path.{_≡_};
 ghost use mathlib.Core.List.{map};
 ghost use Prim.Native.Nat.{_*_};
 ghost use lib.ListN.{length, take};
-ghost use Rattle.expr.specs.Lists.{below};
-ghost use Rattle.expr.specs.Reading.{framed, byte4};
-ghost use Rattle.expr.specs.Places.{onward, frameOf, FrameFits};
+ghost use Rattle.lists.specs.Lists.{below};
+ghost use Rattle.reading.specs.Reading.{framed, byte4};
+ghost use Rattle.reading.specs.Places.{onward, frameOf, FrameFits};
 ghost use Rattle.requests.specs.Parts.{byteAt, shortAt, wordAt, markAt, valueAt};
-use expr::field::Fault;
-use expr::field::Frame;
-use expr::field::WordRead;
-use expr::field::byte_at;
-use expr::field::read_word;
-use expr::field::short_of;
-use expr::field::word_of;
+use reading::field::Fault;
+use reading::field::Frame;
+use reading::field::WordRead;
+use reading::field::byte_at;
+use reading::field::read_word;
+use reading::field::short_of;
+use reading::field::word_of;
 
 // A file's length, in four bytes, and where its bytes stand.
 pub fn read_file(s: &[u8], at: usize) -> Frame
@@ -22,7 +22,7 @@ pub fn read_file(s: &[u8], at: usize) -> Frame
 {
     let w = read_word(s, at);
     let WordRead::Value(n, from) = w else {
-        return Frame::Fault(expr::field::word_fault(w));
+        return Frame::Fault(reading::field::word_fault(w));
     };
     let size = n as usize;
     if s.len() - from < size {

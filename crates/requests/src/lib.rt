@@ -1,5 +1,4 @@
-// Requests to the machines in their binary form, and their answers, a line each.
+// Requests to the machines in their binary form.
 pub mod calls;
-mod checksum;
 pub mod input;
-pub mod output;
+pub mod request;

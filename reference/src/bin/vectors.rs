@@ -1,4 +1,5 @@
-//! Writes the vector files for programs into a folder, or compares those that are there.
+//! Writes the vector file for programs, its input and its output, into a folder, or compares what is
+//! there.
 //!
 //! `vectors DIR` writes, `vectors --check DIR` compares and ends with status 1 on any difference.
 
@@ -6,7 +7,7 @@ use std::path::Path;
 use std::process::ExitCode;
 use std::{env, fs, io};
 
-use reference::vector_files::{vector_files, VectorFile};
+use reference::vector_files::{vector_file, VectorFile};
 
 fn main() -> ExitCode {
     let arguments: Vec<String> = env::args().skip(1).collect();
@@ -29,35 +30,31 @@ fn main() -> ExitCode {
     }
 }
 
-/// The names and contents of the two files of a kind.
-fn contents(file: &VectorFile) -> [(String, &[u8]); 2] {
-    [
-        (format!("{}.stdin", file.name), &file.input),
-        (format!("{}.stdout", file.name), file.output.as_bytes()),
-    ]
+/// The names and contents of the two files.
+fn contents(file: &VectorFile) -> [(&'static str, Vec<u8>); 2] {
+    [("requests.stdin", file.input()), ("requests.stdout", file.output().into_bytes())]
 }
 
 fn write(folder: &Path) -> io::Result<()> {
     fs::create_dir_all(folder)?;
-    for file in vector_files() {
-        for (name, bytes) in contents(&file) {
-            fs::write(folder.join(&name), bytes)?;
-        }
-        println!("{}: {} requests, {} bytes", file.name, file.requests, file.input.len());
+    let file = vector_file();
+    for (name, bytes) in contents(&file) {
+        fs::write(folder.join(name), bytes)?;
+    }
+    for part in &file.parts {
+        println!("{}: {} requests, {} bytes", part.name, part.requests, part.input.len());
     }
     Ok(())
 }
 
-/// Whether all files are there and as they would be written.
+/// Whether both files are there and as they would be written.
 fn compare(folder: &Path) -> io::Result<bool> {
     let mut all_equal = true;
-    for file in vector_files() {
-        for (name, bytes) in contents(&file) {
-            let equal = fs::read(folder.join(&name)).is_ok_and(|found| found == bytes);
-            if !equal {
-                println!("{name} differs");
-                all_equal = false;
-            }
+    for (name, bytes) in contents(&vector_file()) {
+        let equal = fs::read(folder.join(name)).is_ok_and(|found| found == bytes);
+        if !equal {
+            println!("{name} differs");
+            all_equal = false;
         }
     }
     Ok(all_equal)

@@ -1,8 +1,8 @@
 use mathlib.Core.Path.{refl, sym, ap, _∙_}
 use native.Mathlib.Omega.{arith}
-use Rattle.expr.specs.Reading.{fault, yield}
-use Rattle.expr.specs.Places.{shortOf, shortEnd, shortFault, faultOf}
-use Rattle.expr.proofs.Places.{answered, bind-got, bind-fault}
+use Rattle.reading.specs.Reading.{fault, yield}
+use Rattle.reading.specs.Places.{shortOf, shortEnd, shortFault, faultOf}
+use Rattle.reading.proofs.Places.{answered, bind-got, bind-fault}
 use Rattle.requests.specs.Calls.{stepped}
 use Rattle.requests.proofs.Numbers.{numbers-some, numbers-none}
 use borrow.Author.Needs.{needs}
@@ -43,7 +43,11 @@ add-t8 c = search needs
 
 returns-3 : tie.Need-returns-3
 unfolding stepped yield
-returns-3 c = (sym (bind-got _ _ _ (answered (shortOf _) (c .before .before .before .before .read-short .ensures .0) (c .before .before .h .given .1)) ∙ bind-got _ _ _ (numbers-some _ _ _ refl (c .if1 .left))), omega (arith, ap shortEnd (c .before .before .h .given .1), c .before .before .before .before .read-short .ensures .1))
+returns-3 c =
+    let value = c .before .before in
+    let read = value .before .before .read-short .ensures in
+    let count = answered (shortOf _) (read .0) (value .h .given .1) in
+    (sym (bind-got _ _ _ count ∙ bind-got _ _ _ (numbers-some _ _ _ refl (c .if1 .left))), omega (arith, ap shortEnd (value .h .given .1), read .1))
 
 pub read-step-spec : {M : Type 1} → statement M
 read-step-spec =

@@ -1,8 +1,8 @@
 use mathlib.Core.Path.{sym, ap, _∙_}
 use native.Mathlib.Omega.{arith}
-use Rattle.expr.specs.Reading.{fault, yield}
-use Rattle.expr.specs.Places.{wordOf, wordEnd, wordFault, faultOf}
-use Rattle.expr.proofs.Places.{answered, bind-got, bind-fault}
+use Rattle.reading.specs.Reading.{fault, yield}
+use Rattle.reading.specs.Places.{wordOf, wordEnd, wordFault, faultOf}
+use Rattle.reading.proofs.Places.{answered, bind-got, bind-fault}
 use Rattle.requests.specs.Calls.{waited}
 use borrow.Author.Needs.{needs}
 use Rattle.requests.proofs.calls.read_wait.Statement.{statement}

@@ -1,8 +1,8 @@
 use mathlib.Core.Path.{sym, ap, _∙_}
 use native.Mathlib.Omega.{arith}
-use Rattle.expr.specs.Reading.{skipped}
-use Rattle.expr.proofs.Places.{answered}
-use Rattle.expr.proofs.Reading.{mapped-got, mapped-fault}
+use Rattle.reading.specs.Reading.{skipped}
+use Rattle.reading.proofs.Places.{answered}
+use Rattle.reading.proofs.Reading.{mapped-got, mapped-fault}
 use Rattle.requests.specs.Calls.{callOf, callEnd}
 use borrow.Author.Needs.{needs}
 use Rattle.requests.proofs.calls.skip_call.Statement.{statement}

@@ -1,9 +1,9 @@
 use mathlib.Core.Path.{sym, ap, _∙_}
 use native.Mathlib.Omega.{arith}
-use Rattle.expr.specs.Reading.{fault, skipped}
-use Rattle.expr.specs.Places.{shortOf, shortEnd, shortFault, faultOf}
-use Rattle.expr.proofs.Places.{answered, bind-got, bind-fault}
-use Rattle.expr.proofs.Reading.{mapped-fault}
+use Rattle.reading.specs.Reading.{fault, skipped}
+use Rattle.reading.specs.Places.{shortOf, shortEnd, shortFault, faultOf}
+use Rattle.reading.proofs.Places.{answered, bind-got, bind-fault}
+use Rattle.reading.proofs.Reading.{mapped-fault}
 use Rattle.requests.specs.Calls.{calls}
 use borrow.Author.Needs.{needs}
 use Rattle.requests.proofs.calls.skip_calls.Statement.{statement}

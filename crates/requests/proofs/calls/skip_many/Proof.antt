@@ -3,9 +3,9 @@ use native.Mathlib.Omega.{arith}
 use borrow.Author.Needs.{needs}
 use Prim.Native.Nat.{_-_, _≤_}
 use lib.ListN.{length}
-use Rattle.expr.specs.Places.{onward, reached, reachedEnd}
-use Rattle.expr.proofs.Places.{answered}
-use Rattle.expr.proofs.Skips.{Skipping, skipping-none, skipping-more, skipping-stop, skipping-all}
+use Rattle.reading.specs.Places.{onward, reached, reachedEnd}
+use Rattle.reading.proofs.Places.{answered}
+use Rattle.reading.proofs.Skips.{Skipping, skipping-none, skipping-more, skipping-stop, skipping-all}
 use Rattle.requests.specs.Calls.{call}
 use Rattle.requests.proofs.calls.skip_many.Statement.{statement}
 use Rattle.requests.proofs.calls.skip_many.Tie as tie

@@ -1,8 +1,8 @@
 use mathlib.Core.Path.{refl, sym, ap, _∙_}
 use native.Mathlib.Omega.{arith}
-use Rattle.expr.specs.Reading.{fault}
-use Rattle.expr.specs.Places.{wordOf, wordEnd, faultOf, wordFault}
-use Rattle.expr.proofs.Places.{framed-fault, framed-got, framed-long, answered}
+use Rattle.reading.specs.Reading.{fault}
+use Rattle.reading.specs.Places.{wordOf, wordEnd, faultOf, wordFault}
+use Rattle.reading.proofs.Places.{framed-fault, framed-got, framed-long, answered}
 use borrow.Author.Needs.{needs}
 use Rattle.requests.proofs.input.read_file.Statement.{statement}
 use Rattle.requests.proofs.input.read_file.Tie as tie

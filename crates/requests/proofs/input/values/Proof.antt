@@ -4,8 +4,8 @@ use mathlib.Core.List.{map}
 use Prim.Native.Nat.{_-_}
 use native.Mathlib.Omega.{arith}
 use borrow.Author.Needs.{needs}
-use Rattle.expr.specs.Lists.{below}
-use Rattle.expr.proofs.Loops.{Filled, filled-all}
+use Rattle.lists.specs.Lists.{below}
+use Rattle.lists.proofs.Loops.{Filled, filled-all}
 use Rattle.requests.proofs.Fills.{fill-none, fill-more}
 use lib.IntN.{pos}
 use Rattle.requests.specs.Parts.{valueAt}

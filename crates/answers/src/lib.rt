@@ -1,0 +1,3 @@
+// Answers to requests, on standard output.
+mod checksum;
+pub mod output;

@@ -1,0 +1,84 @@
+// Expressions, guards, assignments and labels, from the bytes of a file.
+use crate::show::fault;
+use crate::show::number;
+use crate::show::signed_number;
+use crate::show::truth;
+use expr::expression;
+use labels::guard;
+use labels::label;
+use labels::label::LabelRead;
+use reading::field::Reached;
+use reading::field::TestRead;
+use reading::field::ValueRead;
+
+// The first two of sixteen variables.
+fn variables(a: i32, b: i32) -> [i32; 16] {
+    let mut values = [0; 16];
+    values[0] = a;
+    values[1] = b;
+    values
+}
+
+// The first two of eight clocks.
+fn clocks(x: u32, y: u32) -> [u32; 8] {
+    let mut times = [0; 8];
+    times[0] = x;
+    times[1] = y;
+    times
+}
+
+// The value of an expression where a is -7 and b is 8, and how many bytes it takes.
+pub fn show_value(s: &[u8]) {
+    let values = variables(-7, 8);
+    let v = expression::evaluate(s, guard::LEVELS, 16, &values);
+    match v {
+        ValueRead::Value(z, n) => {
+            signed_number(z);
+            number(n as u64);
+        }
+        ValueRead::Fault(f) => fault(f),
+    }
+}
+
+// How many bytes an expression takes, as a file is checked.
+pub fn show_expression(s: &[u8]) {
+    let q = expression::read_expression(s, guard::LEVELS, 16);
+    match q {
+        Reached::At(n) => number(n as u64),
+        Reached::Fault(f) => fault(f),
+    }
+}
+
+// Whether a guard holds where a is 3 and b is 5, and the clocks are at 7 and 4.
+pub fn show_guard(s: &[u8]) {
+    let values = variables(3, 5);
+    let t = guard::guard_holds(s, 0, 8, 16, &values, clocks(7, 4));
+    match t {
+        TestRead::Value(b, n) => {
+            truth(b);
+            number(n as u64);
+        }
+        TestRead::Fault(f) => fault(f),
+    }
+}
+
+// The first two variables after the assignments of a label's body, from 3 and 8.
+pub fn show_assigned(s: &[u8]) {
+    let values = variables(3, 8);
+    let after = label::assigned(s, 0, 0, 16, values, values);
+    signed_number(after[0]);
+    signed_number(after[1]);
+}
+
+// A label with one clock, two variables and three channels: where its body stands, and rule 13.
+pub fn show_label(s: &[u8]) {
+    let l = label::read_label(s, 0, 1, 2, 3);
+    match l {
+        LabelRead::Label(k, next) => {
+            number(k.body as u64);
+            truth(k.once);
+            number(next as u64);
+        }
+        LabelRead::Fault(f) => fault(f),
+    }
+}

@@ -1,0 +1,51 @@
+use mathlib.Core.Path.{sym, ap}
+use native.Mathlib.Omega.{arith}
+use Rattle.reading.proofs.Places.{answered}
+use Rattle.requests.specs.Calls.{callOf, callEnd}
+use Rattle.requests.proofs.Requests.{called-none, called-got, called-fault}
+use borrow.Author.Needs.{needs}
+use Rattle.requests.proofs.request.read_called.Statement.{statement}
+use Rattle.requests.proofs.request.read_called.Tie as tie
+
+size-requires : tie.Need-size-requires
+size-requires c κs = search needs
+
+left-requires : tie.Need-left-requires
+left-requires c κs = search needs
+
+returns : tie.Need-returns
+returns c = (sym (called-none _ _ _ _ (c .before .before .size .ensures) (c .before .left .ensures) (c .if1 .taken)), omega arith)
+
+add-read-body : tie.Need-add-read-body
+add-read-body c = search needs
+
+read-body-requires : tie.Need-read-body-requires
+read-body-requires c κs = search needs
+
+enum-known-c : tie.Need-enum-known-c
+enum-known-c c = search needs
+
+enum-known-c-2 : tie.Need-enum-known-c-2
+enum-known-c-2 c = search needs
+
+returns-2 : tie.Need-returns-2
+returns-2 c = let k = c .before .before .before in
+    (sym (called-got _ _ _ _ (k .before .before .before .size .ensures) (k .before .before .left .ensures) (k .before .if1 .left) (answered (callOf _) (k .read-body .ensures .0) (c .before .c .given .1))), omega (arith, ap callEnd (c .before .c .given .1), k .read-body .ensures .1))
+
+returns-3 : tie.Need-returns-3
+returns-3 c = let k = c .before .before .before in
+    (sym (called-fault _ _ _ _ (k .before .before .before .size .ensures) (k .before .before .left .ensures) (k .before .if1 .left) (answered (callOf _) (k .read-body .ensures .0) (c .before .c2 .given .1))), omega arith)
+
+pub read-called-spec : {M : Type 1} → statement M
+read-called-spec =
+    tie.close
+    (tie.spec
+    size-requires
+    left-requires
+    returns
+    add-read-body
+    read-body-requires
+    enum-known-c
+    enum-known-c-2
+    returns-2
+    returns-3)

@@ -1,0 +1,156 @@
+// A request: a file, and what is asked of it.
+ghost use mathlib.Core.Path.{_≡_};
+ghost use Prim.Native.Nat.{_≤_, _<_};
+ghost use lib.ListN.{length};
+ghost use Rattle.reading.specs.Places.{onward};
+ghost use Rattle.requests.specs.Requests.{size, lent, called, run, operation, request, operationOf, operationEnd, requestOf, requestEnd, Beyond};
+use crate::calls::Call;
+use crate::calls::CallRead;
+use crate::calls::read_body;
+use crate::calls::skip_calls;
+use crate::input::read_file;
+use reading::field::ByteRead;
+use reading::field::Fault;
+use reading::field::Frame;
+use reading::field::Reached;
+use reading::field::WordRead;
+use reading::field::byte_fault;
+use reading::field::frame_fault;
+use reading::field::left;
+use reading::field::read_below;
+use reading::field::read_word;
+use reading::field::word_fault;
+
+pub enum Machine {
+    Chart,
+    Network,
+}
+
+// What is asked of a file: flattening into a buffer of so many bytes; a call of a machine from the configuration that
+// stands at a place; calls that stand from a place on, with their number in front.
+pub enum Operation {
+    Check,
+    Flatten(u32),
+    Start(Machine),
+    Call(Machine, usize, Call),
+    RunBoth(usize),
+}
+
+pub enum OperationRead {
+    Value(Operation, usize),
+    Fault(Fault),
+}
+
+// The file's bytes stand between two places.
+pub struct Request {
+    pub from: usize,
+    pub to: usize,
+    pub operation: Operation,
+}
+
+// A request, and the place after it.
+pub enum RequestRead {
+    Value(Request, usize),
+    Fault(Fault),
+}
+
+// The length of the buffer that is lent.
+fn read_lent(s: &[u8], at: usize) -> OperationRead
+    ensures means { λ r. ⌜ operationOf (now (s .entry)) r ≡ lent (onward (now (s .entry)) at) ⌝ }
+    ensures within { λ r. ⌜ operationEnd r ≤ length (now (s .entry)) ⌝ }
+{
+    let w = read_word(s, at);
+    let WordRead::Value(room, next) = w else {
+        return OperationRead::Fault(word_fault(w));
+    };
+    if room <= 65536 {
+        OperationRead::Value(Operation::Flatten(room), next)
+    } else {
+        OperationRead::Fault(Fault::Range)
+    }
+}
+
+// How many bytes a configuration has.
+fn size(m: Machine) -> usize
+    ensures { λ r. ⌜ r ≡ size m ⌝ }
+{
+    match m {
+        Machine::Chart => 144,
+        Machine::Network => 128,
+    }
+}
+
+// A configuration, and a call.
+fn read_called(s: &[u8], at: usize, m: Machine, kind: u8) -> OperationRead
+    ensures means { λ r. ⌜ operationOf (now (s .entry)) r ≡ called m kind (onward (now (s .entry)) at) ⌝ }
+    ensures within { λ r. ⌜ operationEnd r ≤ length (now (s .entry)) ⌝ }
+{
+    let taken = size(m);
+    if left(s, at) < taken {
+        return OperationRead::Fault(Fault::Length);
+    }
+    let c = read_body(s, at + taken, kind);
+    match c {
+        CallRead::Value(call, next) => OperationRead::Value(Operation::Call(m, at, call), next),
+        CallRead::Fault(f) => OperationRead::Fault(f),
+    }
+}
+
+// Calls.
+fn read_run(s: &[u8], at: usize) -> OperationRead
+    ensures means { λ r. ⌜ operationOf (now (s .entry)) r ≡ run (onward (now (s .entry)) at) ⌝ }
+    ensures within { λ r. ⌜ operationEnd r ≤ length (now (s .entry)) ⌝ }
+{
+    let q = skip_calls(s, at);
+    match q {
+        Reached::At(next) => OperationRead::Value(Operation::RunBoth(at), next),
+        Reached::Fault(f) => OperationRead::Fault(f),
+    }
+}
+
+// What follows the file.
+fn read_operation(s: &[u8], at: usize, code: u8) -> OperationRead
+    requires { ⌜ (at ≤ length (now s)) × (code < 9) ⌝ }
+    ensures means { λ r. ⌜ operationOf (now (s .entry)) r ≡ operation code (onward (now (s .entry)) at) ⌝ }
+    ensures within { λ r. ⌜ operationEnd r ≤ length (now (s .entry)) ⌝ }
+{
+    match code {
+        0 => OperationRead::Value(Operation::Check, at),
+        1 => read_lent(s, at),
+        2 => OperationRead::Value(Operation::Start(Machine::Chart), at),
+        3 => read_called(s, at, Machine::Chart, 0),
+        4 => read_called(s, at, Machine::Chart, 1),
+        5 => OperationRead::Value(Operation::Start(Machine::Network), at),
+        6 => read_called(s, at, Machine::Network, 0),
+        7 => read_called(s, at, Machine::Network, 1),
+        _ => read_run(s, at),
+    }
+}
+
+// The request at a place. It is cut off, which is a fault of the length, or out of range, or whole.
+pub fn read_request(s: &[u8], at: usize) -> RequestRead
+    ensures means { λ r. ⌜ requestOf (now (s .entry)) r ≡ request (onward (now (s .entry)) at) ⌝ }
+    ensures within { λ r. ⌜ requestEnd r ≤ length (now (s .entry)) ⌝ }
+    ensures beyond { λ r. ⌜ Beyond at r ⌝ }
+{
+    let b = read_below(s, at, 9);
+    let ByteRead::Value(code, next) = b else {
+        return RequestRead::Fault(byte_fault(b));
+    };
+    let f = read_file(s, next);
+    let Frame::Part(from, to) = f else {
+        return RequestRead::Fault(frame_fault(f));
+    };
+    let o = read_operation(s, to, code);
+    match o {
+        OperationRead::Value(operation, end) => RequestRead::Value(
+            Request {
+                from,
+                to,
+                operation,
+            },
+            end,
+        ),
+        OperationRead::Fault(e) => RequestRead::Fault(e),
+    }
+}

@@ -1,0 +1,2 @@
+-- Laws of the loop that moves bytes to the front.
+pub mod Shifts
