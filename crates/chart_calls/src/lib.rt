@@ -2,13 +2,13 @@
 ghost use mathlib.Core.Path.{_≡_};
 ghost use Rattle.chart_machine.specs.Outcomes.{zeroConfiguration};
 ghost use Rattle.chart_calls.specs.Calls.{answerTo};
-use chart_machine::configuration::Configuration;
 use chart_machine::operation::Outcome;
+use chart_moves::configuration::Configuration;
 use console::print;
-use console::script;
 use console::script::Call;
 use console::script::Line;
-use expr::field::byte_at;
+use lists::number::least;
+use reading::field::byte_at;
 
 // The declared part of a configuration. The counts stand in the file's header.
 pub fn show(file: &[u8], c: Configuration) {
@@ -37,7 +37,7 @@ pub fn answer(file: &[u8], c: Configuration, line: Line) -> Outcome
 {
     let call = line.call;
     let list = line.list;
-    let count = script::at_most_seventeen(line.count);
+    let count = least(line.count, 17);
     match call {
         Call::Start => chart_machine::operation::start(file),
         Call::Step => chart_machine::operation::step(file, c, &list[0..count]),

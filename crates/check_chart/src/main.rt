@@ -1,11 +1,11 @@
 // Checks the chart on standard input: it passes, or the number of the refusal and its sentence.
-use chart::rule::Checked;
+use reading::verdict::Verdict;
 
 fn verdict(file: &[u8]) {
     let answer = chart::check::check(file);
     match answer {
-        Checked::Passed => console::print::text(b"passes\n"),
-        Checked::Refused(k) => console::sentence::refusal(k),
+        Verdict::Done => console::print::text(b"passes\n"),
+        Verdict::Refused(k) => console::sentence::refusal(k),
     }
 }
 

@@ -8,9 +8,9 @@ use native.Mathlib.Omega.{arith}
 use lib.Dec.{leb, ltb}
 use lib.ListN.{length, getD, drop, drop-of-length-le}
 use borrow.Author.Tests.{ltb-true, ltb-false, lt-ltb, le-ltb, le-leb, lt-leb}
-use Rattle.expr.specs.Lists.{all}
-use Rattle.expr.proofs.Bools.{decided}
-use Rattle.expr.proofs.Lists.{drop-next}
+use Rattle.lists.specs.Lists.{all}
+use Rattle.lists.proofs.Bools.{decided}
+use Rattle.lists.proofs.Parts.{drop-next}
 use Rattle.console.specs.Script.{isDigit, decimalAfter, decimal, isNumber, numberOf}
 use Rattle.console.specs.Places.{withDigit}
 use Rattle.console.specs.declared.script.NumberRead.{NumberRead}

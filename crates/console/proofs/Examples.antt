@@ -1,7 +1,7 @@
 -- Worked lines of a script.
 use mathlib.Core.Path.{_≡_, refl}
 use mathlib.Core.List.{[], _∷_}
-use Rattle.expr.specs.Lists.{all, position}
+use Rattle.lists.specs.Lists.{all, position}
 use Rattle.console.specs.Script.{beforeComment, isSpace, ended, wordsAfter, words, sameWord, decimalAfter, decimal, isNumber, plainLine, listed, stepLine, waitLine, startLine, callLine, lineOf}
 use Rattle.console.specs.declared.script.Call.the-variants as Ca
 

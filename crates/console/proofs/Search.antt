@@ -6,9 +6,11 @@ use Prim.Native.Nat.{ℕ, _+_, _-_, _≤_, _<_}
 use native.Mathlib.Omega.{arith}
 use lib.Dec.{eqb}
 use lib.ListN.{length, getD, take, drop, length-drop, drop-of-length-le}
-use Rattle.expr.specs.Lists.{position}
-use Rattle.expr.specs.Places.{onward}
-use Rattle.expr.proofs.Lists.{drop-next, position-next, position-stop, position-end, position-le}
+use Rattle.lists.specs.Lists.{position}
+use Rattle.reading.specs.Places.{onward}
+use Rattle.lists.proofs.Parts.{drop-next}
+use Rattle.lists.proofs.Lists.{position-next, position-stop}
+use Rattle.lists.proofs.Position.{position-end, position-le}
 use Rattle.console.specs.Script.{beforeComment}
 use Rattle.console.specs.Places.{placeOf}
 

@@ -9,9 +9,9 @@ use lib.Dec.{ltb}
 use lib.ListN.{length, take, set, length-append, length-map}
 use lib.Seq.{take-all, take-append-le}
 use borrow.Author.Tests.{ltb-true, ltb-false, lt-ltb, le-ltb}
-use Rattle.expr.specs.Lists.{all, padded}
-use Rattle.expr.proofs.Bools.{decided}
-use Rattle.expr.proofs.Many.{padded-more}
+use Rattle.lists.specs.Lists.{all, padded}
+use Rattle.lists.proofs.Bools.{decided}
+use Rattle.lists.proofs.Loops.{padded-more}
 use Rattle.console.specs.Script.{decimal, isNumber, plainLine, shortened, listed, stepLine, waitLine, startLine, stepWord, waitWord, startWord, callLine, sameWord}
 use Rattle.console.specs.Places.{withNumber}
 use Rattle.console.specs.declared.script.Line.{Line}

@@ -7,14 +7,22 @@ use native.Mathlib.Omega.{arith}
 use lib.Dec.{eqb}
 use lib.ListN.{length, getD, take, drop, length-take, length-drop, drop-of-length-le}
 use lib.Seq.{drop-drop}
-use Rattle.expr.specs.Lists.{position}
-use Rattle.expr.specs.Places.{onward}
-use Rattle.expr.proofs.Bools.{clash, fails, and-r}
-use Rattle.expr.proofs.Lists.{drop-next, position-le}
+use Rattle.lists.specs.Lists.{position}
+use Rattle.reading.specs.Places.{onward}
+use Rattle.lists.proofs.Bools.{clash, fails, and-r}
+use Rattle.lists.proofs.Parts.{drop-next}
+use Rattle.lists.proofs.Position.{position-le}
 use Rattle.console.specs.Script.{isSpace, ended, wordsAfter, words, sameWord}
 use Rattle.console.specs.Places.{placeOf, endsRun, wordsFound, WordFits}
 use Rattle.console.specs.declared.script.Word.{Word}
 use Rattle.console.specs.declared.script.Word.the-variants as Wo
+
+-- a word from `from` to `to` is the first from a place on, and lies in the line
+abbrev pub FirstWord : List ℕ → List (List ℕ) → ℕ → ℕ → Type 0
+FirstWord s ws from to = ws ≡ take (to - from) (drop from s) ∷ words (onward s to)
+
+abbrev pub PartWithin : List ℕ → ℕ → ℕ → ℕ → Type 0
+PartWithin s at from to = (at ≤ from) × (from < to) × (to ≤ length s)
 
 -- spaces in front are no part of a word
 words-skip : (t : List ℕ) → words (drop (position (endsRun true) t) t) ≡ words t
@@ -32,7 +40,9 @@ unfolding position
 skip-all [] h = refl
 skip-all (b ∷ t) h = go (isSpace b) refl (λ k. skip-all t k) h
   where
-    go : (x : Bool) → isSpace b ≡ x → (position (endsRun false) (drop (position (endsRun true) t) t) ≡ 0 → drop (position (endsRun true) t) t ≡ []) → position (endsRun false) (drop (cond (not x) 0 (suc (position (endsRun true) t))) (b ∷ t)) ≡ 0 → drop (cond (not x) 0 (suc (position (endsRun true) t))) (b ∷ t) ≡ []
+    go : (x : Bool) → isSpace b ≡ x → (position (endsRun false) (drop (position (endsRun true) t) t) ≡ 0 → drop (position (endsRun true) t) t ≡ [])
+        → position (endsRun false) (drop (cond (not x) 0 (suc (position (endsRun true) t))) (b ∷ t)) ≡ 0
+        → drop (cond (not x) 0 (suc (position (endsRun true) t))) (b ∷ t) ≡ []
     go true e r k = r k
     go false e r k = absurd (let z : suc (position (endsRun false) t) ≡ 0 = rw e at k in omega arith)
 
@@ -42,7 +52,10 @@ unfolding words wordsAfter ended position
 words-after w [] = sym (rw (append-nil w, append-nil (ended w)))
 words-after w (b ∷ t) = go (isSpace b) refl (words-after (w ++ (b ∷ [])) t)
   where
-    go : (x : Bool) → isSpace b ≡ x → wordsAfter (w ++ (b ∷ [])) t ≡ ended ((w ++ (b ∷ [])) ++ take (position (endsRun false) t) t) ++ words (drop (position (endsRun false) t) t) → cond x (ended w ++ wordsAfter [] t) (wordsAfter (w ++ (b ∷ [])) t) ≡ ended (w ++ take (cond x 0 (suc (position (endsRun false) t))) (b ∷ t)) ++ words (drop (cond x 0 (suc (position (endsRun false) t))) (b ∷ t))
+    go : (x : Bool) → isSpace b ≡ x
+        → wordsAfter (w ++ (b ∷ [])) t ≡ ended ((w ++ (b ∷ [])) ++ take (position (endsRun false) t) t) ++ words (drop (position (endsRun false) t) t)
+        → cond x (ended w ++ wordsAfter [] t) (wordsAfter (w ++ (b ∷ [])) t)
+        ≡ ended (w ++ take (cond x 0 (suc (position (endsRun false) t))) (b ∷ t)) ++ words (drop (cond x 0 (suc (position (endsRun false) t))) (b ∷ t))
     go true e r = sym (rw (append-nil w, e))
     go false e r = r ∙ rw (append-assoc w (b ∷ []) (take (position (endsRun false) t) t))
 

@@ -4,8 +4,8 @@ use mathlib.Core.List.{List, [], _∷_}
 use Prim.Native.Nat.{ℕ, _+_, _*_, _-_, _≤_, _<_}
 use lib.Dec.{ltb}
 use lib.ListN.{length, take, drop, set}
-use Rattle.expr.specs.Lists.{position}
-use Rattle.expr.specs.Places.{onward}
+use Rattle.lists.specs.Lists.{position}
+use Rattle.reading.specs.Places.{onward}
 use Rattle.console.specs.Script.{isSpace, words, shortened}
 use Rattle.console.specs.declared.script.Line.{Line}
 use Rattle.console.specs.declared.script.Word.{Word}

@@ -4,7 +4,7 @@ use mathlib.Core.List.{List, [], _∷_, _++_, map}
 use Prim.Native.Nat.{ℕ, _+_, _*_, _-_, min}
 use lib.Dec.{leb, ltb, eqb}
 use lib.ListN.{length, take, replicate}
-use Rattle.expr.specs.Lists.{all, position, padded}
+use Rattle.lists.specs.Lists.{all, position, padded}
 use Rattle.console.specs.declared.script.Call.{Call}
 use Rattle.console.specs.declared.script.Call.the-variants as Ca
 use Rattle.console.specs.declared.script.Line.{Line}
@@ -122,3 +122,7 @@ isCall Ca.Number = false
 -- the number of the next line; the count stops at a million
 abbrev pub nextNumber : ℕ → ℕ
 nextNumber n = cond (ltb n 1000000) (n + 1) n
+
+-- the numbers of a line's step, of which there are at most seventeen
+abbrev pub numbersOf : Line → List ℕ
+numbersOf l = take (min (l .count) 17) (l .list)

@@ -1,12 +1,12 @@
 // Scripts of calls, a line each: start, step 3 7, wait 5. What follows # is a comment.
 ghost use mathlib.Core.Path.{_≡_};
-ghost use Prim.Native.Nat.{_-_, min};
+ghost use Prim.Native.Nat.{_-_};
 ghost use lib.Dec.{eqb};
-ghost use Rattle.expr.specs.Places.{onward};
+ghost use Rattle.reading.specs.Places.{onward};
 ghost use Rattle.console.specs.Script.{isSpace, words, sameWord, isDigit, numberOf, plainLine, shortened, stepLine, waitLine, startLine, callLine, lineOf, isCall, nextNumber};
 ghost use Rattle.console.specs.Places.{placeOf, endsRun, withDigit, withNumber, wordsFound, WordFits};
 use crate::print;
-use expr::field::byte_at;
+use reading::field::byte_at;
 
 pub enum Call {
     Nothing,
@@ -266,13 +266,6 @@ pub fn read_line(s: &[u8]) -> Line
 {
     let to = find(s, 0, b'#');
     call_of(&s[0..to])
-}
-
-// How many numbers a list has, as far as there is a place for them.
-pub fn at_most_seventeen(count: usize) -> usize
-    ensures { λ r. ⌜ r ≡ min count 17 ⌝ }
-{
-    if count < 17 { count } else { 17 }
 }
 
 // The number of the next line.

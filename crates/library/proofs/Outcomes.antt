@@ -1,84 +1,78 @@
 -- What the machines' answers say of the number that is answered and of what is lent.
-use mathlib.Core.Path.{_≡_, refl, ap}
+use mathlib.Core.Path.{_≡_, refl, sym, ap}
 use Prim.Native.Nat.{ℕ}
 use mathlib.Core.List.{List}
 use native.Mathlib.Omega.{arith}
-use Rattle.expr.specs.Answer.{Answer, done, refused}
-use Rattle.chart_machine.specs.declared.configuration.Configuration.{Configuration}
+use Rattle.reading.specs.Answer.{Answer, done, refused}
+use Rattle.chart_moves.specs.declared.configuration.Configuration.{Configuration}
 use Rattle.chart_machine.specs.declared.operation.Outcome.{Outcome}
-use Rattle.chart.specs.declared.rule.Checked.{Checked}
-use Rattle.chart.specs.declared.rule.Checked.the-variants as Ck
-use Rattle.chart.specs.Answers.{checkedOf}
+use Rattle.reading.specs.Verdict.{verdictOf, verdictNumber, orKept}
+use Rattle.reading.specs.declared.verdict.Verdict.{Verdict}
+use Rattle.reading.specs.declared.verdict.Verdict.the-variants as Vd
+use Rattle.reading.proofs.Verdicts.{was-done, was-refused}
 use Rattle.chart_machine.specs.Outcomes.{outcomeOf}
-use Rattle.chart.specs.Ready.{verdict}
-use Rattle.network_machine.specs.Answers.{outcomeOf as networkOutcomeOf, verdictNumber}
-use Rattle.network_machine.specs.declared.configuration.Configuration as net
+use Rattle.network_machine.specs.Answers.{outcomeOf as networkOutcomeOf}
+use Rattle.network_moves.specs.declared.configuration.Configuration as net
 use Rattle.network_machine.specs.declared.outcome.Outcome.{Outcome as NetworkOutcome}
-use Rattle.network_machine.specs.declared.outcome.Verdict.the-variants as Vd
 use Rattle.flattener.specs.declared.operation.Flattened.{Flattened}
 use Rattle.flattener.specs.declared.operation.Flattened.the-variants as Fl
 use Rattle.flattener.specs.Outcomes.{flattenedOf}
-use Rattle.library.specs.Numbers.{numberOf, after, lengthAfter, checkedNumber}
+use Rattle.library.specs.Numbers.{numberOf, after, lengthAfter}
+
+-- of a call whose verdict and configuration are known: the number, and what is lent
+module _ {A : Type 0} (given : A) (a : Answer A) {v : Verdict} (h : v ≡ verdictOf a) where
+  lent-passed : (σ : A) {x : A} → x ≡ orKept σ a → v ≡ Vd.Done → (0 ≡ numberOf a) × (x ≡ after given a)
+  unfolding numberOf after
+  lent-passed σ l e = let w = was-done a h σ l e in (sym (ap numberOf w), sym (ap (after given) w))
+
+  lent-refused : {k : ℕ} → v ≡ Vd.Refused k → given ≡ after given a
+  unfolding after
+  lent-refused e = sym (ap (after given) (was-refused a h e))
 
 -- the check's number
-pub checked-number : {A : Type 0} (a : Answer A) (r : Checked) → checkedOf r ≡ verdict a → checkedNumber r ≡ numberOf a
-unfolding verdict numberOf
-checked-number (done x) Ck.Passed e = refl
-checked-number (done x) (Ck.Refused k) e = let z : _≡_ {A = ℕ} 0 1 = cc in absurd (omega arith)
-checked-number (refused n) Ck.Passed e = let z : _≡_ {A = ℕ} 0 1 = cc in absurd (omega arith)
-checked-number (refused n) (Ck.Refused k) e = cc
+pub checked-number : {A : Type 0} (a : Answer A) {v : Verdict} → v ≡ verdictOf a → verdictNumber v ≡ numberOf a
+unfolding numberOf
+checked-number a e = ap verdictNumber e
 
 -- charts: the number, and what is lent to a call on σ
-pub chart-number : (σ : Configuration) (a : Answer Configuration) {o : Outcome} → o ≡ outcomeOf σ a → checkedNumber (o .answer) ≡ numberOf a
-unfolding outcomeOf numberOf after
-chart-number σ (done τ) e = ap (λ p. checkedNumber (p .answer)) e
-chart-number σ (refused k) e = ap (λ p. checkedNumber (p .answer)) e
+module _ (σ : Configuration) (a : Answer Configuration) {o : Outcome} (e : o ≡ outcomeOf σ a) where
+  verdict-is : o .verdict ≡ verdictOf a
+  unfolding outcomeOf
+  verdict-is = ap (λ (p : Outcome). p .verdict) e
 
-pub chart-after : (σ : Configuration) (a : Answer Configuration) {o : Outcome} → o ≡ outcomeOf σ a → o .configuration ≡ after σ a
-unfolding outcomeOf numberOf after
-chart-after σ (done τ) e = ap (λ p. p .configuration) e
-chart-after σ (refused k) e = ap (λ p. p .configuration) e
+  pub chart-number : verdictNumber (o .verdict) ≡ numberOf a
+  chart-number = checked-number a verdict-is
 
--- where the call is on another configuration than the one that is lent
-pub chart-passed : (σ given : Configuration) (a : Answer Configuration) {o : Outcome} → o ≡ outcomeOf σ a → o .answer ≡ Ck.Passed → (0 ≡ numberOf a) × (o .configuration ≡ after given a)
-unfolding outcomeOf numberOf after
-chart-passed σ given (done τ) e h = (refl, ap (λ p. p .configuration) e)
-chart-passed σ given (refused k) {o} e h =
-    let f : o .answer ≡ Ck.Refused k = ap (λ p. p .answer) e in
-    let z : _≡_ {A = ℕ} 0 1 = cc in absurd (omega arith)
+  pub chart-after : o .configuration ≡ after σ a
+  unfolding outcomeOf after
+  chart-after = ap (λ (p : Outcome). p .configuration) e
 
-pub chart-refused : (σ given : Configuration) (a : Answer Configuration) {o : Outcome} {k : ℕ} → o ≡ outcomeOf σ a → o .answer ≡ Ck.Refused k → given ≡ after given a
-unfolding outcomeOf numberOf after
-chart-refused σ given (done τ) {o} e h =
-    let f : o .answer ≡ Ck.Passed = ap (λ p. p .answer) e in
-    let z : _≡_ {A = ℕ} 0 1 = cc in absurd (omega arith)
-chart-refused σ given (refused k) e h = refl
+  -- where another configuration is lent
+  pub chart-passed : (given : Configuration) → o .verdict ≡ Vd.Done → (0 ≡ numberOf a) × (o .configuration ≡ after given a)
+  unfolding after
+  chart-passed given h = lent-passed given a verdict-is σ chart-after h
 
--- networks: the number, and what is lent to a call on σ
-pub network-number : (σ : net.Configuration) (a : Answer net.Configuration) {o : NetworkOutcome} → o ≡ networkOutcomeOf σ a → verdictNumber (o .verdict) ≡ numberOf a
-unfolding numberOf after
-network-number σ (done τ) e = ap (λ p. verdictNumber (p .verdict)) e
-network-number σ (refused k) e = ap (λ p. verdictNumber (p .verdict)) e
+  pub chart-refused : (given : Configuration) {k : ℕ} → o .verdict ≡ Vd.Refused k → given ≡ after given a
+  chart-refused given h = lent-refused given a verdict-is h
 
-pub network-after : (σ : net.Configuration) (a : Answer net.Configuration) {o : NetworkOutcome} → o ≡ networkOutcomeOf σ a → o .configuration ≡ after σ a
-unfolding numberOf after
-network-after σ (done τ) e = ap (λ p. p .configuration) e
-network-after σ (refused k) e = ap (λ p. p .configuration) e
+-- networks: the same
+module _ (σ : net.Configuration) (a : Answer net.Configuration) {o : NetworkOutcome} (e : o ≡ networkOutcomeOf σ a) where
+  network-verdict : o .verdict ≡ verdictOf a
+  network-verdict = ap (λ (p : NetworkOutcome). p .verdict) e
 
--- where the call is on another configuration than the one that is lent
-pub network-passed : (σ given : net.Configuration) (a : Answer net.Configuration) {o : NetworkOutcome} → o ≡ networkOutcomeOf σ a → o .verdict ≡ Vd.Done → (0 ≡ numberOf a) × (o .configuration ≡ after given a)
-unfolding numberOf after
-network-passed σ given (done τ) e h = (refl, ap (λ p. p .configuration) e)
-network-passed σ given (refused k) {o} e h =
-    let f : o .verdict ≡ Vd.Refused k = ap (λ p. p .verdict) e in
-    let z : _≡_ {A = ℕ} 0 1 = cc in absurd (omega arith)
+  pub network-number : verdictNumber (o .verdict) ≡ numberOf a
+  network-number = checked-number a network-verdict
 
-pub network-refused : (σ given : net.Configuration) (a : Answer net.Configuration) {o : NetworkOutcome} {k : ℕ} → o ≡ networkOutcomeOf σ a → o .verdict ≡ Vd.Refused k → given ≡ after given a
-unfolding numberOf after
-network-refused σ given (done τ) {o} e h =
-    let f : o .verdict ≡ Vd.Done = ap (λ p. p .verdict) e in
-    let z : _≡_ {A = ℕ} 0 1 = cc in absurd (omega arith)
-network-refused σ given (refused k) e h = refl
+  pub network-after : o .configuration ≡ after σ a
+  unfolding after
+  network-after = ap (λ (p : NetworkOutcome). p .configuration) e
+
+  pub network-passed : (given : net.Configuration) → o .verdict ≡ Vd.Done → (0 ≡ numberOf a) × (o .configuration ≡ after given a)
+  unfolding after
+  network-passed given h = lent-passed given a network-verdict σ network-after h
+
+  pub network-refused : (given : net.Configuration) {k : ℕ} → o .verdict ≡ Vd.Refused k → given ≡ after given a
+  network-refused given h = lent-refused given a network-verdict h
 
 -- flattening: the number and the length
 pub flatten-passed : (given : ℕ) (a : Answer (List ℕ)) {r : Flattened} {n : ℕ} → r ≡ flattenedOf a → r ≡ Fl.Length n → (0 ≡ numberOf a) × (n ≡ lengthAfter given a)

@@ -1,29 +1,20 @@
 // Charts.
 ghost use mathlib.Core.Path.{_≡_};
-ghost use Rattle.chart.specs.Rules.{chartOf};
-ghost use Rattle.chart_machine.specs.Machine.{startOf, stepOf, waitOf};
-ghost use Rattle.library.specs.Numbers.{numberOf, after, chartParts, checkedNumber};
+ghost use Rattle.chart_records.specs.Rules.{chartOf};
+ghost use Rattle.chart_moves.specs.Machine.{startOf, stepOf, waitOf};
+ghost use Rattle.library.specs.Numbers.{numberOf, after, chartParts, chartStepped, chartWaited};
 use chart::check::check;
-use chart::rule::Checked;
-use chart_machine::configuration::Configuration;
 use chart_machine::operation;
-
-// 0, or the number of the refusal.
-fn number(answer: Checked) -> u8
-    ensures { λ r. ⌜ r ≡ checkedNumber answer ⌝ }
-{
-    match answer {
-        Checked::Passed => 0,
-        Checked::Refused(k) => k,
-    }
-}
+use chart_moves::configuration::Configuration;
+use reading::verdict::Verdict;
+use reading::verdict::number_of;
 
 // Whether a file holds a chart.
 #[no_mangle]
 pub extern "C" fn figrummy_check_chart(file: &[u8]) -> u8
     ensures { λ r. ⌜ r ≡ numberOf (chartOf (now (file .entry))) ⌝ }
 {
-    number(check(file))
+    number_of(check(file))
 }
 
 // The configuration in which a chart starts.
@@ -38,9 +29,9 @@ pub extern "C" fn figrummy_start_chart(
     ensures after { λ r. ⌜ chartParts (now (active .exit)) (now (variables .exit)) (now (clocks .exit)) ≡ after (chartParts (now (active .entry)) (now (variables .entry)) (now (clocks .entry))) (startOf (now (file .entry))) ⌝ }
 {
     let o = operation::start(file);
-    let answer = o.answer;
-    let Checked::Passed = answer else {
-        return number(answer);
+    let verdict = o.verdict;
+    let Verdict::Done = verdict else {
+        return number_of(verdict);
     };
     let c = o.configuration;
     let states = c.active;
@@ -62,7 +53,7 @@ pub extern "C" fn figrummy_step_chart(
     list: &[u16],
 ) -> u8
     ensures number { λ r. ⌜ r ≡ numberOf (stepOf (now (file .entry)) (chartParts (now (active .entry)) (now (variables .entry)) (now (clocks .entry))) (now (list .entry))) ⌝ }
-    ensures after { λ r. ⌜ chartParts (now (active .exit)) (now (variables .exit)) (now (clocks .exit)) ≡ after (chartParts (now (active .entry)) (now (variables .entry)) (now (clocks .entry))) (stepOf (now (file .entry)) (chartParts (now (active .entry)) (now (variables .entry)) (now (clocks .entry))) (now (list .entry))) ⌝ }
+    ensures after { λ r. ⌜ chartParts (now (active .exit)) (now (variables .exit)) (now (clocks .exit)) ≡ chartStepped (now (file .entry)) (chartParts (now (active .entry)) (now (variables .entry)) (now (clocks .entry))) (now (list .entry)) ⌝ }
 {
     let given = Configuration {
         active: *active,
@@ -77,8 +68,8 @@ pub extern "C" fn figrummy_step_chart(
     *active = states;
     *variables = values;
     *clocks = times;
-    let answer = o.answer;
-    number(answer)
+    let verdict = o.verdict;
+    number_of(verdict)
 }
 
 // So many ticks later.
@@ -91,7 +82,7 @@ pub extern "C" fn figrummy_wait_chart(
     ticks: u32,
 ) -> u8
     ensures number { λ r. ⌜ r ≡ numberOf (waitOf (now (file .entry)) (chartParts (now (active .entry)) (now (variables .entry)) (now (clocks .entry))) ticks) ⌝ }
-    ensures after { λ r. ⌜ chartParts (now (active .exit)) (now (variables .exit)) (now (clocks .exit)) ≡ after (chartParts (now (active .entry)) (now (variables .entry)) (now (clocks .entry))) (waitOf (now (file .entry)) (chartParts (now (active .entry)) (now (variables .entry)) (now (clocks .entry))) ticks) ⌝ }
+    ensures after { λ r. ⌜ chartParts (now (active .exit)) (now (variables .exit)) (now (clocks .exit)) ≡ chartWaited (now (file .entry)) (chartParts (now (active .entry)) (now (variables .entry)) (now (clocks .entry))) ticks ⌝ }
 {
     let given = Configuration {
         active: *active,
@@ -106,6 +97,6 @@ pub extern "C" fn figrummy_wait_chart(
     *active = states;
     *variables = values;
     *clocks = times;
-    let answer = o.answer;
-    number(answer)
+    let verdict = o.verdict;
+    number_of(verdict)
 }

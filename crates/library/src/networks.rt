@@ -1,11 +1,11 @@
 // Networks.
 ghost use mathlib.Core.Path.{_≡_};
-ghost use Rattle.network_machine.specs.Machine.{startOf, stepOf, waitOf};
-ghost use Rattle.library.specs.Numbers.{numberOf, after, networkParts};
-use network_machine::configuration::Configuration;
+ghost use Rattle.network_moves.specs.Machine.{startOf, stepOf, waitOf};
+ghost use Rattle.library.specs.Numbers.{numberOf, after, networkParts as parts, networkStepped, networkWaited};
 use network_machine::operation;
-use network_machine::outcome::Verdict;
 use network_machine::outcome::number_of;
+use network_moves::configuration::Configuration;
+use reading::verdict::Verdict;
 
 // The configuration in which a network starts.
 #[no_mangle]
@@ -17,7 +17,7 @@ pub extern "C" fn figrummy_start_network(
     clocks: &mut [u32; 8],
 ) -> u8
     ensures number { λ r. ⌜ r ≡ numberOf (startOf (now (file .entry))) ⌝ }
-    ensures after { λ r. ⌜ networkParts (now (locations .exit)) (now (flags .exit)) (now (variables .exit)) (now (clocks .exit)) ≡ after (networkParts (now (locations .entry)) (now (flags .entry)) (now (variables .entry)) (now (clocks .entry))) (startOf (now (file .entry))) ⌝ }
+    ensures after { λ r. ⌜ parts (now (locations .exit)) (now (flags .exit)) (now (variables .exit)) (now (clocks .exit)) ≡ after (parts (now (locations .entry)) (now (flags .entry)) (now (variables .entry)) (now (clocks .entry))) (startOf (now (file .entry))) ⌝ }
 {
     let m = operation::start(file);
     let verdict = m.verdict;
@@ -46,8 +46,8 @@ pub extern "C" fn figrummy_step_network(
     clocks: &mut [u32; 8],
     list: &[u16],
 ) -> u8
-    ensures number { λ r. ⌜ r ≡ numberOf (stepOf (now (file .entry)) (networkParts (now (locations .entry)) (now (flags .entry)) (now (variables .entry)) (now (clocks .entry))) (now (list .entry))) ⌝ }
-    ensures after { λ r. ⌜ networkParts (now (locations .exit)) (now (flags .exit)) (now (variables .exit)) (now (clocks .exit)) ≡ after (networkParts (now (locations .entry)) (now (flags .entry)) (now (variables .entry)) (now (clocks .entry))) (stepOf (now (file .entry)) (networkParts (now (locations .entry)) (now (flags .entry)) (now (variables .entry)) (now (clocks .entry))) (now (list .entry))) ⌝ }
+    ensures number { λ r. ⌜ r ≡ numberOf (stepOf (now (file .entry)) (parts (now (locations .entry)) (now (flags .entry)) (now (variables .entry)) (now (clocks .entry))) (now (list .entry))) ⌝ }
+    ensures after { λ r. ⌜ parts (now (locations .exit)) (now (flags .exit)) (now (variables .exit)) (now (clocks .exit)) ≡ networkStepped (now (file .entry)) (parts (now (locations .entry)) (now (flags .entry)) (now (variables .entry)) (now (clocks .entry))) (now (list .entry)) ⌝ }
 {
     let given = Configuration {
         locations: *locations,
@@ -78,8 +78,8 @@ pub extern "C" fn figrummy_wait_network(
     clocks: &mut [u32; 8],
     ticks: u32,
 ) -> u8
-    ensures number { λ r. ⌜ r ≡ numberOf (waitOf (now (file .entry)) (networkParts (now (locations .entry)) (now (flags .entry)) (now (variables .entry)) (now (clocks .entry))) ticks) ⌝ }
-    ensures after { λ r. ⌜ networkParts (now (locations .exit)) (now (flags .exit)) (now (variables .exit)) (now (clocks .exit)) ≡ after (networkParts (now (locations .entry)) (now (flags .entry)) (now (variables .entry)) (now (clocks .entry))) (waitOf (now (file .entry)) (networkParts (now (locations .entry)) (now (flags .entry)) (now (variables .entry)) (now (clocks .entry))) ticks) ⌝ }
+    ensures number { λ r. ⌜ r ≡ numberOf (waitOf (now (file .entry)) (parts (now (locations .entry)) (now (flags .entry)) (now (variables .entry)) (now (clocks .entry))) ticks) ⌝ }
+    ensures after { λ r. ⌜ parts (now (locations .exit)) (now (flags .exit)) (now (variables .exit)) (now (clocks .exit)) ≡ networkWaited (now (file .entry)) (parts (now (locations .entry)) (now (flags .entry)) (now (variables .entry)) (now (clocks .entry))) ticks ⌝ }
 {
     let given = Configuration {
         locations: *locations,

@@ -1,11 +1,12 @@
 -- The calls of a script on a network.
-use Prim.Native.Nat.{ℕ, min}
+use Prim.Native.Nat.{ℕ}
+use mathlib.Core.Bool.{cond}
 use mathlib.Core.List.{List}
-use lib.ListN.{take}
-use Rattle.network_machine.specs.Machine.{startOf, stepOf, waitOf}
+use Rattle.network_moves.specs.Machine.{startOf, stepOf, waitOf}
 use Rattle.network_machine.specs.Answers.{outcomeOf, zeroConfiguration}
 use Rattle.network_machine.specs.declared.outcome.Outcome.{Outcome}
-use Rattle.network_machine.specs.declared.configuration.Configuration.{Configuration}
+use Rattle.network_moves.specs.declared.configuration.Configuration.{Configuration}
+use Rattle.console.specs.Script.{isCall, numbersOf}
 use Rattle.console.specs.declared.script.Call.{Call}
 use Rattle.console.specs.declared.script.Call.the-variants as Cl
 use Rattle.console.specs.declared.script.Line.{Line}
@@ -19,6 +20,10 @@ answerBy file c (Cl.Wait d) ms = outcomeOf c (waitOf file c d)
 answerBy file c Cl.Unknown ms = outcomeOf c (waitOf file c 0)
 answerBy file c Cl.Number ms = outcomeOf c (waitOf file c 0)
 
--- by the line, whose list has room for seventeen numbers
+-- by the line
 abbrev pub answerTo : List ℕ → Configuration → Line → Outcome
-answerTo file c l = answerBy file c (l .call) (take (min (l .count) 17) (l .list))
+answerTo file c l = answerBy file c (l .call) (numbersOf l)
+
+-- the configuration after a line: what its call leaves, and the same where it has none
+abbrev pub afterLine : List ℕ → Configuration → Line → Configuration
+afterLine file c l = cond (isCall (l .call)) (answerTo file c l .configuration) c

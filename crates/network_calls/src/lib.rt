@@ -3,12 +3,12 @@ ghost use mathlib.Core.Path.{_≡_};
 ghost use Rattle.network_machine.specs.Answers.{zeroConfiguration};
 ghost use Rattle.network_calls.specs.Calls.{answerTo};
 use console::print;
-use console::script;
 use console::script::Call;
 use console::script::Line;
-use expr::field::byte_at;
-use network_machine::configuration::Configuration;
+use lists::number::least;
 use network_machine::outcome::Outcome;
+use network_moves::configuration::Configuration;
+use reading::field::byte_at;
 
 // The declared part of a configuration. The counts stand in the file's header.
 pub fn show(file: &[u8], c: Configuration) {
@@ -41,7 +41,7 @@ pub fn answer(file: &[u8], c: Configuration, line: Line) -> Outcome
 {
     let call = line.call;
     let list = line.list;
-    let count = script::at_most_seventeen(line.count);
+    let count = least(line.count, 17);
     match call {
         Call::Start => network_machine::operation::start(file),
         Call::Step => network_machine::operation::step(file, c, &list[0..count]),

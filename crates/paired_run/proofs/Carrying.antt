@@ -9,15 +9,17 @@ use borrow.Author.Tests.{eq-eqb, ne-eqb}
 use lib.Dec.{eqb}
 use lib.ListN.{length, getD, take, drop, length-map, drop-of-length-le}
 use lib.Seq.{take-take}
-use Rattle.expr.specs.Lists.{keep}
-use Rattle.expr.proofs.Lists.{drop-next, within-length, ascending-once}
-use Rattle.network.specs.Network.{Network}
+use Rattle.lists.specs.Lists.{keep}
+use Rattle.lists.proofs.Parts.{drop-next}
+use Rattle.lists.proofs.Once.{within-length}
+use Rattle.lists.proofs.Ascending.{ascending-once}
+use Rattle.network_records.specs.Network.{Network}
 use Rattle.network.specs.Bearing.{transitionOf, transitionsOf}
 use Rattle.network.proofs.Borne.{transitions-kept}
 use Rattle.flattening.specs.Flatten.{sorted}
-use Rattle.flatten_edges.specs.Choosing.{Kept}
+use Rattle.flatten_alternatives.specs.Choosing.{Kept}
 use Rattle.flattening.proofs.Sums.{sorted-at, sorted-ascending}
-use Rattle.flatten_edges.proofs.Keeping.{kept-none, kept-at}
+use Rattle.flatten_alternatives.proofs.Keeping.{kept-none, kept-at}
 use Rattle.agreement.specs.Agreement.{borne, carried}
 
 abbrev pub isNumber : ℕ → Bool

@@ -8,27 +8,28 @@ use native.Mathlib.Decide.{ℕ-discrete}
 use native.Mathlib.Nat.{mod-eq-of-lt}
 use lib.ListN.{length, take}
 use lib.Seq.{length-take-le}
-use Rattle.expr.specs.Answer.{Answer, done, refused}
-use Rattle.expr.specs.Moves.{known}
-use Rattle.expr.proofs.Answer.{unless-at, done-injective}
-use Rattle.chart.specs.Chart.{Chart}
-use Rattle.chart.specs.Rules.{chartOf}
-use Rattle.chart_machine.specs.Machine as chart
+use Rattle.reading.specs.Answer.{Answer, done, refused}
+use Rattle.steps.specs.Moves.{known}
+use Rattle.reading.proofs.Answer.{unless-at, done-injective}
+use Rattle.reading.proofs.Verdicts.{was-done, was-refused}
+use Rattle.chart_records.specs.Chart.{Chart}
+use Rattle.chart_records.specs.Rules.{chartOf}
+use Rattle.chart_moves.specs.Machine as chart
 use Rattle.chart_machine.specs.Outcomes.{outcomeOf, zeroConfiguration}
 use Rattle.chart_machine.specs.declared.operation.Outcome.{Outcome}
-use Rattle.chart.specs.declared.rule.Checked.the-variants as Ck
 use Rattle.chart_machine.proofs.Waits.{step-passed}
-use Rattle.network.specs.Network.{Network}
-use Rattle.network_machine.specs.Machine as network
+use Rattle.network_records.specs.Network.{Network}
+use Rattle.network_moves.specs.Machine as network
 use Rattle.network_machine.specs.Answers.{outcomeOf as networkOutcomeOf, zeroConfiguration as networkZeroConfiguration}
 use Rattle.network_machine.specs.declared.outcome.Outcome.{Outcome as NetworkOutcome}
-use Rattle.network_machine.specs.declared.outcome.Verdict.{Verdict}
-use Rattle.network_machine.specs.declared.outcome.Verdict.the-variants as Vd
+use Rattle.reading.specs.Verdict.{verdictOf}
+use Rattle.reading.specs.declared.verdict.Verdict.{Verdict}
+use Rattle.reading.specs.declared.verdict.Verdict.the-variants as Vd
 use Rattle.agreement.specs.Agreement.{ChartConfiguration, NetworkConfiguration, Call, step, wait, onNetwork, left, carried, named, Run, moved, runFrom, run, Accepts, Agrees, Holds}
 use Rattle.agreement.proofs.Runs.{alike-accepts, extended-moving, extended-waiting, extended-step-refused, extended-wait-refused, run-more}
 use Rattle.agreement.proofs.Accepted.{accepted-at}
 use Rattle.agreement.proofs.Demand.{demand3}
-use Rattle.paired_run.specs.Paired.{listOf, Flattening, Stands, verdictOf, Follows, FollowsCall, Safe}
+use Rattle.paired_run.specs.Paired.{listOf, Flattening, Stands, Follows, FollowsCall, Safe}
 use Rattle.paired_run.specs.declared.carry.Transitions.{Transitions}
 use Rattle.paired_run.specs.declared.run.Run as code
 use Rattle.paired_run.specs.declared.run.Reading.the-variants as Rd
@@ -36,31 +37,22 @@ use Rattle.paired_run.specs.declared.run.Followed.{Followed}
 use Rattle.paired_run.proofs.Owing.{named-few}
 
 -- what a machine answered, by its verdict
-done-not : {X : Type 0} {k : ℕ} → _≡_ {A = Verdict} Vd.Done (Vd.Refused k) → X
-done-not e = absurd (let z : _≡_ {A = ℕ} 0 1 = cc in omega arith)
+module _ (σ : NetworkConfiguration) {m : NetworkOutcome} (q : Answer NetworkConfiguration) (h : m ≡ networkOutcomeOf σ q) where
+  verdict-is : m .verdict ≡ verdictOf q
+  verdict-is = ap (λ (m : NetworkOutcome). m .verdict) h
 
-module _ (σ : NetworkConfiguration) {m : NetworkOutcome} where
-  pub verdict-is : (q : Answer NetworkConfiguration) → m ≡ networkOutcomeOf σ q → m .verdict ≡ verdictOf q
-  verdict-is (done ν) h = ap (λ (m : NetworkOutcome). m .verdict) h
-  verdict-is (refused k) h = ap (λ (m : NetworkOutcome). m .verdict) h
-
-  pub was-done : (q : Answer NetworkConfiguration) → m ≡ networkOutcomeOf σ q → m .verdict ≡ Vd.Done → q ≡ done (m .configuration)
-  was-done (done ν) h e = ap (λ (m : NetworkOutcome). done (m .configuration)) (sym h)
-  was-done (refused k) h e = done-not (sym e ∙ ap (λ (m : NetworkOutcome). m .verdict) h)
-
-  pub was-refused : (q : Answer NetworkConfiguration) {k : ℕ} → m ≡ networkOutcomeOf σ q → m .verdict ≡ Vd.Refused k → q ≡ refused k
-  was-refused (done ν) h e = done-not (ap (λ (m : NetworkOutcome). m .verdict) (sym h) ∙ e)
-  was-refused (refused j) {k} h e = let z : _≡_ {A = Verdict} (Vd.Refused j) (Vd.Refused k) = ap (λ (m : NetworkOutcome). m .verdict) (sym h) ∙ e in cc
+  network-done : m .verdict ≡ Vd.Done → q ≡ done (m .configuration)
+  network-done e = was-done q verdict-is σ (ap (λ (m : NetworkOutcome). m .configuration) h) e
 
 module _ (σ : ChartConfiguration) {τ : ChartConfiguration} {o : Outcome} (q : Answer ChartConfiguration) (h : o ≡ outcomeOf σ q) (e : q ≡ done τ) where
-  passed : o ≡ record { answer = Ck.Passed; configuration = τ }
+  passed : o ≡ record { verdict = Vd.Done; configuration = τ }
   unfolding outcomeOf
   passed = h ∙ ap (outcomeOf σ) e
 
-  pub chart-accepts : o .answer ≡ Ck.Passed
-  chart-accepts = ap (λ (o : Outcome). o .answer) passed
+  chart-accepts : o .verdict ≡ Vd.Done
+  chart-accepts = ap (λ (o : Outcome). o .verdict) passed
 
-  pub chart-after : o .configuration ≡ τ
+  chart-after : o .configuration ≡ τ
   chart-after = ap (λ (o : Outcome). o .configuration) passed
 
 -- a step that the chart accepts has known numbers
@@ -81,7 +73,7 @@ module _ (c : Chart) (r : Run) (σ : NetworkConfiguration) where
 
   module _ {x : code.Run} (S : Stands x r) (carry : Transitions) where
     pub follows-none : {owed : ℕ} → carry .count ≡ 0 → owed ≡ x .owed - 1
-        → Follows r (moved c σ r (listOf carry)) Vd.Done (record { verdict = Vd.Done; reading = Rd.Nothing; carried = carry; answer = Ck.Passed; run = record { network = σ; chart = x .chart; owed = owed } })
+        → Follows r (moved c σ r (listOf carry)) Vd.Done (record { verdict = Vd.Done; reading = Rd.Nothing; carried = carry; answer = Vd.Done; run = record { network = σ; chart = x .chart; owed = owed } })
     follows-none e o = rw e (rw moved-none (record {
       stands = record { network = refl; chart = S .chart; owed = o ∙ ap (λ (k : ℕ). k - 1) (S .owed) };
       reads = sym (append-nil (r .reading));
@@ -93,7 +85,7 @@ module _ (c : Chart) (r : Run) (σ : NetworkConfiguration) where
     pub follows-some : (file : List ℕ) {o : Outcome} {k owed : ℕ} → chartOf file ≡ done c → length (carry .list) ≡ 16 → carry .count ≤ 16 → (carry .count ≡ 0 → ⊥) → Safe c r (listOf carry)
         → o ≡ outcomeOf (x .chart) (chart.stepOf file (x .chart) (take (carry .count - 0) (carry .list)))
         → (known (length (c .transitions)) (take (carry .count - 0) (carry .list)) ≡ true → k ≡ named c (take (carry .count - 0) (carry .list))) → owed ≡ (x .owed + k) % 2 ^ 64
-        → Follows r (moved c σ r (listOf carry)) Vd.Done (record { verdict = Vd.Done; reading = Rd.Step; carried = carry; answer = o .answer; run = record { network = σ; chart = o .configuration; owed = owed } })
+        → Follows r (moved c σ r (listOf carry)) Vd.Done (record { verdict = Vd.Done; reading = Rd.Step; carried = carry; answer = o .verdict; run = record { network = σ; chart = o .configuration; owed = owed } })
     unfolding Accepts
     follows-some file {o} {k} {owed} h long few more safe outcome counted sum =
         let ts = listOf carry in
@@ -149,11 +141,13 @@ module _ {file bytes : List ℕ} {c : Chart} {n : Network} (F : Flattening file 
 
         pub step-refused : {f : Followed} {k : ℕ} → m .verdict ≡ Vd.Refused k → Follows now now (m .verdict) f → FollowsCall c n calls (step ms) f
         unfolding onNetwork
-        step-refused e w = by-call (step ms) (run-more c n calls (step ms) ∙ extended-step-refused c n now ms (was-refused _ _ answered e)) (verdict-is (x .network) (network.step n (now .network) ms) answered) w
+        step-refused e w =
+            let q = verdict-is (x .network) (network.step n (now .network) ms) answered in
+            by-call (step ms) (run-more c n calls (step ms) ∙ extended-step-refused c n now ms (was-refused (network.step n (now .network) ms) q e)) q w
 
         module _ (e : m .verdict ≡ Vd.Done) where
           step-done : network.step n (now .network) ms ≡ done (m .configuration)
-          step-done = was-done _ _ answered e
+          step-done = network-done (x .network) (network.step n (now .network) ms) answered e
 
           pub step-few : length ms ≤ 16
           step-few = accepted-at n (now .network) ms step-done .are-known .few
@@ -175,11 +169,13 @@ module _ {file bytes : List ℕ} {c : Chart} {n : Network} (F : Flattening file 
 
         pub wait-refused : {f : Followed} {k : ℕ} → m .verdict ≡ Vd.Refused k → Follows now now (m .verdict) f → FollowsCall c n calls (wait d) f
         unfolding onNetwork
-        wait-refused e w = by-call (wait d) (run-more c n calls (wait d) ∙ extended-wait-refused c n now d (was-refused _ _ waited e)) (verdict-is (x .network) (network.wait n (now .network) d) waited) w
+        wait-refused e w =
+            let q = verdict-is (x .network) (network.wait n (now .network) d) waited in
+            by-call (wait d) (run-more c n calls (wait d) ∙ extended-wait-refused c n now d (was-refused (network.wait n (now .network) d) q e)) q w
 
         module _ (e : m .verdict ≡ Vd.Done) where
           wait-done : network.wait n (now .network) d ≡ done (m .configuration)
-          wait-done = was-done _ _ waited e
+          wait-done = network-done (x .network) (network.wait n (now .network) d) waited e
 
           -- nothing is owed where the network waits, so the chart waits too
           chart-waits : Accepts (chart.wait c (now .chart) d)
@@ -190,7 +186,7 @@ module _ {file bytes : List ℕ} {c : Chart} {n : Network} (F : Flattening file 
           ]
 
           pub wait-follows : {o : Outcome} {none : Transitions} → o ≡ outcomeOf (x .chart) (chart.waitOf file (x .chart) d)
-              → FollowsCall c n calls (wait d) (record { verdict = Vd.Done; reading = Rd.Wait d; carried = none; answer = o .answer; run = record { network = m .configuration; chart = o .configuration; owed = x .owed } })
+              → FollowsCall c n calls (wait d) (record { verdict = Vd.Done; reading = Rd.Wait d; carried = none; answer = o .verdict; run = record { network = m .configuration; chart = o .configuration; owed = x .owed } })
           unfolding onNetwork Accepts
           wait-follows {o} k =
               let a = chart-waits in

@@ -7,13 +7,14 @@ use native.Mathlib.Omega.{arith}
 use borrow.Author.Tests.{leb-true}
 use lib.Dec.{leb, eqb}
 use lib.ListN.{length, getD, drop, drop-of-length-le}
-use Rattle.expr.specs.Moves.{known}
-use Rattle.expr.proofs.Bools.{parts}
-use Rattle.expr.proofs.Lists.{getD-mem, drop-next}
-use Rattle.chart.specs.Chart.{Chart, inRange, transitionAt}
-use Rattle.chart.specs.declared.header.Counts.{Counts}
+use Rattle.steps.specs.Moves.{known}
+use Rattle.lists.proofs.Lists.{getD-mem}
+use Rattle.lists.proofs.Parts.{drop-next}
+use Rattle.chart_records.specs.Chart.{Chart, inRange, transitionAt}
+use Rattle.chart_records.specs.declared.header.Counts.{Counts}
 use Rattle.flattening.specs.Flatten.{hasExit, hasEntry}
 use Rattle.agreement.specs.Agreement.{named}
+use Rattle.lists.proofs.Bools.{parts}
 
 one-few : (b : Bool) → cond b 1 0 ≤ 1
 one-few true = omega arith

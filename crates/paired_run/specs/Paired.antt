@@ -3,14 +3,14 @@ use Prim.Native.Nat.{ℕ}
 use mathlib.Core.Path.{_≡_}
 use mathlib.Core.List.{List, [], _∷_, _++_}
 use lib.ListN.{take}
-use Rattle.expr.specs.Answer.{Answer, done, refused}
-use Rattle.chart.specs.Chart.{Chart}
-use Rattle.chart.specs.Rules.{chartOf}
-use Rattle.chart_machine.specs.Machine as chart
-use Rattle.chart.specs.declared.rule.Checked.the-variants as Ck
-use Rattle.network.specs.Network.{Network, networkOf}
-use Rattle.network_machine.specs.declared.outcome.Verdict.{Verdict}
-use Rattle.network_machine.specs.declared.outcome.Verdict.the-variants as Vd
+use Rattle.reading.specs.Answer.{done}
+use Rattle.reading.specs.Verdict.{verdictOf}
+use Rattle.chart_records.specs.Chart.{Chart}
+use Rattle.chart_records.specs.Rules.{chartOf}
+use Rattle.chart_moves.specs.Machine as chart
+use Rattle.network_records.specs.Network.{Network, networkOf}
+use Rattle.reading.specs.declared.verdict.Verdict.{Verdict}
+use Rattle.reading.specs.declared.verdict.Verdict.the-variants as Vd
 use Rattle.flattening.specs.File.{flattenOf}
 use Rattle.agreement.specs.Agreement.{Call, step, wait, onNetwork, Run, run, Accepts}
 use Rattle.paired_run.specs.declared.carry.Transitions.{Transitions}
@@ -41,10 +41,6 @@ calledBy Rd.Nothing x = []
 calledBy Rd.Step x = step (listOf x) ∷ []
 calledBy (Rd.Wait d) x = wait d ∷ []
 
-abbrev pub verdictOf : {A : Type 0} → Answer A → Verdict
-verdictOf (done a) = Vd.Done
-verdictOf (refused k) = Vd.Refused k
-
 abbrev pub accepted : Verdict
 accepted = Vd.Done
 
@@ -53,7 +49,7 @@ accepted = Vd.Done
 pub record Follows (r s : Run) (v : Verdict) (f : Followed) : Type 0 where
   pub stands : Stands (f .run) s
   pub reads : s .reading ≡ r .reading ++ calledBy (f .reading) (f .carried)
-  pub accepted : f .answer ≡ Ck.Passed
+  pub accepted : f .answer ≡ accepted
   pub verdict : f .verdict ≡ v
 
 -- the same by one call of the network after a list of calls

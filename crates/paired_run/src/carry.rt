@@ -2,16 +2,17 @@
 ghost use mathlib.Core.Path.{_≡_};
 ghost use mathlib.Core.Bool.{cond, not};
 ghost use mathlib.Core.List.{List, _∷_};
-ghost use Prim.Native.Nat.{ℕ, _≤_, min};
+ghost use Prim.Native.Nat.{ℕ, _≤_};
 ghost use lib.Dec.{eqb};
 ghost use lib.ListN.{length, take};
-ghost use Rattle.expr.specs.Lists.{keep};
-ghost use Rattle.expr.specs.Answer.{done};
-ghost use Rattle.network.specs.Network.{Network, networkOf};
-ghost use Rattle.flatten_edges.specs.Choosing.{Kept};
+ghost use Rattle.lists.specs.Lists.{keep};
+ghost use Rattle.reading.specs.Answer.{done};
+ghost use Rattle.network_records.specs.Network.{Network, networkOf};
+ghost use Rattle.flatten_alternatives.specs.Choosing.{Kept};
 ghost use Rattle.agreement.specs.Agreement.{carried};
 ghost use Rattle.paired_run.specs.Paired.{listOf};
-use flatten_edges::ascending::with_number;
+use flatten_alternatives::ascending::with_number;
+use lists::number::least;
 use network::bearing::transitions_of;
 
 // Transitions, ascending: the first `count` of the list.
@@ -53,12 +54,6 @@ fn first_sixteen(items: &[u16; 1024]) -> [u16; 16]
     list
 }
 
-fn at_most_sixteen(count: usize) -> usize
-    ensures { λ r. ⌜ r ≡ min count 16 ⌝ }
-{
-    if count < 16 { count } else { 16 }
-}
-
 // The transitions that a move along a list of edges carries.
 pub fn carried(file: &[u8], list: &[u16]) -> Transitions
     ensures means { λ r. ⌜ ((n : Network) → networkOf (now (file .entry)) ≡ done n → length (now (list .entry)) ≤ 16 → listOf r ≡ carried n (now (list .entry))) ⌝ }
@@ -69,6 +64,6 @@ pub fn carried(file: &[u8], list: &[u16]) -> Transitions
     let count = tabled(&transitions, &mut items);
     Transitions {
         list: first_sixteen(&items),
-        count: at_most_sixteen(count),
+        count: least(count, 16),
     }
 }

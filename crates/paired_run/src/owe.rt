@@ -4,15 +4,15 @@ ghost use mathlib.Core.Bool.{true, cond, not};
 ghost use Prim.Native.Nat.{_+_, _≤_, _<_};
 ghost use lib.Dec.{eqb};
 ghost use lib.ListN.{length};
-ghost use Rattle.expr.specs.Answer.{done};
-ghost use Rattle.expr.specs.Moves.{known};
-ghost use Rattle.chart.specs.Chart.{Chart};
-ghost use Rattle.chart.specs.Rules.{chartOf};
-ghost use Rattle.chart.specs.Laid.{Laid};
-ghost use Rattle.chart.specs.declared.header.Counts.{Counts as Counted};
+ghost use Rattle.reading.specs.Answer.{done};
+ghost use Rattle.steps.specs.Moves.{known};
+ghost use Rattle.chart_records.specs.Chart.{Chart};
+ghost use Rattle.chart_records.specs.Rules.{chartOf};
+ghost use Rattle.chart_records.specs.Laid.{Laid};
+ghost use Rattle.chart_records.specs.declared.header.Counts.{Counts as Counted};
 ghost use Rattle.flattening.specs.Flatten.{hasExit, hasEntry};
 ghost use Rattle.agreement.specs.Agreement.{named};
-use chart::rule::Checked;
+use reading::verdict::Verdict;
 
 // 1 for an exit or an entry, 0 where none is named.
 fn one(name: u8) -> u64
@@ -30,8 +30,8 @@ fn named_by(rest: &[u8], offsets: &[u32], t: u16) -> u64
     if t > 255 {
         return 0;
     }
-    let exits = one(chart::transition::exit_of(rest, offsets, t as u8));
-    exits + one(chart::transition::entry_of(rest, offsets, t as u8))
+    let exits = one(chart_records::transition::exit_of(rest, offsets, t as u8));
+    exits + one(chart_records::transition::entry_of(rest, offsets, t as u8))
 }
 
 // How many exits and entries the transitions of a list name together.
@@ -56,7 +56,7 @@ pub fn named(file: &[u8], list: &[u16]) -> u64
 {
     let f = chart::check::checked(file);
     let verdict = f.verdict;
-    let Checked::Passed = verdict else {
+    let Verdict::Done = verdict else {
         return 0;
     };
     let offsets = f.offsets;

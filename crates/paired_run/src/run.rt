@@ -3,22 +3,21 @@
 ghost use mathlib.Core.Path.{_≡_};
 ghost use mathlib.Core.List.{List, []};
 ghost use Prim.Native.Nat.{_-_, _≤_};
-ghost use Rattle.expr.specs.Answer.{done};
-ghost use Rattle.chart.specs.Chart.{Chart};
-ghost use Rattle.chart.specs.Rules.{chartOf};
-ghost use Rattle.network.specs.Network.{Network};
+ghost use Rattle.reading.specs.Answer.{done};
+ghost use Rattle.chart_records.specs.Chart.{Chart};
+ghost use Rattle.chart_records.specs.Rules.{chartOf};
+ghost use Rattle.network_records.specs.Network.{Network};
 ghost use Rattle.agreement.specs.Agreement as agreed;
 ghost use Rattle.paired_run.specs.Paired.{listOf, Flattening, Stands, Safe, Follows, FollowsCall, accepted};
 use crate::carry::Transitions;
 use crate::carry::carried;
 use crate::owe::named;
-use chart::rule::Checked;
-use network_machine::outcome::Verdict;
+use reading::verdict::Verdict;
 
 // Both machines, and how many urgent moves are owed.
 pub struct Run {
-    pub network: network_machine::configuration::Configuration,
-    pub chart: chart_machine::configuration::Configuration,
+    pub network: network_moves::configuration::Configuration,
+    pub chart: chart_moves::configuration::Configuration,
     pub owed: u64,
 }
 
@@ -29,13 +28,13 @@ pub enum Reading {
     Wait(u32),
 }
 
-// What follows a call of the network: its verdict, the call that is read and the chart's answer to it, and the run. A
+// What follows a call of the network: its verdict, the call that is read and the chart's verdict on it, and the run. A
 // step is read with the transitions that the move carries.
 pub struct Followed {
     pub verdict: Verdict,
     pub reading: Reading,
     pub carried: Transitions,
-    pub answer: Checked,
+    pub answer: Verdict,
     pub run: Run,
 }
 
@@ -69,7 +68,7 @@ fn refused(verdict: Verdict, run: Run) -> Followed
         verdict,
         reading: Reading::Nothing,
         carried: no_transitions(),
-        answer: Checked::Passed,
+        answer: Verdict::Done,
         run,
     }
 }
@@ -85,7 +84,7 @@ fn one_less(n: u64) -> u64
 fn after_move(
     file: &[u8],
     run: Run,
-    next: network_machine::configuration::Configuration,
+    next: network_moves::configuration::Configuration,
     carried: Transitions,
 ) -> Followed
     requires { ⌜ carried .count ≤ 16 ⌝ }
@@ -99,7 +98,7 @@ fn after_move(
             verdict: Verdict::Done,
             reading: Reading::Nothing,
             carried,
-            answer: Checked::Passed,
+            answer: Verdict::Done,
             run: Run {
                 network: next,
                 chart,
@@ -108,7 +107,7 @@ fn after_move(
         };
     }
     let outcome = chart_machine::operation::step(file, chart, &list[0..count]);
-    let answer = outcome.answer;
+    let answer = outcome.verdict;
     let after = outcome.configuration;
     // Nothing is owed where a move carries transitions, so the sum never wraps in a run.
     let owed = std::num::wrapping_add_u64(run.owed, named(file, &list[0..count]));
@@ -149,7 +148,7 @@ pub fn after_wait(file: &[u8], bytes: &[u8], run: Run, ticks: u32) -> Followed
         return refused(verdict, run);
     };
     let outcome = chart_machine::operation::wait(file, run.chart, ticks);
-    let answer = outcome.answer;
+    let answer = outcome.verdict;
     let after = outcome.configuration;
     Followed {
         verdict: Verdict::Done,

@@ -4,23 +4,33 @@
 mod follow;
 mod show;
 
+ghost use mathlib.Core.Path.{_≡_};
+ghost use Rattle.network_machine.specs.Answers as network;
+ghost use Rattle.chart_machine.specs.Outcomes as chart;
+ghost use Rattle.console.specs.Script.{lineOf};
+ghost use Rattle.side_by_side.specs.Lines.{AfterLine};
 use console::script;
 use flattener::operation::Flattened;
 use paired_run::run::Run;
 
 // One line of the script.
-fn take_line(chart_file: &[u8], network_file: &[u8], r: Run, text: &[u8], number: u64) -> Run {
+fn take_line(file: &[u8], bytes: &[u8], r: Run, text: &[u8], number: u64) -> Run
+    ensures { λ s. ⌜ AfterLine (now (file .entry)) (now (bytes .entry)) r (lineOf (now (text .entry))) s ⌝ }
+{
     let line = script::read_line(text);
     let call = line.call;
     if !script::is_call(call, text, number) {
         return r;
     }
-    let next = follow::after_call(chart_file, network_file, r, line);
-    show::show_chart(chart_file, next.chart, next.owed);
+    let next = follow::after_call(file, bytes, r, line);
+    show::show_chart(file, next.chart, next.owed);
     next
 }
 
-fn no_run() -> Run {
+// What stands for a run before the first start.
+fn no_run() -> Run
+    ensures { λ r. ⌜ (r .network ≡ network.zeroConfiguration) × (r .chart ≡ chart.zeroConfiguration) × (r .owed ≡ 0) ⌝ }
+{
     Run {
         network: network_calls::no_configuration(),
         chart: chart_calls::no_configuration(),
@@ -28,17 +38,14 @@ fn no_run() -> Run {
     }
 }
 
-// The whole script.
-fn run(chart_file: &[u8], network_file: &[u8], lines: &[u8]) {
+// The whole script. Rattle has no closures, so each program has the loop over the lines itself.
+fn run(file: &[u8], bytes: &[u8], lines: &[u8]) {
     let mut r = no_run();
     let mut number = 1;
     let mut at = 0;
     while at < lines.len() {
         let to = script::find(lines, at, b'\n');
-        if to > lines.len() {
-            return;
-        }
-        r = take_line(chart_file, network_file, r, &lines[at..to], number);
+        r = take_line(file, bytes, r, &lines[at..to], number);
         number = script::next_number(number);
         at = to + 1;
     }

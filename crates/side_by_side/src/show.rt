@@ -4,7 +4,7 @@ use paired_run::carry::Transitions;
 use paired_run::run::Reading;
 
 // The configuration of the network.
-pub fn show_network(file: &[u8], c: network_machine::configuration::Configuration) {
+pub fn show_network(file: &[u8], c: network_moves::configuration::Configuration) {
     print::text(b" network\n");
     network_calls::show(file, c);
 }
@@ -45,7 +45,7 @@ pub fn show_call(reading: Reading, carried: Transitions) {
 }
 
 // The configuration of the chart, and how many urgent moves are owed.
-pub fn show_chart(file: &[u8], c: chart_machine::configuration::Configuration, owed: u64) {
+pub fn show_chart(file: &[u8], c: chart_moves::configuration::Configuration, owed: u64) {
     chart_calls::show(file, c);
     print::text(b" urgent moves owed:");
     print::number(owed);

@@ -10,8 +10,8 @@ use borrow.Author.Needs.{needs}
 use Rattle.chart_calls.proofs.answer.Statement.{statement}
 use Rattle.chart_calls.proofs.answer.Tie as tie
 
-at-most-seventeen-requires : tie.Need-at-most-seventeen-requires
-at-most-seventeen-requires c κs = search needs
+least-requires : tie.Need-least-requires
+least-requires c κs = search needs
 
 enum-told : tie.Need-enum-told
 enum-told c = search needs
@@ -31,7 +31,7 @@ part-step-start c = search needs
 part-step-end : tie.Need-part-step-end
 part-step-end c =
     let e : length (c .before .before .before .before .before .before .args .line .list) ≡ 17 = search needs in
-    omega (arith, e, c .before .before .before .at-most-seventeen .ensures)
+    omega (arith, e, c .before .before .before .least .ensures)
 
 step-requires : tie.Need-step-requires
 step-requires c κs = search needs
@@ -51,7 +51,7 @@ returns c = let a = c .before .before .before .before .before .before .args in
 
 returns-2 : tie.Need-returns-2
 returns-2 c = let a = c .before .before .before .before .before .before .before .before .args in
-    let count = c .before .before .before .before .before .at-most-seventeen in
+    let count = c .before .before .before .before .before .least in
     let whole : count .result - 0 ≡ min (a .line .count) 17 = (let z : count .result - 0 ≡ count .result = omega arith in z) ∙ count .ensures in
     c .step .ensures ∙ ap (λ (j : ℕ). answerBy (a .file .now) (a .c) Cl.Step (take j (a .line .list))) whole
     ∙ ap (λ (k : Call). answerBy (a .file .now) (a .c) k (take (min (a .line .count) 17) (a .line .list))) (sym (c .before .before .before .enum-told2 .given .1))
@@ -68,7 +68,7 @@ pub answer-spec : {M : Type 1} → statement M
 answer-spec =
     tie.close
     (tie.spec
-    at-most-seventeen-requires
+    least-requires
     enum-told
     start-requires
     enum-told-2

@@ -1,5 +1,6 @@
 use Prim.Native.Nat.{_-_}
 use lib.ListN.{length}
+use Rattle.console.proofs.Search.{place-within}
 use borrow.Author.Needs.{needs}
 use native.Mathlib.Omega.{arith}
 use Rattle.run_chart.proofs.run.Statement.{statement}
@@ -20,17 +21,14 @@ loop-holds c = tt
 find-requires : tie.Need-find-requires Inv-loop μ-loop
 find-requires c κs = search needs
 
-returns : tie.Need-returns Inv-loop μ-loop
-returns c = search needs
-
 sub-take-line : tie.Need-sub-take-line Inv-loop μ-loop
-sub-take-line c = omega arith
+sub-take-line c = omega (arith, c .find .ensures)
 
 part-take-line-start : tie.Need-part-take-line-start Inv-loop μ-loop
-part-take-line-start c = search needs
+part-take-line-start c = omega arith
 
 part-take-line-end : tie.Need-part-take-line-end Inv-loop μ-loop
-part-take-line-end c = search needs
+part-take-line-end c = place-within _ _ _ (c .find .ensures) (omega arith)
 
 take-line-requires : tie.Need-take-line-requires Inv-loop μ-loop
 take-line-requires c κs = search needs
@@ -39,7 +37,7 @@ next-number-requires : tie.Need-next-number-requires Inv-loop μ-loop
 next-number-requires c κs = search needs
 
 add-at : tie.Need-add-at Inv-loop μ-loop
-add-at c = omega arith
+add-at c = omega (arith, place-within _ _ _ (c .before .before .before .find .ensures) (omega arith))
 
 loop-less : tie.Need-loop-less Inv-loop μ-loop
 loop-less c = omega arith
@@ -47,8 +45,8 @@ loop-less c = omega arith
 loop-again : tie.Need-loop-again Inv-loop μ-loop
 loop-again c = tt
 
-returns-2 : tie.Need-returns-2 Inv-loop μ-loop
-returns-2 c = search needs
+returns : tie.Need-returns Inv-loop μ-loop
+returns c = search needs
 
 pub run-spec : {M : Type 1} → statement M
 run-spec =
@@ -59,7 +57,6 @@ run-spec =
     no-configuration-requires
     loop-holds
     find-requires
-    returns
     sub-take-line
     part-take-line-start
     part-take-line-end
@@ -68,4 +65,4 @@ run-spec =
     add-at
     loop-less
     loop-again
-    returns-2)
+    returns)

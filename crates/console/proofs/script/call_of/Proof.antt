@@ -1,13 +1,11 @@
 use mathlib.Core.Path.{_≡_, sym, ap, _∙_}
-use mathlib.Core.List.{_∷_}
-use Prim.Native.Nat.{_-_, _≤_, _<_}
+use mathlib.Core.List.{List}
+use Prim.Native.Nat.{ℕ}
 use native.Mathlib.Omega.{arith}
-use lib.ListN.{length, take, drop}
 use borrow.Author.Needs.{needs}
-use Rattle.expr.specs.Places.{onward}
-use Rattle.expr.proofs.Places.{onward-all}
+use Rattle.reading.proofs.Places.{onward-all}
 use Rattle.console.specs.Script.{words, callLine}
-use Rattle.console.proofs.Words.{words-part, words-none, part-within}
+use Rattle.console.proofs.Words.{FirstWord, PartWithin, words-part, words-none, part-within}
 use Rattle.console.proofs.Steps.{call-step, call-wait, call-start, call-unknown}
 use Rattle.console.proofs.script.call_of.Statement.{statement}
 use Rattle.console.proofs.script.call_of.Tie as tie
@@ -24,16 +22,35 @@ enum-told c = search needs
 plain-requires : tie.Need-plain-requires
 plain-requires c κs = search needs
 
--- the first word, and that it lies in the line
-found : (c : tie.After-known-told) → words (c .before .before .before .before .before .args .s .now) ≡ take (c .before .w .given .0 .1 .0 - c .before .w .given .0 .0) (drop (c .before .w .given .0 .0) (c .before .before .before .before .before .args .s .now)) ∷ words (onward (c .before .before .before .before .before .args .s .now) (c .before .w .given .0 .1 .0))
-found c = ap words (sym (onward-all (c .before .before .before .before .before .args .s .now))) ∙ words-part _ _ (c .before .before .before .next-word .result) (c .before .before .before .next-word .ensures .0) (c .before .w .given .1)
+-- the line, and where the word that was found begins and ends
+abbrev line : tie.After-known-told → List ℕ
+line c = c .before .before .before .before .before .args .s .now
 
-within : (c : tie.After-known-told) → (0 ≤ c .before .w .given .0 .0) × (c .before .w .given .0 .0 < c .before .w .given .0 .1 .0) × (c .before .w .given .0 .1 .0 ≤ length (c .before .before .before .before .before .args .s .now))
+abbrev from : tie.After-known-told → ℕ
+from c = c .before .w .given .0 .0
+
+abbrev to : tie.After-known-told → ℕ
+to c = c .before .w .given .0 .1 .0
+
+-- the first word, and that it lies in the line
+found : (c : tie.After-known-told) → FirstWord (line c) (words (line c)) (from c) (to c)
+found c =
+    let place = c .before .before .before in
+    let next-word = place .next-word in
+    let args = place .before .before .args in
+    ap words (sym (onward-all (args .s .now))) ∙ words-part _ _ (next-word .result) (next-word .ensures .0) (c .before .w .given .1)
+
+within : (c : tie.After-known-told) → PartWithin (line c) 0 (from c) (to c)
 within c = part-within _ _ (c .before .before .before .next-word .result) (c .before .before .before .next-word .ensures .1) (c .before .w .given .1)
 
 returns : tie.Need-returns
 unfolding callLine
-returns c = c .plain .ensures ∙ sym (ap (λ l. callLine (words l)) (sym (onward-all (c .before .before .before .before .before .args .s .now))) ∙ ap callLine (words-none _ _ (c .before .before .before .next-word .result) (c .before .before .before .next-word .ensures .0) (c .before .enum-told .given .1)))
+returns c =
+    let place = c .before .before .before in
+    let next-word = place .next-word in
+    let args = place .before .before .args in
+    c .plain .ensures ∙ sym (ap (λ l. callLine (words l)) (sym (onward-all (args .s .now)))
+    ∙ ap callLine (words-none _ _ (next-word .result) (next-word .ensures .0) (c .before .enum-told .given .1)))
 
 sub-word : tie.Need-sub-word
 sub-word c = omega (arith, within c)
@@ -66,7 +83,12 @@ wait-of-requires : tie.Need-wait-of-requires
 wait-of-requires c κs = search needs
 
 returns-3 : tie.Need-returns-3
-returns-3 c = c .wait-of .ensures ∙ sym (call-wait _ _ (found (c .before .before .before .before .before .before .before .before)) (sym (c .before .before .before .before .before .same .ensures) ∙ c .before .before .before .before .if1 .left) (sym (c .before .before .same2 .ensures) ∙ c .before .if2 .taken))
+returns-3 c =
+    let place-1 = c .before .before .before .before in
+    let if1 = place-1 .if1 in
+    let same = place-1 .before .same in
+    c .wait-of .ensures ∙ sym (call-wait _ _ (found (place-1 .before .before .before .before)) (sym (same .ensures) ∙ if1 .left)
+    (sym (c .before .before .same2 .ensures) ∙ c .before .if2 .taken))
 
 slice-aggregate-same-3 : tie.Need-slice-aggregate-same-3
 slice-aggregate-same-3 c = search needs
@@ -78,13 +100,29 @@ start-of-requires : tie.Need-start-of-requires
 start-of-requires c κs = search needs
 
 returns-4 : tie.Need-returns-4
-returns-4 c = c .start-of .ensures ∙ sym (call-start _ _ (found (c .before .before .before .before .before .before .before .before .before .before .before)) (sym (c .before .before .before .before .before .before .before .before .same .ensures) ∙ c .before .before .before .before .before .before .before .if1 .left) (sym (c .before .before .before .before .before .same2 .ensures) ∙ c .before .before .before .before .if2 .left) (sym (c .before .before .same3 .ensures) ∙ c .before .if3 .taken))
+returns-4 c =
+    let place-1 = c .before .before .before .before in
+    let if2 = place-1 .if2 in
+    let same2 = place-1 .before .same2 in
+    let place-2 = place-1 .before .before .before in
+    let if1 = place-2 .if1 in
+    let same = place-2 .before .same in
+    c .start-of .ensures ∙ sym (call-start _ _ (found (place-2 .before .before .before .before)) (sym (same .ensures) ∙ if1 .left) (sym (same2 .ensures) ∙ if2 .left)
+    (sym (c .before .before .same3 .ensures) ∙ c .before .if3 .taken))
 
 plain-requires-2 : tie.Need-plain-requires-2
 plain-requires-2 c κs = search needs
 
 returns-5 : tie.Need-returns-5
-returns-5 c = c .plain2 .ensures ∙ sym (call-unknown _ _ (found (c .before .before .before .before .before .before .before .before .before .before .before)) (sym (c .before .before .before .before .before .before .before .before .same .ensures) ∙ c .before .before .before .before .before .before .before .if1 .left) (sym (c .before .before .before .before .before .same2 .ensures) ∙ c .before .before .before .before .if2 .left) (sym (c .before .before .same3 .ensures) ∙ c .before .if3 .left))
+returns-5 c =
+    let place-1 = c .before .before .before .before in
+    let if2 = place-1 .if2 in
+    let same2 = place-1 .before .same2 in
+    let place-2 = place-1 .before .before .before in
+    let if1 = place-2 .if1 in
+    let same = place-2 .before .same in
+    c .plain2 .ensures ∙ sym (call-unknown _ _ (found (place-2 .before .before .before .before)) (sym (same .ensures) ∙ if1 .left) (sym (same2 .ensures) ∙ if2 .left)
+    (sym (c .before .before .same3 .ensures) ∙ c .before .if3 .left))
 
 pub call-of-spec : {M : Type 1} → statement M
 call-of-spec =

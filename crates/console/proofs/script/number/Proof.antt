@@ -42,7 +42,13 @@ loop-less : tie.Need-loop-less Inv-loop μ-loop
 loop-less c = omega arith
 
 loop-again : tie.Need-loop-again Inv-loop μ-loop
-loop-again c = digits-more _ _ _ (c .before .before .before .before .before .before .loop .inv) (c .before .before .before .before .before .loop-test .taken) (sym (c .before .before .before .is-digit .ensures) ∙ not-false (c .before .before .before .is-digit .result) (c .before .before .if2 .left)) (c .before .digit-value .ensures) (c .with-digit .ensures)
+loop-again c =
+    let place-1 = c .before .before .before in
+    let is-digit = place-1 .is-digit in
+    let loop-test = place-1 .before .before .loop-test in
+    let loop = place-1 .before .before .before .loop in
+    digits-more _ _ _ (loop .inv) (loop-test .taken) (sym (is-digit .ensures) ∙ not-false (is-digit .result) (c .before .before .if2 .left))
+    (c .before .digit-value .ensures) (c .with-digit .ensures)
 
 returns-3 : tie.Need-returns-3 Inv-loop μ-loop
 returns-3 c = digits-large _ _ _ (c .before .before .loop .inv) (c .before .loop-test .left) (c .if3 .taken)

@@ -1,12 +1,12 @@
 use mathlib.Core.Path.{_≡_, _∙_}
-use mathlib.Core.List.{_∷_}
-use Prim.Native.Nat.{_-_, _≤_, _<_}
+use mathlib.Core.List.{List}
+use Prim.Native.Nat.{ℕ, _-_}
 use native.Mathlib.Omega.{arith}
-use lib.ListN.{length, take, drop}
+use lib.ListN.{length}
 use borrow.Author.Needs.{needs}
-use Rattle.expr.specs.Places.{onward}
+use Rattle.reading.specs.Places.{onward}
 use Rattle.console.specs.Script.{words}
-use Rattle.console.proofs.Words.{words-part, words-none, part-within}
+use Rattle.console.proofs.Words.{FirstWord, PartWithin, words-part, words-none, part-within}
 use Rattle.console.proofs.Decimals.{number-value, number-bad}
 use Rattle.console.proofs.Steps.{Stepping, step-none, step-more, step-bad, step-end}
 use Rattle.console.proofs.script.step_of.Statement.{statement}
@@ -33,12 +33,26 @@ enum-known-w c = search needs
 enum-told : tie.Need-enum-told Inv-loop μ-loop
 enum-told c = search needs
 
--- the word that was found, and that it lies in the line
-found : (c : tie.After-known-told Inv-loop μ-loop) → words (onward (c .before .before .before .before .before .before .before .args .s .now) (c .before .before .before .before .loop .place)) ≡ take (c .before .w .given .0 .1 .0 - c .before .w .given .0 .0) (drop (c .before .w .given .0 .0) (c .before .before .before .before .before .before .before .args .s .now)) ∷ words (onward (c .before .before .before .before .before .before .before .args .s .now) (c .before .w .given .0 .1 .0))
-found c = words-part _ _ (c .before .before .before .next-word .result) (c .before .before .before .next-word .ensures .0) (c .before .w .given .1)
+-- the line, and where the word that was found begins and ends
+abbrev line : tie.After-known-told Inv-loop μ-loop → List ℕ
+line c = c .before .before .before .before .before .before .before .args .s .now
 
-within : (c : tie.After-known-told Inv-loop μ-loop) → (c .before .before .before .before .loop .place ≤ c .before .w .given .0 .0) × (c .before .w .given .0 .0 < c .before .w .given .0 .1 .0) × (c .before .w .given .0 .1 .0 ≤ length (c .before .before .before .before .before .before .before .args .s .now))
-within c = part-within _ _ (c .before .before .before .next-word .result) (c .before .before .before .next-word .ensures .1) (c .before .w .given .1)
+abbrev from : tie.After-known-told Inv-loop μ-loop → ℕ
+from c = c .before .w .given .0 .0
+
+abbrev to : tie.After-known-told Inv-loop μ-loop → ℕ
+to c = c .before .w .given .0 .1 .0
+
+-- the word that was found, and that it lies in the line
+found : (c : tie.After-known-told Inv-loop μ-loop) → FirstWord (line c) (words (onward (line c) (c .before .before .before .before .loop .place))) (from c) (to c)
+found c =
+    let next-word = c .before .before .before .next-word in
+    words-part _ _ (next-word .result) (next-word .ensures .0) (c .before .w .given .1)
+
+within : (c : tie.After-known-told Inv-loop μ-loop) → PartWithin (line c) (c .before .before .before .before .loop .place) (from c) (to c)
+within c =
+    let next-word = c .before .before .before .next-word in
+    part-within _ _ (next-word .result) (next-word .ensures .1) (c .before .w .given .1)
 
 returns : tie.Need-returns Inv-loop μ-loop
 returns c = step-end _ (c .before .before .before .loop .inv) (words-none _ _ (c .before .before .next-word .result) (c .before .before .next-word .ensures .0) (c .enum-told .given .1))
@@ -74,7 +88,11 @@ loop-less : tie.Need-loop-less Inv-loop μ-loop
 loop-less c = omega (arith, within (c .before .before .before .before .before .before))
 
 loop-again : tie.Need-loop-again Inv-loop μ-loop
-loop-again c = step-more _ _ _ (c .before .before .before .before .before .before .before .before .before .before .loop .inv) (found (c .before .before .before .before .before .before)) (number-value _ (c .before .before .before .before .number .ensures) (c .before .before .n .given .1)) (c .with-number .ensures)
+loop-again c =
+    let place-1 = c .before .before .before .before in
+    let number = place-1 .number in
+    let loop = place-1 .before .before .before .before .before .before .loop in
+    step-more _ _ _ (loop .inv) (found (place-1 .before .before)) (number-value _ (number .ensures) (c .before .before .n .given .1)) (c .with-number .ensures)
 
 pub step-of-spec : {M : Type 1} → statement M
 step-of-spec =

@@ -1,12 +1,11 @@
 use mathlib.Core.Path.{_≡_, sym, ap, _∙_}
-use mathlib.Core.List.{_∷_}
-use Prim.Native.Nat.{_-_, _≤_, _<_}
+use mathlib.Core.List.{List}
+use Prim.Native.Nat.{ℕ}
 use native.Mathlib.Omega.{arith}
-use lib.ListN.{length, take, drop}
 use borrow.Author.Needs.{needs}
-use Rattle.expr.specs.Places.{onward}
+use Rattle.reading.specs.Places.{onward}
 use Rattle.console.specs.Script.{words, waitLine}
-use Rattle.console.proofs.Words.{words-part, words-none, part-within}
+use Rattle.console.proofs.Words.{FirstWord, PartWithin, words-part, words-none, part-within}
 use Rattle.console.proofs.Decimals.{number-value, number-bad}
 use Rattle.console.proofs.Steps.{wait-bad, wait-more, wait-one}
 use Rattle.console.proofs.script.wait_of.Statement.{statement}
@@ -24,11 +23,23 @@ enum-told c = search needs
 plain-requires : tie.Need-plain-requires
 plain-requires c κs = search needs
 
--- the word that was found, and that it lies in the line
-found : (c : tie.After-known-told) → words (onward (c .before .before .before .before .before .args .s .now) (c .before .before .before .before .before .args .at)) ≡ take (c .before .w .given .0 .1 .0 - c .before .w .given .0 .0) (drop (c .before .w .given .0 .0) (c .before .before .before .before .before .args .s .now)) ∷ words (onward (c .before .before .before .before .before .args .s .now) (c .before .w .given .0 .1 .0))
-found c = words-part _ _ (c .before .before .before .next-word .result) (c .before .before .before .next-word .ensures .0) (c .before .w .given .1)
+-- the line, and where the word that was found begins and ends
+abbrev line : tie.After-known-told → List ℕ
+line c = c .before .before .before .before .before .args .s .now
 
-within : (c : tie.After-known-told) → (c .before .before .before .before .before .args .at ≤ c .before .w .given .0 .0) × (c .before .w .given .0 .0 < c .before .w .given .0 .1 .0) × (c .before .w .given .0 .1 .0 ≤ length (c .before .before .before .before .before .args .s .now))
+abbrev from : tie.After-known-told → ℕ
+from c = c .before .w .given .0 .0
+
+abbrev to : tie.After-known-told → ℕ
+to c = c .before .w .given .0 .1 .0
+
+-- the word that was found, and that it lies in the line
+found : (c : tie.After-known-told) → FirstWord (line c) (words (onward (line c) (c .before .before .before .before .before .args .at))) (from c) (to c)
+found c =
+    let next-word = c .before .before .before .next-word in
+    words-part _ _ (next-word .result) (next-word .ensures .0) (c .before .w .given .1)
+
+within : (c : tie.After-known-told) → PartWithin (line c) (c .before .before .before .before .before .args .at) (from c) (to c)
 within c = part-within _ _ (c .before .before .before .next-word .result) (c .before .before .before .next-word .ensures .1) (c .before .w .given .1)
 
 returns : tie.Need-returns
@@ -78,7 +89,14 @@ plain-requires-4 : tie.Need-plain-requires-4
 plain-requires-4 c κs = search needs
 
 returns-4 : tie.Need-returns-4
-returns-4 c = c .plain4 .ensures ∙ sym (wait-one _ _ (found (c .before .before .before .before .before .before .before .before .before)) (words-none _ _ (c .before .before .before .next-word2 .result) (c .before .before .before .next-word2 .ensures .0) (c .before .enum-told3 .given .1)) (number-value _ (c .before .before .before .before .before .before .before .number .ensures) (c .before .before .before .before .before .n .given .1)))
+returns-4 c =
+    let place-1 = c .before .before .before in
+    let next-word2 = place-1 .next-word2 in
+    let n = place-1 .before .before .n in
+    let place-2 = place-1 .before .before .before .before in
+    let number = place-2 .number in
+    c .plain4 .ensures ∙ sym (wait-one _ _ (found (place-2 .before .before))
+    (words-none _ _ (next-word2 .result) (next-word2 .ensures .0) (c .before .enum-told3 .given .1)) (number-value _ (number .ensures) (n .given .1)))
 
 pub wait-of-spec : {M : Type 1} → statement M
 wait-of-spec =

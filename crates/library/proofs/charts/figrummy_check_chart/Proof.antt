@@ -7,11 +7,11 @@ use Rattle.library.proofs.charts.figrummy_check_chart.Tie as tie
 check-requires : tie.Need-check-requires
 check-requires c κs = search needs
 
-number-requires : tie.Need-number-requires
-number-requires c κs = search needs
+number-of-requires : tie.Need-number-of-requires
+number-of-requires c κs = search needs
 
 returns : tie.Need-returns
-returns c = c .number .ensures ∙ checked-number _ (c .before .check .result) (c .before .check .ensures)
+returns c = c .number-of .ensures ∙ checked-number _ (c .before .check .ensures)
 
 pub figrummy-check-chart-spec : {M : Type 1} → statement M
-figrummy-check-chart-spec = tie.close (tie.spec check-requires number-requires returns)
+figrummy-check-chart-spec = tie.close (tie.spec check-requires number-of-requires returns)

@@ -13,17 +13,17 @@ enum-told c = search needs
 enum-told-2 : tie.Need-enum-told-2
 enum-told-2 c = search needs
 
-number-requires : tie.Need-number-requires
-number-requires c κs = search needs
+number-of-requires : tie.Need-number-of-requires
+number-of-requires c κs = search needs
 
 returns : tie.Need-returns
 returns c = let s = c .before .before .before .start in
-    (c .number .ensures ∙ chart-number _ _ (s .ensures), chart-refused _ _ _ (s .ensures) (c .before .enum-told2 .given .1))
+    (c .number-of .ensures ∙ chart-number _ _ (s .ensures), chart-refused _ _ (s .ensures) _ (c .before .enum-told2 .given .1))
 
 returns-2 : tie.Need-returns-2
 returns-2 c = let k = c .before .before .before .before in
-    chart-passed _ _ _ (k .before .before .start .ensures) (k .enum-told .given .1)
+    chart-passed _ _ (k .before .before .start .ensures) _ (k .enum-told .given .1)
 
 pub figrummy-start-chart-spec : {M : Type 1} → statement M
 figrummy-start-chart-spec =
-    tie.close (tie.spec start-requires enum-told enum-told-2 number-requires returns returns-2)
+    tie.close (tie.spec start-requires enum-told enum-told-2 number-of-requires returns returns-2)

@@ -7,12 +7,12 @@ use Rattle.library.proofs.charts.figrummy_wait_chart.Tie as tie
 wait-requires : tie.Need-wait-requires
 wait-requires c κs = search needs
 
-number-requires : tie.Need-number-requires
-number-requires c κs = search needs
+number-of-requires : tie.Need-number-of-requires
+number-of-requires c κs = search needs
 
 returns : tie.Need-returns
 returns c = let w = c .before .before .before .before .before .wait in
-    (c .number .ensures ∙ chart-number _ _ (w .ensures), chart-after _ _ (w .ensures))
+    (c .number-of .ensures ∙ chart-number _ _ (w .ensures), chart-after _ _ (w .ensures))
 
 pub figrummy-wait-chart-spec : {M : Type 1} → statement M
-figrummy-wait-chart-spec = tie.close (tie.spec wait-requires number-requires returns)
+figrummy-wait-chart-spec = tie.close (tie.spec wait-requires number-of-requires returns)

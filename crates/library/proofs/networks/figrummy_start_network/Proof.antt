@@ -18,11 +18,11 @@ number-of-requires c κs = search needs
 
 returns : tie.Need-returns
 returns c = let s = c .before .before .before .start in
-    (c .number-of .ensures ∙ network-number _ _ (s .ensures), network-refused _ _ _ (s .ensures) (c .before .enum-told2 .given .1))
+    (c .number-of .ensures ∙ network-number _ _ (s .ensures), network-refused _ _ (s .ensures) _ (c .before .enum-told2 .given .1))
 
 returns-2 : tie.Need-returns-2
 returns-2 c = let k = c .before .before .before .before .before in
-    network-passed _ _ _ (k .before .before .start .ensures) (k .enum-told .given .1)
+    network-passed _ _ (k .before .before .start .ensures) _ (k .enum-told .given .1)
 
 pub figrummy-start-network-spec : {M : Type 1} → statement M
 figrummy-start-network-spec =

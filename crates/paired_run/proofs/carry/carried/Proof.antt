@@ -3,6 +3,9 @@ use mathlib.Core.List.{List}
 use Prim.Native.Nat.{ℕ}
 use native.Mathlib.Omega.{arith}
 use lib.ListN.{length, take, length-replicate}
+use Rattle.reading.specs.Answer.{Answer}
+use Rattle.network_records.specs.Network.{Network}
+use Rattle.network.specs.Bearing.{transitionsIn}
 use Rattle.network.proofs.Borne.{transitions-length}
 use Rattle.paired_run.proofs.Carrying.{carried-list}
 use borrow.Author.Needs.{needs}
@@ -18,18 +21,18 @@ tabled-requires c κs = search needs
 first-sixteen-requires : tie.Need-first-sixteen-requires
 first-sixteen-requires c κs = search needs
 
-at-most-sixteen-requires : tie.Need-at-most-sixteen-requires
-at-most-sixteen-requires c κs = search needs
+least-requires : tie.Need-least-requires
+least-requires c κs = search needs
 
 returns : tie.Need-returns
 returns c =
     let table = c .before .before .before in
     let bear = table .before .before .before in (
       λ n h few.
-          let is = bear .transitions-of .ensures n h in
+          let is = bear .transitions-of .ensures ∙ ap (λ (d : Answer Network). transitionsIn d (bear .before .before .before .args .list .now)) h in
           let kept = table .tabled .ensures (ap length is ∙ transitions-length n _) (length-replicate {A = ℕ} 1024 0) in
-          ap₂ (λ (k : ℕ) (l : List ℕ). take k l) (c .at-most-sixteen .ensures) (c .before .first-sixteen .ensures (kept .long)) ∙ carried-list n _ is few kept,
-      omega (arith, c .at-most-sixteen .ensures),
+          ap₂ (λ (k : ℕ) (l : List ℕ). take k l) (c .least .ensures) (c .before .first-sixteen .ensures (kept .long)) ∙ carried-list n _ is few kept,
+      omega (arith, c .least .ensures),
     )
 
 pub carried-spec : {M : Type 1} → statement M
@@ -39,5 +42,5 @@ carried-spec =
     transitions-of-requires
     tabled-requires
     first-sixteen-requires
-    at-most-sixteen-requires
+    least-requires
     returns)

@@ -3,7 +3,7 @@ use Prim.Native.Nat.{_-_}
 use native.Mathlib.Omega.{arith}
 use lib.ListN.{length, take}
 use lib.Seq.{getD-take, length-take-le}
-use Rattle.expr.proofs.Loops.{Filled, filled-none, filled-more, filled-all}
+use Rattle.lists.proofs.Loops.{Filled, filled-none, filled-more, filled-all}
 use Rattle.paired_run.proofs.carry.first_sixteen.Statement.{statement}
 use Rattle.paired_run.proofs.carry.first_sixteen.Tie as tie
 

@@ -4,13 +4,13 @@ use Prim.Native.Nat.{_+_, _*_, _-_, _≤_}
 use native.Mathlib.Omega.{arith}
 use borrow.Author.Needs.{needs}
 use lib.ListN.{length, drop}
-use Rattle.expr.specs.Moves.{known}
-use Rattle.chart.specs.Chart.{Chart}
-use Rattle.chart.specs.Laid.{Laid}
-use Rattle.chart.specs.declared.header.Counts.{Counts}
+use Rattle.steps.specs.Moves.{known}
+use Rattle.chart_records.specs.Chart.{Chart}
+use Rattle.chart_records.specs.Laid.{Laid}
+use Rattle.chart_records.specs.declared.header.Counts.{Counts}
 use Rattle.agreement.specs.Agreement.{named}
 use Rattle.paired_run.proofs.Owing.{named-next, named-end}
-use Rattle.expr.proofs.Moves.{known-each}
+use Rattle.steps.proofs.Moves.{known-each}
 use Rattle.paired_run.proofs.owe.named_in.Statement.{statement}
 use Rattle.paired_run.proofs.owe.named_in.Tie as tie
 

@@ -44,9 +44,14 @@ wrapping-add-u64-requires : tie.Need-wrapping-add-u64-requires
 wrapping-add-u64-requires c κs = search needs
 
 returns-2 : tie.Need-returns-2
-returns-2 c = λ d x h S safe.
-    let a = c .before .before .before .before .before .before .before .before .before .before .before .before .args in
-    follows-some d x _ S (a .carried) (a .file .now) h (long (c .before .before .before .before .before .before .before)) (omega arith) (c .before .before .before .before .before .before .before .before .if1 .left) safe (c .before .before .before .before .before .step .ensures) (c .before .named .ensures d h) (c .wrapping-add-u64 .ensures)
+returns-2 c =
+    let place-1 = c .before .before .before .before .before in
+    let place-2 = place-1 .before .before .before in
+    let a = place-2 .before .before .before .before .args in
+    λ d x h S safe.
+    follows-some d x _ S (a .carried) (a .file .now) h (long (place-1 .before .before)) (omega arith) (place-2 .if1 .left) safe
+    (place-1 .step .ensures) (c .before .named .ensures d h)
+    (c .wrapping-add-u64 .ensures)
 
 pub after-move-spec : {M : Type 1} → statement M
 after-move-spec =

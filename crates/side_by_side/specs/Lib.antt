@@ -1,0 +1,2 @@
+-- What a line of the script makes of a run.
+pub mod Lines
