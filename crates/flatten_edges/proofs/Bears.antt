@@ -42,6 +42,7 @@ use Rattle.flatten_edges.specs.declared.flag.Signals.{Signals}
 use Rattle.flatten_edges.specs.declared.head.Head.{Head}
 use Rattle.flatten_edges.proofs.Gathers.{walk-more, walk-all, adds-over}
 use Rattle.flatten_edges.proofs.Walks.{flagged-of}
+use Rattle.lists.proofs.Concat.{map-ones}
 
 -- the values that mean "at", of a set of automata
 pub needed-bits : (c : Chart) (e x : ℕ) → x < 2 ^ length (sequentials c) → length (sequentials c) ≤ 16 → Words.bitAnd x (startOff c e) ≡ onValues c e x
@@ -68,11 +69,6 @@ needed-bits c e x h l = has-ext _ _ (λ a. has-and x _ a ∙ ap (λ (b : Bool). 
 -- an edge for each set
 abbrev pub setEdge : Chart → Place → Place → Label → ℕ → ℕ → ℕ → List Edge
 setEdge c p q l transition exit x = edge c p q transition exit x l ∷ []
-
-map-ones : {A B : Type 0} (f : A → B) (xs : List A) → concat (λ x. f x ∷ []) xs ≡ map f xs
-unfolding concat
-map-ones f [] = refl
-map-ones f (x ∷ xs) = ap (λ l. f x ∷ l) (map-ones f xs)
 
 module _ (c : Chart) (p q : Place) (l : Label) (xs : List ℕ) (e : Ends) (s : Signals) (transition exit off : ℕ) (sets : List ℕ) (size : ℕ) (B : BearsEach c p q l xs e s exit off sets size) where
   pub set-more : (k tested needed : ℕ) {h : Head} {b g j : List ℕ} {n m i : ℕ} → Adds b n g m (concat (setEdge c p q l transition exit) (take k xs)) → k < size → tested ≡ getD sets k 0 → needed ≡ Words.bitAnd tested off

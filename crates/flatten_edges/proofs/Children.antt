@@ -1,8 +1,8 @@
 -- The edges from a child: to its idle parent, and those that bear its transitions.
-use mathlib.Core.Path.{_≡_, refl, sym, ap, ap₂, _∙_, subst}
+use mathlib.Core.Path.{_≡_, sym, ap, ap₂, _∙_, subst}
 use mathlib.Core.Bool.{Bool, true, false, cond}
 use mathlib.Core.Logic.{_≢_}
-use mathlib.Core.List.{List, [], _∷_, _++_, map, append-nil, List·Memᴰ as Mem, List·Memᴰ·head as here, List·Memᴰ·tail as there}
+use mathlib.Core.List.{List, [], _++_, map, List·Memᴰ as Mem}
 use Prim.Native.Nat.{ℕ, _+_, _<_}
 use native.Mathlib.Omega.{arith}
 use borrow.Author.Tests.{eqb-true}
@@ -10,10 +10,9 @@ use lib.Dec.{eqb}
 use lib.ListN.{length, getD}
 use Rattle.lists.specs.Lists.{has, concat}
 use Rattle.lists.proofs.Bools.{fails, and-l, and-r}
-use Rattle.lists.proofs.Once.{Once}
 use Rattle.lists.proofs.Lists.{keep-none}
 use Rattle.lists.proofs.Below.{below-at}
-use Rattle.lists.proofs.Concat.{concat-append, concat-map, concat-none, concat-one}
+use Rattle.lists.proofs.Concat.{concat-append, concat-map, concat-none, concat-one, concat-concat}
 use Rattle.chart_records.specs.Chart.{Chart, transitionAt, parentOf, home}
 use Rattle.chart_records.specs.Tree.{children, sequentials}
 use Rattle.chart_records.proofs.Tree.{size}
@@ -32,12 +31,6 @@ use Rattle.flatten_edges.specs.declared.flag.Ends.{Ends}
 use Rattle.flatten_edges.proofs.Gathers.{adds-then}
 use Rattle.flatten_edges.proofs.Joining.{place-at}
 use Rattle.flatten_edges.proofs.Walks.{pairs-of, flagged-of, rooted-tables, parent-table}
-
--- lists one after the other
-concat-concat : {A B C : Type 0} (f : B → List C) (g : A → List B) (xs : List A) → concat f (concat g xs) ≡ concat (λ x. concat f (g x)) xs
-unfolding concat
-concat-concat f g [] = refl
-concat-concat f g (x ∷ xs) = concat-append f (g x) (concat g xs) ∙ ap (λ l. concat f (g x) ++ l) (concat-concat f g xs)
 
 module _ (c : Chart) (t : Tables) (T : Tabulated c t) (s : ℕ) (m : Mem (child s) (allPlaces c)) where
   q : ℕ

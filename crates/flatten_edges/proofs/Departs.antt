@@ -14,7 +14,7 @@ use lib.Seq.{take-all, take-suc, take-suc-set, take-set-le, getD-take}
 use Rattle.lists.specs.Lists.{concat, keep, below}
 use Rattle.lists.proofs.Bools.{fails, cond-yes, cond-no}
 use Rattle.lists.proofs.Lists.{keep-at, keep-append, keep-keep, keep-none, getD-mem, mem-getD}
-use Rattle.lists.proofs.Concat.{concat-append}
+use Rattle.lists.proofs.Concat.{concat-append, concat-kept}
 use Rattle.lists.proofs.Below.{below-at, length-below, getD-below}
 use Rattle.chart_records.specs.Chart.{Chart, transitionAt}
 use Rattle.network_records.specs.Network.{Edge}
@@ -26,7 +26,7 @@ use Rattle.flatten_places.specs.declared.walk.Tables.{Tables}
 use Rattle.flatten_places.proofs.Chartered.{passed-of, ranges-of}
 use Rattle.flatten_edges.specs.Adding.{Adds}
 use Rattle.flatten_edges.specs.Sourcing.{fromState, Sourced, Least}
-use Rattle.flatten_edges.proofs.Gathers.{adds-skip, walk-none, walk-more, walk-all, walk-past, concat-kept}
+use Rattle.flatten_edges.proofs.Gathers.{adds-skip, walk-none, walk-more, walk-all, walk-past}
 
 keep-one : {A : Type 0} (p : A → Bool) (x : A) → keep p (x ∷ []) ≡ cond (p x) (x ∷ []) []
 unfolding keep

@@ -1,14 +1,13 @@
 -- Laws of gathered edges: bytes copied to a place, one more edge, and no more room for one.
 use mathlib.Core.Path.{_≡_, refl, sym, ap, ap₂, _∙_, subst}
-use mathlib.Core.Bool.{Bool, true, false, cond}
-use mathlib.Core.List.{List, [], _∷_, _++_, map, append-assoc, append-nil}
+use mathlib.Core.List.{List, [], _∷_, _++_, append-assoc, append-nil}
 use Prim.Native.Nat.{ℕ, suc, _+_, _*_, _≤_, _<_}
 use native.Mathlib.Omega.{arith}
 use native.Mathlib.Numerals.{add-one}
 use lib.ListN.{length, getD, take, drop, set, length-set, length-append, take-append-drop}
 use lib.Seq.{take-all, take-suc, take-suc-set}
-use Rattle.lists.specs.Lists.{concat, keep}
-use Rattle.lists.proofs.Concat.{concat-append}
+use Rattle.lists.specs.Lists.{concat}
+use Rattle.lists.proofs.Concat.{concat-append, concat-single}
 use Rattle.network_records.specs.Network.{Edge}
 use Rattle.flattening.specs.File.{out2}
 use Rattle.flatten_edges.specs.declared.head.Head.{Head}
@@ -41,10 +40,6 @@ pub length-head : (h : Head) → length (headBytes h) ≡ 13
 unfolding headBytes out2
 length-head h = refl
 
-concat-one : {A B : Type 0} (f : A → List B) (x : A) → concat f (x ∷ []) ≡ f x
-unfolding concat
-concat-one f x = append-nil (f x)
-
 -- one edge more
 pub gathered-more : (s l : List ℕ) (n : ℕ) (h : Head) (es : List Edge) (e : Edge) → Gathered s n es → n < 1024 → h ≡ headOf e → take (13 * n + length (headBytes h)) l ≡ take (13 * n) s ++ headBytes h → Gathered l (n + 1) (es ++ (e ∷ []))
 gathered-more s l n h es e G few same t =
@@ -54,7 +49,7 @@ gathered-more s l n h es e G few same t =
       counted = omega (arith, long, count);
       stand = λ k. ap (λ (m : ℕ). take m l) (let z : 13 * length (es ++ (e ∷ [])) ≡ 13 * n + length (headBytes h) = omega (arith, length-head h, long, count) in z)
           ∙ t
-          ∙ ap₂ (λ (x y : List ℕ). x ++ y) (ap (λ (m : ℕ). take (13 * m) s) (sym count) ∙ G .stand (omega (arith, count))) (ap headBytes same ∙ sym (concat-one _ e))
+          ∙ ap₂ (λ (x y : List ℕ). x ++ y) (ap (λ (m : ℕ). take (13 * m) s) (sym count) ∙ G .stand (omega (arith, count))) (ap headBytes same ∙ sym (concat-single _ e))
           ∙ sym (concat-append _ es (e ∷ []));
     }
 
@@ -112,7 +107,7 @@ module _ {A : Type 0} (g : A → List Edge) (xs : List A) where
       ap (λ (i : ℕ). concat g (take i xs)) (add-one k)
       ∙ ap (concat g) (take-suc xs k d i)
       ∙ concat-append g (take k xs) (getD xs k d ∷ [])
-      ∙ ap (λ (y : List Edge). concat g (take k xs) ++ y) (concat-one g (getD xs k d)) in
+      ∙ ap (λ (y : List Edge). concat g (take k xs) ++ y) (concat-single g (getD xs k d)) in
       subst (Adds s n h j) (sym more) (adds-then W B)
 
   pub walk-all : (k : ℕ) {s l : List ℕ} {n m : ℕ} → Adds s n l m (concat g (take k xs)) → length xs ≤ k → Adds s n l m (concat g xs)
@@ -121,22 +116,3 @@ module _ {A : Type 0} (g : A → List Edge) (xs : List A) where
   -- it may end once there are too many
   pub walk-past : (k : ℕ) {s l : List ℕ} {n m : ℕ} → Adds s n l m (concat g (take k xs)) → 1024 < m → Adds s n l 1025 (concat g xs)
   walk-past k {s} {l} {n} {m} W h = subst (Adds s n l 1025) (sym (concat-append g (take k xs) (drop k xs)) ∙ ap (concat g) (take-append-drop k xs)) (adds-then W (adds-past l m (concat g (drop k xs)) h))
-
--- the edges of the elements that pass a test
-pub map-kept : {A B : Type 0} (p : A → Bool) (f : A → B) (xs : List A) → concat (λ x. cond (p x) (f x ∷ []) []) xs ≡ map f (keep p xs)
-unfolding concat keep
-map-kept p f [] = refl
-map-kept p f (x ∷ xs) = go (p x) (map-kept p f xs)
-  where
-    go : (b : Bool) → concat (λ x. cond (p x) (f x ∷ []) []) xs ≡ map f (keep p xs) → cond b (f x ∷ []) [] ++ concat (λ x. cond (p x) (f x ∷ []) []) xs ≡ map f (cond b (x ∷ keep p xs) (keep p xs))
-    go true e = ap (λ l. f x ∷ l) e
-    go false e = e
-
-pub concat-kept : {A B : Type 0} (p : A → Bool) (f : A → List B) (xs : List A) → concat (λ x. cond (p x) (f x) []) xs ≡ concat f (keep p xs)
-unfolding concat keep
-concat-kept p f [] = refl
-concat-kept p f (x ∷ xs) = go (p x) (concat-kept p f xs)
-  where
-    go : (b : Bool) → concat (λ x. cond (p x) (f x) []) xs ≡ concat f (keep p xs) → cond b (f x) [] ++ concat (λ x. cond (p x) (f x) []) xs ≡ concat f (cond b (x ∷ keep p xs) (keep p xs))
-    go true e = ap (λ l. f x ++ l) e
-    go false e = e

@@ -30,7 +30,8 @@ use Rattle.flatten_edges.specs.Adding.{Adds}
 use Rattle.flatten_edges.specs.Ends.{Joins}
 use Rattle.flatten_edges.specs.Hearing.{PairColumns, Entering, HearsEntries, HearsExits}
 use Rattle.flatten_edges.specs.declared.flag.Ends.{Ends}
-use Rattle.flatten_edges.proofs.Gathers.{walk-more, walk-all, map-kept}
+use Rattle.flatten_edges.proofs.Gathers.{walk-more, walk-all}
+use Rattle.lists.proofs.Concat.{map-kept}
 use Rattle.flatten_edges.proofs.Joining.{column-at}
 
 -- the way up to what is entered

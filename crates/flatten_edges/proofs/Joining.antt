@@ -12,7 +12,7 @@ use lib.Seq.{getD-take}
 use Rattle.lists.specs.Lists.{has, bitsFrom, bitsOf}
 use Rattle.labels.specs.Label.{Label}
 use Rattle.lists.proofs.Lists.{getD-map}
-use Rattle.lists.proofs.Bits.{has-bitsOf}
+use Rattle.lists.proofs.Bits.{has-bitsOf, bits-none, bits-step, bits-all, low-lt, few-bits}
 use Rattle.chart_records.specs.Chart.{Chart}
 use Rattle.chart_records.specs.Tree.{sequentials}
 use Rattle.flattening.specs.Flatten.{Place, allPlaces, number, automaton, placeHome, atExit, initialPlace, onValues, writtenBy, edge, ownEdge, signalling}
@@ -26,7 +26,7 @@ use Rattle.flatten_edges.specs.Ends.{Flagged, Joins, Signalled, startOff
 use Rattle.flatten_edges.specs.declared.flag.Ends.{Ends}
 use Rattle.flatten_edges.specs.declared.flag.Signals.{Signals}
 use Rattle.flatten_edges.specs.declared.head.Head.{Head}
-use Rattle.flatten_edges.proofs.Xors.{written-bits, values-bits, bits-none, bits-step, bits-all, low-lt, few-bits}
+use Rattle.flatten_edges.proofs.Xors.{written-bits, values-bits}
 
 -- a column has a field of each element of a list
 pub column-at : {A : Type 0} (f : A → ℕ) (ps : List A) (l : List ℕ) (i : ℕ) (d : A) → map f ps ≡ take (length ps) l → i < length ps → getD l i 0 ≡ f (getD ps i d)

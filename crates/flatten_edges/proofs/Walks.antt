@@ -36,7 +36,8 @@ use Rattle.flatten_edges.specs.Ends.{Flagged, Joins}
 use Rattle.flatten_edges.specs.Hearing.{PairColumns, HearsEntries}
 use Rattle.flatten_edges.specs.declared.flag.Ends.{Ends}
 use Rattle.flatten_edges.specs.declared.head.Head.{Head}
-use Rattle.flatten_edges.proofs.Gathers.{adds-skip, walk-more, walk-all, concat-kept}
+use Rattle.flatten_edges.proofs.Gathers.{adds-skip, walk-more, walk-all}
+use Rattle.lists.proofs.Concat.{concat-kept}
 
 pub pairs-of : (ps : List Pair) (p : Pairs) → Paired ps p → PairColumns ps (p .states) (p .marks) (p .count)
 pairs-of ps p P = record { count = P .count; few = P .few; state = P .states; mark = P .marks }

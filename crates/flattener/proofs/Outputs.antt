@@ -1,9 +1,9 @@
 -- The network's file, piece by piece.
 use mathlib.Core.Path.{_≡_, refl, sym, ap, _∙_, subst}
-use mathlib.Core.List.{List, [], _∷_, _++_, map, List·Memᴰ as Mem, List·Memᴰ·head as here, List·Memᴰ·tail as there}
+use mathlib.Core.List.{List, [], _∷_, _++_, map}
 use Prim.Native.Nat.{ℕ, _+_, _*_, _≤_, _<_}
 use native.Mathlib.Omega.{arith}
-use native.Mathlib.Nat.{suc-mul, zero-mul, mul-le-mul, zero-add}
+use native.Mathlib.Nat.{mul-le-mul, zero-add}
 use lib.ListN.{length, drop, length-append, length-map}
 use Rattle.lists.specs.Lists.{concat}
 use Rattle.lists.proofs.Lists.{map-at}
@@ -22,12 +22,7 @@ use Rattle.flattener.specs.Records.{locationRecord, edgeRecord}
 use Rattle.flattener.specs.Locating.{Located}
 use Rattle.flattener.proofs.Writing.{wrote-then}
 use Rattle.flattener.proofs.Locating.{location-length}
-
--- lengths
-pub concat-size : {A : Type 0} (f : A → List ℕ) (k : ℕ) (xs : List A) → ((x : A) → Mem x xs → length (f x) ≡ k) → length (concat f xs) ≡ length xs * k
-unfolding concat
-concat-size f k [] h = sym (zero-mul k)
-concat-size f k (x ∷ xs) h = length-append (f x) (concat f xs) ∙ omega (arith, h x (here refl), concat-size f k xs (λ y m. h y (there m)), suc-mul (length xs) k)
+use Rattle.lists.proofs.Concat.{concat-size}
 
 pub product-small : (p k : ℕ) → p < 256 → k < 256 → p * (4 + 4 * k) < 262144
 product-small p k h l = let m : p * (4 + 4 * k) ≤ 255 * 1024 = mul-le-mul {n₁ = p} {m₁ = 4 + 4 * k} {n₂ = 255} {m₂ = 1024} (omega arith) (omega arith) in omega arith

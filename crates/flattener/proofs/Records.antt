@@ -1,12 +1,11 @@
 -- Records written one after the other.
 use mathlib.Core.Path.{_≡_, refl, sym, ap, _∙_, subst}
-use mathlib.Core.List.{List, [], _∷_, _++_, append-assoc, append-nil}
+use mathlib.Core.List.{List, [], _∷_, _++_}
 use Prim.Native.Nat.{ℕ, zero, suc, _+_, _*_, _-_, _≤_, _<_}
 use native.Mathlib.Omega.{arith}
 use native.Mathlib.Nat.{mul-suc, mul-zero}
-use native.Mathlib.Numerals.{add-one}
 use lib.ListN.{length, getD, take, drop, length-append, length-take, length-drop}
-use lib.Seq.{take-suc, take-all, take-take, take-add, drop-drop, drop-at, take-at, getD-take, getD-drop}
+use lib.Seq.{take-all, take-take, take-add, drop-drop, drop-at, take-at, getD-take, getD-drop}
 use Rattle.lists.specs.Lists.{concat}
 use Rattle.network_records.specs.Network.{Edge}
 use Rattle.chart_records.specs.Chart.{Chart}
@@ -16,12 +15,7 @@ use Rattle.flattener.specs.Records.{edgeRecord, bodyOf, Named, Bodied, W
 use Rattle.flattener.specs.Writing.{Wrote, part}
 use Rattle.flattener.proofs.Writing.{wrote-none, wrote-then}
 use Rattle.lists.proofs.Lists.{getD-mem}
-use Rattle.lists.proofs.Concat.{concat-append}
-
-concat-more : {A B : Type 0} (f : A → List B) (xs : List A) (i : ℕ) (d : A) → i < length xs → concat f (take (i + 1) xs) ≡ concat f (take i xs) ++ f (getD xs i d)
-unfolding concat
-concat-more f xs i d h =
-    rw (add-one, take-suc xs i d h) (concat-append f (take i xs) (getD xs i d ∷ []) ∙ ap (λ l. concat f (take i xs) ++ l) (append-nil (f (getD xs i d))))
+use Rattle.lists.proofs.Concat.{concat-more}
 
 -- the bytes of the first i of some things are written over s, which is now t
 pub record Listing {A : Type 0} (f : A → List ℕ) (xs : List A) (s : List ℕ) (at : ℕ) (t : List ℕ) (place i : ℕ) : Type 0 where

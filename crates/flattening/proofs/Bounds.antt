@@ -27,7 +27,7 @@ use Rattle.chart_records.specs.Chart.{Chart, Transition, transitionAt, states, 
 use Rattle.chart_records.specs.Tree.{children, sequentials, entered}
 use Rattle.chart_moves.specs.Machine.{isActive, isTree, boundsKept, after}
 use Rattle.chart_moves.specs.declared.configuration.Configuration.{Configuration}
-use Rattle.chart_records.proofs.Tree.{size, states-at, states-by, Child, children-at, own-child, Parents, tree-induction, child-above}
+use Rattle.chart_records.proofs.Tree.{size, states-at, states-by, Child, children-at, own-child, Parents, tree-induction, parent-known, child-above}
 use Rattle.chart_records.proofs.Entered.{allEntered, all-entered-at, all-entered-by, entered-alone, entered-below-root}
 use Rattle.chart_moves.proofs.Active.{OneChild, one-child-by, IsTree, tree-at, bounds-kept-at, bounds-kept-by}
 use Rattle.chart_records.proofs.Rules.{Passed, kinds-left}
@@ -128,9 +128,6 @@ module _ (c : Chart) (passed : Passed c) (ranges : Ranges c) (cs : List ℕ) whe
   keeps-carried : (s : ℕ) → s < size c → s ≢ 0 → parallel c (parentOf c s) ≡ true → keeps (carriedBy c s) cs ≡ (keeps (own c s) cs && keeps (carriedBy c (parentOf c s)) cs)
   keeps-carried s h d z = ap (λ (r : List ℕ). keeps r cs) (carried-parallel c (passed .tree) s h d z) ∙ keeps-join (own c s) (carriedBy c (parentOf c s)) cs (same-rows s (parentOf c s) h)
 
-  parent-known : (s : ℕ) → s < size c → s ≢ 0 → parentOf c s < size c
-  parent-known s h d = omega (arith, passed .tree .smaller s h d)
-
   module _ (values : ClockValues cs) (p : ℕ → Bool) (active : IsTree c p) where
     -- where the active states keep their own bounds, they keep those that are carried
     module _ (keep-own : (s : ℕ) → s < size c → p s ≡ true → keeps (own c s) cs ≡ true) where
@@ -140,7 +137,7 @@ module _ (c : Chart) (passed : Passed c) (ranges : Ranges c) (cs : List ℕ) whe
           (λ s h d f a. ⊎-elim (λ z. keeps-carried s h d z ∙ both (keep-own s h a) (f (active .up s h d a))) (λ z. keeps-none c cs values s d z) (decided (parallel c (parentOf c s))))
 
       pub active-joined : (s : ℕ) → s < size c → s ≢ 0 → p s ≡ true → keeps (joined c s) cs ≡ true
-      active-joined s h d a = keeps-joined s h d ∙ both (keep-own s h a) (active-carried (parentOf c s) (parent-known s h d) (active .up s h d a))
+      active-joined s h d a = keeps-joined s h d ∙ both (keep-own s h a) (active-carried (parentOf c s) (parent-known c (passed .tree) s h d) (active .up s h d a))
 
     -- where the active children of sequential states keep their joined bounds, each active state keeps its own
     module _ (keep-joined : (q s : ℕ) → Child c q s → sequential c q ≡ true → p s ≡ true → keeps (joined c s) cs ≡ true) where
@@ -173,7 +170,7 @@ module _ (c : Chart) (passed : Passed c) (ranges : Ranges c) (cs : List ℕ) whe
         | yes e ↦ subst (λ (x : ℕ). keeps (own c x) cs ≡ true) (sym e) (ap (λ (r : List ℕ). keeps r cs) (sym (carried-root c)) ∙ carried-down (size c) 0 (omega arith) (omega arith) (active .root))
         | no d ↦ ⊎-elim
             (λ z. and-l (keeps (own c s) cs) _ (sym (keeps-carried s h d z) ∙ carried-down (size c) s (omega arith) h a))
-            (λ z. let y = kinds-left c (kinds-of ranges) (parentOf c s) (parent-known s h d) (passed .tree .composite s h d) z in
+            (λ z. let y = kinds-left c (kinds-of ranges) (parentOf c s) (parent-known c (passed .tree) s h d) (passed .tree .composite s h d) z in
             and-l (keeps (own c s) cs) _ (sym (keeps-joined s h d) ∙ keep-joined (parentOf c s) s (own-child c h d) y a))
             (decided (parallel c (parentOf c s)))
       ]
@@ -187,7 +184,7 @@ module _ (c : Chart) (passed : Passed c) (ranges : Ranges c) (cs : List ℕ) whe
         ap (λ (x : ℕ). keeps (joined c x) cs) (active-child c p q o)
         ∙ active-joined (λ s k b. implies-at (p s) _ (all-at _ (states c) h (states-by c k)) b) (o .child) (o .is-child .known) (o .is-child .below-root) (o .passes))))
         (λ h. all-by _ (states c) (λ s m. implies-by (p s) _ (active-own (λ q s k z b.
-        let l = parent-known s (k .known) (k .below-root) in
+        let l = parent-known c (passed .tree) s (k .known) (k .below-root) in
         let a = ap p (sym (k .parent-is)) ∙ active .up s (k .known) (k .below-root) b in
         let g : q < size c = omega (arith, k .parent-is) in
         let o = active .one q g z a in

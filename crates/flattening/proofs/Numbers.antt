@@ -18,7 +18,7 @@ use Rattle.lists.proofs.Lists.{keep-at, keep-by, map-at, map-by, getD-mem, getD
 use Rattle.lists.proofs.Concat.{concat-at, concat-by}
 use Rattle.lists.proofs.Below.{below-at, below-by}
 use Rattle.lists.proofs.Once.{Once, once-keep, once-below}
-use Rattle.lists.proofs.Position.{position-left, position-right, position-map, position-concat, index-lt, index-at, index-injective, index-of}
+use Rattle.lists.proofs.Position.{index-lt, index-at, index-injective, index-of}
 use Rattle.lists.proofs.Pairwise.{Pairwise, pairwise-in, map-once, append-once, concat-once, index-ascends}
 use Rattle.chart_records.specs.Chart.{Chart, parentOf, home}
 use Rattle.chart_records.specs.Tree.{children, sequentials}

@@ -4,12 +4,15 @@ use mathlib.Core.Logic.{_⊎_, ⊎-elim, _≢_}
 use mathlib.Core.List.{List, [], _∷_, _++_, map, append-assoc, append-nil, List·Memᴰ as Mem, List·Memᴰ·head as here}
 use mathlib.Core.List.{List·Memᴰ·tail as there, List·Memᴰ·not-nil as not-nil, List·Memᴰ·append-cases as append-cases}
 use mathlib.Core.List.{Memᴰ·append-left as append-left, Memᴰ·append-right as append-right, Memᴰ·cast as cast}
-use Prim.Native.Nat.{ℕ, _+_, _*_, _≤_}
+use Prim.Native.Nat.{ℕ, _+_, _*_, _≤_, _<_, _-_}
 use native.Mathlib.Omega.{arith}
-use native.Mathlib.Nat.{suc-mul}
-use lib.ListN.{length, length-append}
-use Rattle.lists.specs.Lists.{concat}
+use native.Mathlib.Nat.{suc-mul, zero-mul}
+use lib.ListN.{length, length-append, getD, take}
+use Rattle.lists.specs.Lists.{concat, keep}
 use Rattle.lists.proofs.Once.{Once}
+use mathlib.Core.Bool.{Bool, true, false, cond}
+use native.Mathlib.Numerals.{add-one}
+use lib.Seq.{take-suc}
 
 -- concat: an element of the list of some element
 module _ {A B : Type 0} (f : A → List B) where
@@ -50,3 +53,49 @@ unfolding concat
 concat-one f (z ∷ zs) o x (here e) h =
     rw (concat-none f zs (λ y m. h y (there m) (λ q. o .0 (cast (sym (q ∙ e)) m))), e) (append-nil (f z))
 concat-one f (z ∷ zs) o x (there m) h = rw (h z (here refl) (λ q. o .0 (cast q m))) (concat-one f zs (o .1) x m (λ y n. h y (there n)))
+
+-- of one element
+pub concat-single : {A B : Type 0} (f : A → List B) (x : A) → concat f (x ∷ []) ≡ f x
+unfolding concat
+concat-single f x = append-nil (f x)
+
+-- the edges of the elements that pass a test
+pub map-kept : {A B : Type 0} (p : A → Bool) (f : A → B) (xs : List A) → concat (λ x. cond (p x) (f x ∷ []) []) xs ≡ map f (keep p xs)
+unfolding concat keep
+map-kept p f [] = refl
+map-kept p f (x ∷ xs) = go (p x) (map-kept p f xs)
+  where
+    go : (b : Bool) → concat (λ x. cond (p x) (f x ∷ []) []) xs ≡ map f (keep p xs) → cond b (f x ∷ []) [] ++ concat (λ x. cond (p x) (f x ∷ []) []) xs ≡ map f (cond b (x ∷ keep p xs) (keep p xs))
+    go true e = ap (λ l. f x ∷ l) e
+    go false e = e
+
+pub concat-kept : {A B : Type 0} (p : A → Bool) (f : A → List B) (xs : List A) → concat (λ x. cond (p x) (f x) []) xs ≡ concat f (keep p xs)
+unfolding concat keep
+concat-kept p f [] = refl
+concat-kept p f (x ∷ xs) = go (p x) (concat-kept p f xs)
+  where
+    go : (b : Bool) → concat (λ x. cond (p x) (f x) []) xs ≡ concat f (keep p xs) → cond b (f x) [] ++ concat (λ x. cond (p x) (f x) []) xs ≡ concat f (cond b (x ∷ keep p xs) (keep p xs))
+    go true e = ap (λ l. f x ++ l) e
+    go false e = e
+
+-- lists one after the other
+pub concat-concat : {A B C : Type 0} (f : B → List C) (g : A → List B) (xs : List A) → concat f (concat g xs) ≡ concat (λ x. concat f (g x)) xs
+unfolding concat
+concat-concat f g [] = refl
+concat-concat f g (x ∷ xs) = concat-append f (g x) (concat g xs) ∙ ap (λ l. concat f (g x) ++ l) (concat-concat f g xs)
+
+pub map-ones : {A B : Type 0} (f : A → B) (xs : List A) → concat (λ x. f x ∷ []) xs ≡ map f xs
+unfolding concat
+map-ones f [] = refl
+map-ones f (x ∷ xs) = ap (λ l. f x ∷ l) (map-ones f xs)
+
+pub concat-more : {A B : Type 0} (f : A → List B) (xs : List A) (i : ℕ) (d : A) → i < length xs → concat f (take (i + 1) xs) ≡ concat f (take i xs) ++ f (getD xs i d)
+unfolding concat
+concat-more f xs i d h =
+    rw (add-one, take-suc xs i d h) (concat-append f (take i xs) (getD xs i d ∷ []) ∙ ap (λ l. concat f (take i xs) ++ l) (append-nil (f (getD xs i d))))
+
+-- lengths
+pub concat-size : {A : Type 0} (f : A → List ℕ) (k : ℕ) (xs : List A) → ((x : A) → Mem x xs → length (f x) ≡ k) → length (concat f xs) ≡ length xs * k
+unfolding concat
+concat-size f k [] h = sym (zero-mul k)
+concat-size f k (x ∷ xs) h = length-append (f x) (concat f xs) ∙ omega (arith, h x (here refl), concat-size f k xs (λ y m. h y (there m)), suc-mul (length xs) k)

@@ -4,14 +4,14 @@ use mathlib.Core.Bool.{Bool, true, false, cond, _&&_, _||_, or-false, or-assoc, 
 use mathlib.Core.Logic.{_⊎_, inl, inr, ⊎-elim}
 use mathlib.Core.List.{List, [], _∷_, _++_, map, List·Memᴰ as Mem, List·Memᴰ·head as here, List·Memᴰ·tail as there}
 use mathlib.Core.List.{List·Memᴰ·not-nil as not-nil, Memᴰ·cast as cast, List·Memᴰ·cases-cons as cases-cons, zipWith}
-use Prim.Native.Nat.{ℕ, zero, suc, _+_, _≤_, _<_, min}
+use Prim.Native.Nat.{ℕ, zero, suc, _+_, _≤_, _<_, min, _-_}
 use native.Mathlib.Omega.{arith}
 use native.Mathlib.Nat.{zero-min, min-zero, suc-min-suc}
-use native.Mathlib.Decide.{ℕ-discrete, decLt}
-use borrow.Author.Tests.{eqb-true, eq-eqb, le-leb, ne-eqb}
-use lib.Dec.{leb, eqb}
-use lib.ListN.{length, getD, take, drop, replicate, set, length-map, List·getD-eq-default}
-use lib.Seq.{getD-set-same, getD-set-other, ext-getD, getD-drop, take-suc-set}
+use native.Mathlib.Decide.{ℕ-discrete}
+use borrow.Author.Tests.{eqb-true, eq-eqb, le-leb, ne-eqb, ltb-true}
+use lib.Dec.{leb, eqb, ltb}
+use lib.ListN.{length, getD, take, drop, replicate, set}
+use lib.Seq.{getD-set-same, getD-set-other}
 use Rattle.lists.specs.Lists.{keep, all, any, elem, position, implies}
 use Rattle.lists.proofs.Bools.{clash, fails, and-l, and-r, both, or-l, or-r, or-cases}
 
@@ -344,3 +344,17 @@ all-both p q (x ∷ xs) = go (p x) (q x) (all p xs) (all q xs) ∙ ap (λ (b : B
     go true false true z = refl
     go true false false z = refl
     go false b y z = refl
+
+-- what is kept is no longer
+pub keep-length : {A : Type 0} (p : A → Bool) (xs : List A) → length (keep p xs) ≤ length xs
+unfolding keep
+keep-length p [] = omega arith
+keep-length p (x ∷ xs) = go (p x) (keep-length p xs)
+  where
+    go : (b : Bool) → length (keep p xs) ≤ length xs → length (cond b (x ∷ keep p xs) (keep p xs)) ≤ suc (length xs)
+    go true h = omega arith
+    go false h = omega arith
+
+-- a number of a list of numbers that are all below k
+pub each-below : {k : ℕ} (l : List ℕ) (i : ℕ) → all (λ m. ltb m k) l ≡ true → i < length l → getD l i 0 < k
+each-below {k} l i h b = ltb-true (getD l i 0) k (all-at (λ m. ltb m k) l h (getD-mem l i 0 b))

@@ -1,27 +1,18 @@
 -- Which edges are active, by what the code has of them.
 use mathlib.Core.Path.{_≡_, sym, ap, ap₂, _∙_}
-use mathlib.Core.Bool.{Bool, true, Bool·beq, _&&_}
-use mathlib.Core.List.{List, _∷_, map}
-use Prim.Native.Nat.{ℕ, _<_}
-use borrow.Author.Tests.{ltb-true}
-use lib.Dec.{ltb, eqb}
-use lib.ListN.{length, getD}
+use mathlib.Core.Bool.{Bool, Bool·beq, _&&_}
+use mathlib.Core.List.{List}
+use Prim.Native.Nat.{ℕ}
+use lib.Dec.{eqb}
 use Rattle.lists.specs.Lists.{all, has, implies}
-use Rattle.labels.specs.Label.{Label, guardsHold}
-use Rattle.clocks.specs.Clocks.{reset}
-use Rattle.steps.specs.Moves.{clocksAfter}
+use Rattle.labels.specs.Label.{guardsHold}
 use Rattle.labels.specs.Guard.{holds}
-use Rattle.lists.proofs.Lists.{all-at, getD-mem}
 use Rattle.network_records.specs.Network.{Edge, Network, ownerOf, locationAt}
 use Rattle.network_moves.specs.Machine.{place, flagsAgree, activeEdge}
 use Rattle.network_records.specs.Edges.{Kept}
 use Rattle.network_records.specs.declared.header.Counts.{Counts}
 use Rattle.network_moves.specs.declared.configuration.Configuration.{Configuration}
 use Rattle.network_records.specs.declared.edge.Edge as code
-
--- a number of a list, where all are numbers of edges
-pub known-at : {k : ℕ} (l : List ℕ) (i : ℕ) → all (λ m. ltb m k) l ≡ true → i < length l → getD l i 0 < k
-known-at {k} l i h b = ltb-true (getD l i 0) k (all-at (λ m. ltb m k) l h (getD-mem l i 0 b))
 
 module _ {k : Counts} {s : List ℕ} {e : code.Edge} {d : Edge} (K : Kept k s e d) where
   -- one automaton's flag

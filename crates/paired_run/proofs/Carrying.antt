@@ -1,8 +1,8 @@
 -- The transitions of a move, sorted in a table.
 use mathlib.Core.Path.{_≡_, refl, ap, _∙_, subst}
-use mathlib.Core.Bool.{Bool, true, false, cond, not}
-use mathlib.Core.List.{List, [], _∷_, map}
-use Prim.Native.Nat.{ℕ, suc, _+_, _-_, _≤_, _<_, min}
+use mathlib.Core.Bool.{Bool, cond, not}
+use mathlib.Core.List.{List, _∷_, map}
+use Prim.Native.Nat.{ℕ, _+_, _-_, _≤_, _<_, min}
 use native.Mathlib.Omega.{arith}
 use native.Mathlib.Nat.{min-eq-left}
 use borrow.Author.Tests.{eq-eqb, ne-eqb}
@@ -21,6 +21,7 @@ use Rattle.flatten_alternatives.specs.Choosing.{Kept}
 use Rattle.flattening.proofs.Sums.{sorted-at, sorted-ascending}
 use Rattle.flatten_alternatives.proofs.Keeping.{kept-none, kept-at}
 use Rattle.agreement.specs.Agreement.{borne, carried}
+use Rattle.lists.proofs.Lists.{keep-length}
 
 abbrev pub isNumber : ℕ → Bool
 isNumber t = not (eqb t 255)
@@ -44,15 +45,6 @@ module _ (l : List ℕ) where
   kept-before i o h k =
       let e : drop (i - 1) l ≡ getD l (i - 1) 0 ∷ drop i l = drop-next l (i - 1) 0 (omega arith) ∙ ap (λ (j : ℕ). getD l (i - 1) 0 ∷ drop j l) (let z : i - 1 + 1 ≡ i = omega arith in z) in
       rw e k
-
-keep-length : (p : ℕ → Bool) (xs : List ℕ) → length (keep p xs) ≤ length xs
-unfolding keep
-keep-length p [] = omega arith
-keep-length p (x ∷ xs) = go (p x) (keep-length p xs)
-  where
-    go : (b : Bool) → length (keep p xs) ≤ length xs → length (cond b (x ∷ keep p xs) (keep p xs)) ≤ suc (length xs)
-    go true h = omega arith
-    go false h = omega arith
 
 sorted-length : (xs : List ℕ) → length (sorted xs) ≤ length xs
 sorted-length xs = within-length (sorted xs) xs (ascending-once _ (sorted-ascending xs)) (λ z m. sorted-at xs m)

@@ -4,13 +4,12 @@ use native.Mathlib.Omega.{arith}
 use lib.ListN.{length, drop, drop-of-length-le}
 use borrow.Author.Tests.{not-true, not-false}
 use Rattle.lists.specs.Lists.{all}
-use Rattle.lists.proofs.Lists.{all-next, all-stop}
+use Rattle.lists.proofs.Lists.{all-next, all-stop, each-below}
 use Rattle.lists.proofs.Parts.{drop-next}
 use Rattle.network_records.specs.Network.{Network, edgeAt}
 use Rattle.network_moves.specs.Machine.{activeEdge}
 use Rattle.network_records.specs.Layout.{Laid}
 use Rattle.network_moves.specs.Choices.{Known}
-use Rattle.network_moves.proofs.Activity.{known-at}
 use borrow.Author.Needs.{needs}
 use Rattle.network_moves.proofs.active.all_active.Statement.{statement}
 use Rattle.network_moves.proofs.active.all_active.Tie as tie
@@ -38,7 +37,7 @@ is-active-requires c κs = search needs
 
 returns : tie.Need-returns Inv-loop μ-loop
 returns c = λ n L h. let l = c .before .before .before .before in
-    sym (l .before .loop .inv n L h ∙ all-stop _ (drop-next _ _ 0 (l .loop-test .taken)) (sym (c .before .is-active .ensures n _ (L .located) (c .before .before .edge-of .ensures _ n L (known-at _ _ h (l .loop-test .taken)))) ∙ not-true _ (c .if1 .taken)))
+    sym (l .before .loop .inv n L h ∙ all-stop _ (drop-next _ _ 0 (l .loop-test .taken)) (sym (c .before .is-active .ensures n _ (L .located) (c .before .before .edge-of .ensures _ n L (each-below _ _ h (l .loop-test .taken)))) ∙ not-true _ (c .if1 .taken)))
 
 add-i : tie.Need-add-i Inv-loop μ-loop
 add-i c = omega arith
@@ -48,7 +47,7 @@ loop-less c = omega arith
 
 loop-again : tie.Need-loop-again Inv-loop μ-loop
 loop-again c = λ n L h. let l = c .before .before .before .before in
-    l .before .loop .inv n L h ∙ all-next _ (drop-next _ _ 0 (l .loop-test .taken)) (sym (c .before .is-active .ensures n _ (L .located) (c .before .before .edge-of .ensures _ n L (known-at _ _ h (l .loop-test .taken)))) ∙ not-false _ (c .if1 .left))
+    l .before .loop .inv n L h ∙ all-next _ (drop-next _ _ 0 (l .loop-test .taken)) (sym (c .before .is-active .ensures n _ (L .located) (c .before .before .edge-of .ensures _ n L (each-below _ _ h (l .loop-test .taken)))) ∙ not-false _ (c .if1 .left))
 
 returns-2 : tie.Need-returns-2 Inv-loop μ-loop
 unfolding all

@@ -3,12 +3,11 @@ use Prim.Native.Nat.{_-_}
 use native.Mathlib.Omega.{arith}
 use lib.ListN.{length, drop, drop-of-length-le}
 use Rattle.lists.specs.Lists.{any}
-use Rattle.lists.proofs.Lists.{any-next, any-stop}
+use Rattle.lists.proofs.Lists.{any-next, any-stop, each-below}
 use Rattle.lists.proofs.Parts.{drop-next}
 use Rattle.network_records.specs.Network.{Network, urgentAt, edgeAt}
 use Rattle.network_records.specs.Layout.{Laid}
 use Rattle.network_moves.specs.Choices.{Known}
-use Rattle.network_moves.proofs.Activity.{known-at}
 use borrow.Author.Needs.{needs}
 use Rattle.network_moves.proofs.active.any_urgent.Statement.{statement}
 use Rattle.network_moves.proofs.active.any_urgent.Tie as tie
@@ -36,7 +35,7 @@ is-urgent-requires c κs = search needs
 
 returns : tie.Need-returns Inv-loop μ-loop
 returns c = λ n L h. let l = c .before .before .before .before in
-    sym (l .before .loop .inv n L h ∙ any-stop _ (drop-next _ _ 0 (l .loop-test .taken)) (ap (urgentAt n) (sym (c .before .before .edge-of .ensures _ n L (known-at _ _ h (l .loop-test .taken)) .source)) ∙ sym (c .before .is-urgent .ensures n (L .located)) ∙ c .if1 .taken))
+    sym (l .before .loop .inv n L h ∙ any-stop _ (drop-next _ _ 0 (l .loop-test .taken)) (ap (urgentAt n) (sym (c .before .before .edge-of .ensures _ n L (each-below _ _ h (l .loop-test .taken)) .source)) ∙ sym (c .before .is-urgent .ensures n (L .located)) ∙ c .if1 .taken))
 
 add-i : tie.Need-add-i Inv-loop μ-loop
 add-i c = omega arith
@@ -46,7 +45,7 @@ loop-less c = omega arith
 
 loop-again : tie.Need-loop-again Inv-loop μ-loop
 loop-again c = λ n L h. let l = c .before .before .before .before in
-    l .before .loop .inv n L h ∙ any-next _ (drop-next _ _ 0 (l .loop-test .taken)) (ap (urgentAt n) (sym (c .before .before .edge-of .ensures _ n L (known-at _ _ h (l .loop-test .taken)) .source)) ∙ sym (c .before .is-urgent .ensures n (L .located)) ∙ c .if1 .left)
+    l .before .loop .inv n L h ∙ any-next _ (drop-next _ _ 0 (l .loop-test .taken)) (ap (urgentAt n) (sym (c .before .before .edge-of .ensures _ n L (each-below _ _ h (l .loop-test .taken)) .source)) ∙ sym (c .before .is-urgent .ensures n (L .located)) ∙ c .if1 .left)
 
 returns-2 : tie.Need-returns-2 Inv-loop μ-loop
 unfolding any

@@ -8,7 +8,7 @@ use Rattle.network_records.specs.Network.{Network, edgeAt}
 use Rattle.network_records.specs.Layout.{Laid}
 use Rattle.network_moves.specs.Choices.{Known}
 use Rattle.network_moves.specs.Turns.{takenAll}
-use Rattle.network_moves.proofs.Activity.{known-at}
+use Rattle.lists.proofs.Lists.{each-below}
 use Rattle.network_moves.proofs.Taken.{taken-all, taken-next, taken-none}
 use borrow.Author.Needs.{needs}
 use Rattle.network_moves.proofs.after.configuration_after.Statement.{statement}
@@ -45,7 +45,7 @@ loop-less c = omega arith
 loop-again : tie.Need-loop-again Inv-loop μ-loop
 loop-again c = λ n L h. let e = c .before in
     let l = e .before .before in
-    let K = e .edge-of .ensures _ n L (known-at _ _ h (l .loop-test .taken)) in
+    let K = e .edge-of .ensures _ n L (each-below _ _ h (l .loop-test .taken)) in
     l .before .loop .inv n L h ∙ taken-next n _ (l .before .loop .after) (edgeAt n) (drop-next _ _ 0 (l .loop-test .taken))
     ∙ ap (takenAll n _ _) (sym (c .taken .ensures n _ (L .located) K))
 

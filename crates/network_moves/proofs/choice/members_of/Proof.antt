@@ -4,12 +4,11 @@ use Prim.Native.Nat.{_-_, _≤_}
 use native.Mathlib.Omega.{arith}
 use lib.ListN.{length, take, length-map, length-set}
 use Rattle.steps.specs.Cases.{member}
-use Rattle.lists.proofs.Lists.{getD-map}
+use Rattle.lists.proofs.Lists.{getD-map, each-below}
 use Rattle.lists.proofs.Loops.{front-more, front-all}
 use Rattle.network_records.specs.Network.{Network}
 use Rattle.network_records.specs.Layout.{Laid}
 use Rattle.network_moves.specs.Choices.{labelAt, ownerAt, Known}
-use Rattle.network_moves.proofs.Activity.{known-at}
 use borrow.Author.Needs.{needs}
 use Rattle.network_moves.proofs.choice.members_of.Statement.{statement}
 use Rattle.network_moves.proofs.choice.members_of.Tie as tie
@@ -55,7 +54,7 @@ loop-again c = let l = c .before .before .before .before in
       length-set (l .loop .members) _ _ ∙ i .0,
       omega (arith, t),
       λ n L h. front-more (map (member (labelAt n) (ownerAt n)) (a .list .now)) (l .loop .members) (l .loop .i) _ _ (i .2 n L h) (omega (arith, i .0)) (omega (arith, length-map (a .list .now) (member (labelAt n) (ownerAt n))))
-          (c .member-of .ensures n L (known-at _ _ h t) ∙ sym (getD-map (member (labelAt n) (ownerAt n)) (a .list .now) (l .loop .i) 0 (record { signal = 0; channel = 0; owner = 0 }) t)),
+          (c .member-of .ensures n L (each-below _ _ h t) ∙ sym (getD-map (member (labelAt n) (ownerAt n)) (a .list .now) (l .loop .i) 0 (record { signal = 0; channel = 0; owner = 0 }) t)),
     )
 
 returns-2 : tie.Need-returns-2 Inv-loop μ-loop
