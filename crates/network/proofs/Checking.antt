@@ -4,7 +4,7 @@ use mathlib.Core.Bool.{Bool, true, false}
 use mathlib.Core.List.{List}
 use Prim.Native.Nat.{ℕ, _-_, _≤_, _<_, _^_}
 use native.Mathlib.Omega.{arith}
-use lib.ListN.{length, take, drop}
+use lib.ListN.{length, take, drop, replicate}
 use Rattle.lists.specs.Lists.{all}
 use Rattle.reading.specs.Reading.{Read, got, fault, yield, _>>_, byte, byte2, many, recorded, skipped, mapped}
 use Rattle.reading.specs.Places.{onward, faultOf}
@@ -16,7 +16,7 @@ use Rattle.reading.proofs.Reading.{mapped-at, fault-at, many-at}
 use Rattle.network_records.specs.Network.{Location, Edge, Network, location, inRange, records, numbered, sound, countsOf, readNetwork, networkOf}
 use Rattle.network_records.specs.Edges.{edgeIn, keepsOnce, EdgesAt}
 use Rattle.network_records.specs.Layout.{Laid}
-use Rattle.network.specs.Checks.{faultNumber, soundOf, CheckedAs, FindingFits}
+use Rattle.network.specs.Checks.{faultNumber, soundOf, CheckedAs, FindingFits, ClearedIfRefused}
 use Rattle.network_records.specs.Headers.{HeaderFits}
 use Rattle.network_records.specs.declared.header.Counts.{Counts}
 use Rattle.network_records.specs.declared.header.HeaderRead.{HeaderRead}
@@ -108,9 +108,17 @@ module _ (file : List ℕ) where
   pub rest-fits : (13 ≤ length file) × (length file - 5 < 2 ^ 32) → length (take (length file - 5) (drop 5 file)) < 2 ^ 32
   rest-fits h = rw (part-onward file 5) (omega (arith, h, length-onward file 5))
 
-  pub finding-fits : (v : Finding) → 13 ≤ length file → FindingFits file v
-  finding-fits (Fd.Counts k) h = h
-  finding-fits (Fd.Refused m) h = tt
+  -- a refusal, and the table that it leaves
+  module _ (offsets : List ℕ) {v : Finding} {m : ℕ} (e : v ≡ Fd.Refused m) where
+    pub refused-as : networkOf file ≡ refused m → CheckedAs (onward file 5) offsets (networkOf file) v
+    refused-as h = subst (CheckedAs (onward file 5) offsets (networkOf file)) (sym e) h
+
+    pub refused-leaves : offsets ≡ replicate 1024 0 → FindingFits file v × ClearedIfRefused offsets v
+    refused-leaves z = (subst (FindingFits file) (sym e) tt, subst (ClearedIfRefused offsets) (sym e) z)
+
+  -- a file that is right keeps its table
+  pub right-leaves : (offsets : List ℕ) {v : Finding} {k : Counts} → v ≡ Fd.Counts k → 13 ≤ length file → FindingFits file v × ClearedIfRefused offsets v
+  right-leaves offsets e l = (subst (FindingFits file) (sym e) l, subst (ClearedIfRefused offsets) (sym e) tt)
 
   -- what the check of a file says of its network
   module _ (offsets : List ℕ) {d : Answer Network} {v : Finding} where

@@ -1,6 +1,6 @@
 -- What the check of a file answers, and the reader of its header.
 use Prim.Native.Nat.{ℕ, _-_, _≤_}
-use lib.ListN.{length}
+use lib.ListN.{length, replicate}
 use mathlib.Core.Path.{_≡_}
 use mathlib.Core.List.{List}
 use Rattle.reading.specs.Reading.{Read}
@@ -36,3 +36,8 @@ findingNumber (Fd.Refused m) = m
 abbrev pub FindingFits : List ℕ → Finding → Type 0
 FindingFits file (Fd.Counts k) = 13 ≤ length file
 FindingFits file (Fd.Refused m) = Unit
+
+-- a file that is refused leaves the table of offsets all 0
+abbrev pub ClearedIfRefused : List ℕ → Finding → Type 0
+ClearedIfRefused offsets (Fd.Counts k) = Unit
+ClearedIfRefused offsets (Fd.Refused m) = offsets ≡ replicate 1024 0

@@ -48,10 +48,10 @@ fn transitions_at(rest: &[u8], counts: Counts, offsets: &[u32; 1024], list: &[u1
 pub fn transitions_of(file: &[u8], list: &[u16]) -> [u8; 16]
     ensures { λ r. ⌜ r ≡ transitionsIn (networkOf (now (file .entry))) (now (list .entry)) ⌝ }
 {
-    let checked = check(file);
-    let finding = checked.finding;
+    let mut offsets = [0; 1024];
+    let finding = check(file, &mut offsets);
     let Finding::Counts(counts) = finding else {
         return [255; 16];
     };
-    transitions_at(&file[5..], counts, &checked.offsets, list)
+    transitions_at(&file[5..], counts, &offsets, list)
 }

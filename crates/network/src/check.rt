@@ -2,13 +2,13 @@
 ghost use mathlib.Core.Path.{_≡_};
 ghost use mathlib.Core.Bool.{true};
 ghost use Prim.Native.Nat.{_<_, _^_};
-ghost use lib.ListN.{length};
+ghost use lib.ListN.{length, replicate};
 ghost use Rattle.lists.specs.Lists.{all};
 ghost use Rattle.reading.specs.Places.{onward};
 ghost use Rattle.network_records.specs.Network.{Network, inRange, records, sound, networkOf};
 ghost use Rattle.network_records.specs.Edges.{keepsOnce};
 ghost use Rattle.network_records.specs.Layout.{Laid};
-ghost use Rattle.network.specs.Checks.{faultNumber, soundOf, CheckedAs, findingNumber, FindingFits};
+ghost use Rattle.network.specs.Checks.{faultNumber, soundOf, CheckedAs, findingNumber, FindingFits, ClearedIfRefused};
 use crate::edge_list::read_edges;
 use crate::initial::one_initial_each;
 use crate::laid::all_ascend;
@@ -24,12 +24,6 @@ use reading::field::Reached;
 pub enum Finding {
     Counts(Counts),
     Refused(u8),
-}
-
-// What a check finds, and the offset of each edge of a file that is right.
-pub struct Checked {
-    pub finding: Finding,
-    pub offsets: [u32; 1024],
 }
 
 // 24 for a length, 25 for a field.
@@ -86,20 +80,27 @@ fn check_rest(rest: &[u8], counts: Counts, offsets: &mut [u32; 1024]) -> Finding
     Finding::Counts(counts)
 }
 
-// A whole file. The table of offsets is handed back by value, not lent, so that nothing is left open of it where a file is
-// refused; it counts from the sixth byte on.
-pub fn check(file: &[u8]) -> Checked
-    ensures means { λ r. ⌜ CheckedAs (onward (now (file .entry)) 5) (r .offsets) (networkOf (now (file .entry))) (r .finding) ⌝ }
-    ensures within { λ r. ⌜ FindingFits (now (file .entry)) (r .finding) ⌝ }
+// A refusal, which leaves every offset 0.
+fn refuse(number: u8, offsets: &mut [u32; 1024]) -> Finding
+    ensures { λ r. ⌜ (r ≡ Finding.Refused number) × (now (offsets .exit) ≡ replicate 1024 0) ⌝ }
 {
-    let mut offsets = [0; 1024];
+    *offsets = [0; 1024];
+    Finding::Refused(number)
+}
+
+// A whole file. The offset of each edge is put down, counted from the sixth byte on; a file that is refused leaves all 0.
+pub fn check(file: &[u8], offsets: &mut [u32; 1024]) -> Finding
+    ensures means { λ r. ⌜ (length (now (offsets .entry)) ≡ 1024 → CheckedAs (onward (now (file .entry)) 5) (now (offsets .exit)) (networkOf (now (file .entry))) r) ⌝ }
+    ensures within { λ r. ⌜ FindingFits (now (file .entry)) r ⌝ }
+    ensures cleared { λ r. ⌜ ClearedIfRefused (now (offsets .exit)) r ⌝ }
+{
     let h = read_header(file);
     let HeaderRead::Counts(counts) = h else {
-        return Checked {
-            finding: Finding::Refused(24),
-            offsets,
-        };
+        return refuse(24, offsets);
     };
-    let finding = check_rest(&file[5..], counts, &mut offsets);
-    Checked { finding, offsets }
+    let finding = check_rest(&file[5..], counts, offsets);
+    match finding {
+        Finding::Refused(number) => refuse(number, offsets),
+        Finding::Counts(_) => finding,
+    }
 }

@@ -28,8 +28,8 @@ fn zero_configuration() -> Configuration
 pub fn start(file: &[u8]) -> Outcome
     ensures { λ r. ⌜ r ≡ outcomeOf zeroConfiguration (startOf (now (file .entry))) ⌝ }
 {
-    let checked = check(file);
-    let finding = checked.finding;
+    let mut offsets = [0; 1024];
+    let finding = check(file, &mut offsets);
     let Finding::Counts(counts) = finding else {
         return refused(finding_number(finding), zero_configuration());
     };
@@ -43,20 +43,20 @@ pub fn start(file: &[u8]) -> Outcome
 pub fn step(file: &[u8], c: Configuration, list: &[u16]) -> Outcome
     ensures { λ r. ⌜ r ≡ outcomeOf c (stepOf (now (file .entry)) c (now (list .entry))) ⌝ }
 {
-    let checked = check(file);
-    let finding = checked.finding;
+    let mut offsets = [0; 1024];
+    let finding = check(file, &mut offsets);
     let Finding::Counts(counts) = finding else {
         return refused(finding_number(finding), c);
     };
-    step_checked(&file[5..], counts, &checked.offsets, c, list)
+    step_checked(&file[5..], counts, &offsets, c, list)
 }
 
 // So many ticks later.
 pub fn wait(file: &[u8], c: Configuration, ticks: u32) -> Outcome
     ensures { λ r. ⌜ r ≡ outcomeOf c (waitOf (now (file .entry)) c ticks) ⌝ }
 {
-    let checked = check(file);
-    let finding = checked.finding;
+    let mut offsets = [0; 1024];
+    let finding = check(file, &mut offsets);
     let Finding::Counts(counts) = finding else {
         return refused(finding_number(finding), c);
     };

@@ -1,7 +1,7 @@
 use mathlib.Core.Path.{sym, ap, ap₂, _∙_}
 use native.Mathlib.Omega.{arith}
 use Prim.Native.Nat.{ℕ, _≤_}
-use lib.ListN.{length}
+use lib.ListN.{length, length-replicate}
 use Rattle.reading.specs.Answer.{done, refused}
 use Rattle.network_machine.specs.Answers.{outcomeOf, zeroConfiguration}
 use Rattle.network.specs.Checks.{findingNumber}
@@ -13,8 +13,8 @@ use Rattle.network_machine.proofs.operation.start.Statement.{statement}
 use Rattle.network_machine.proofs.operation.start.Tie as tie
 
 -- the file is longer than version and length
-fits : (k : tie.After-known-told) → 13 ≤ length (k .before .before .before .before .before .args .file .now)
-fits k = found-fits _ (k .before .before .before .check .ensures .1) (k .before .finding .given .1)
+fits : (k : tie.After-known-told) → 13 ≤ length (k .before .before .before .before .before .before .args .file .now)
+fits k = found-fits _ (k .before .before .before .check .ensures .1 .0) (k .before .finding .given .1)
 
 check-requires : tie.Need-check-requires
 check-requires c κs = search needs
@@ -36,8 +36,10 @@ refused-requires c κs = search needs
 
 returns : tie.Need-returns
 returns c = let t = c .before .before .before in
-    c .refused .ensures ∙ ap₂ (λ (x : Configuration) (m : ℕ). outcomeOf x (refused m)) (c .before .zero-configuration .ensures) (c .before .before .finding-number .ensures ∙ ap findingNumber (t .enum-told .given .1))
-    ∙ ap (outcomeOf zeroConfiguration) (sym (start-refused _ (not-found _ _ (t .before .before .check .ensures .0) (t .enum-told .given .1))))
+    let h = t .before .before .check .ensures .0 (length-replicate {A = ℕ} 1024 0) in
+    let numbered = c .before .before .finding-number .ensures ∙ ap findingNumber (t .enum-told .given .1) in
+    c .refused .ensures ∙ ap₂ (λ (x : Configuration) (m : ℕ). outcomeOf x (refused m)) (c .before .zero-configuration .ensures) numbered
+    ∙ ap (outcomeOf zeroConfiguration) (sym (start-refused _ (not-found _ _ h (t .enum-told .given .1))))
 
 sub-start : tie.Need-sub-start
 sub-start c = omega (arith, fits c)
@@ -53,8 +55,10 @@ start-requires c κs = search needs
 
 returns-2 : tie.Need-returns-2
 returns-2 c = let k = c .before .before in
-    let w = found _ _ (k .before .before .before .check .ensures .0) (k .before .finding .given .1) in
-    ap (λ (x : Configuration). outcomeOf zeroConfiguration (done x)) (c .start .ensures (w .0) (w .2 .located)) ∙ ap (outcomeOf zeroConfiguration) (sym (start-done _ (w .1)))
+    let h = k .before .before .before .check .ensures .0 (length-replicate {A = ℕ} 1024 0) in
+    let w = found _ _ h (k .before .finding .given .1) in
+    ap (λ (x : Configuration). outcomeOf zeroConfiguration (done x)) (c .start .ensures (w .0) (w .2 .located))
+    ∙ ap (outcomeOf zeroConfiguration) (sym (start-done _ (w .1)))
 
 pub start-spec : {M : Type 1} → statement M
 start-spec =
