@@ -18,6 +18,7 @@ use Rattle.lists.proofs.Bools.{clash, decided, fails, and-l, and-r, or-cases}
 use Rattle.lists.proofs.Lists.{map-same, map-at, map-by, keep-at, keep-next, keep-left, mem-getD}
 use Rattle.lists.proofs.Below.{below-next, below-end, getD-below, length-below}
 use Rattle.lists.proofs.Bits.{has-ext, has-zero, has-one, has-sum, has-or, Apart}
+use Rattle.lists.proofs.Within.{Within, within-right, within-both}
 use Rattle.chart_records.specs.Chart.{Chart, stateAt, states, parentOf, basic, sequential, parallel}
 use Rattle.chart_records.specs.Tree.{under, isChild, children}
 use Rattle.chart_records.proofs.Tree.{size, Parents, Child, children-at, unknown-parent, under-refl, under-transitive, child-under, child-above, children-disjoint}
@@ -32,7 +33,7 @@ use Rattle.chart_tree.specs.Table.{Tabled}
 use Rattle.flatten_places.specs.Tables.{Chartered, Automated}
 use Rattle.flatten_places.specs.declared.automaton.Automata.{Automata}
 use Rattle.flatten_alternatives.specs.Choosing.{choices, Kept, Clear, Choosing}
-use Rattle.flatten_alternatives.proofs.Keeping.{Within, within-right, within-both, kept-few, kept-same}
+use Rattle.flatten_alternatives.proofs.Keeping.{kept-few, kept-same}
 
 concat-same : (f g : ℕ → List ℕ) (l : List ℕ) → ((x : ℕ) → Mem x l → f x ≡ g x) → concat f l ≡ concat g l
 unfolding concat

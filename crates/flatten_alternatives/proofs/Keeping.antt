@@ -3,7 +3,7 @@ use mathlib.Core.Path.{_≡_, refl, sym, ap, _∙_, subst}
 use mathlib.Core.Bool.{Bool, true, false, cond}
 use mathlib.Core.Logic.{_⊎_, inl, inr, ⊎-elim}
 use mathlib.Core.List.{List, [], _∷_, _++_, map, append-assoc, map-append, List·Memᴰ as Mem, List·Memᴰ·head as here, List·Memᴰ·tail as there}
-use mathlib.Core.List.{List·Memᴰ·cases-cons as cases-cons, Memᴰ·cast as cast, Memᴰ·append-left as append-left, Memᴰ·append-right as append-right}
+use mathlib.Core.List.{List·Memᴰ·cases-cons as cases-cons, Memᴰ·append-left as append-left, Memᴰ·append-right as append-right}
 use mathlib.Core.List.{List·Memᴰ·append-cases as append-cases, List·Memᴰ·eq-of-singleton as eq-of-singleton}
 use Prim.Native.Nat.{ℕ, zero, suc, _+_, _-_, _*_, _^_, _%_, _≤_, _<_, min}
 use native.Mathlib.Omega.{arith}
@@ -16,7 +16,8 @@ use lib.Bits.{bitOr}
 use lib.Seq.{take-suc, take-suc-set, take-set-lt, drop-set-lt, take-take, getD-take, length-take-le, take-all}
 use Rattle.lists.specs.Lists.{has, ascending}
 use Rattle.lists.proofs.Ascending.{ascending-tail, ascending-above, ascending-once, ascending-same}
-use Rattle.lists.proofs.Lists.{getD-mem, map-at, map-by}
+use Rattle.lists.proofs.Lists.{getD-mem}
+use Rattle.lists.proofs.Within.{Within, within-both, within-map}
 use Rattle.lists.proofs.Parts.{taken-next, taken-end}
 use Rattle.lists.proofs.Once.{within-length}
 use Rattle.lists.proofs.Pairwise.{map-once}
@@ -65,7 +66,7 @@ pub before-next : (l : List ℕ) (k x : ℕ) → getD l k 0 < x → getD l (k + 
 before-next l k x h = subst (λ (j : ℕ). getD l j 0 < x) (let z : k ≡ k + 1 - 1 = omega arith in z) h
 
 -- lists with the same elements are sorted alike, and one with more is no shorter
-pub sorted-same : (xs ys : List ℕ) → ((z : ℕ) → Mem z xs → Mem z ys) → ((z : ℕ) → Mem z ys → Mem z xs) → sorted xs ≡ sorted ys
+pub sorted-same : (xs ys : List ℕ) → Within xs ys → Within ys xs → sorted xs ≡ sorted ys
 sorted-same xs ys f g = ascending-same (sorted xs) (sorted ys) (sorted-ascending xs) (sorted-ascending ys) (λ z m. sorted-by ys (f z (sorted-at xs m))) (λ z m. sorted-by xs (g z (sorted-at ys m)))
 
 -- a table that has room, or not
@@ -88,7 +89,7 @@ module _ {items : List ℕ} {count : ℕ} {xs : List ℕ} where
     | no l ↦ (k .counted ∙ min-eq-right (let z : 1025 ≤ length (sorted xs) = omega arith in z), omega arith)
   ]
 
-  pub kept-same : (ys : List ℕ) → Kept items count xs → ((z : ℕ) → Mem z xs → Mem z ys) → ((z : ℕ) → Mem z ys → Mem z xs) → Kept items count ys
+  pub kept-same : (ys : List ℕ) → Kept items count xs → Within xs ys → Within ys xs → Kept items count ys
   kept-same ys k f g = let e = sorted-same xs ys f g in
       record { long = k .long; counted = k .counted ∙ ap (λ (l : List ℕ). min (length l) 1025) e; stand = subst (λ (l : List ℕ). length l ≤ 1024 → take (length l) items ≡ l) e (k .stand) }
 
@@ -185,25 +186,13 @@ module _ (x : ℕ) (xs items : List ℕ) (count : ℕ) where
     unfolding sorted
     kept-more h k f = kept-few (length-set items count value ∙ w .long) (sym (ended h k)) (omega arith) (rw add-one (take-suc-set items count value (omega (arith, w .long))) ∙ sym (walking-end x items count room (sorted xs) i value w h k))
 
--- elements of one list that another has
-abbrev pub Within : List ℕ → List ℕ → Type 0
-Within xs ys = (z : ℕ) → Mem z xs → Mem z ys
-
+-- an element in front, and at the end of the first part
 module _ (ps qs : List ℕ) where
-  pub within-right : Within qs (ps ++ qs)
-  within-right z m = append-right ps m
-
-  pub within-both : (rs : List ℕ) → Within ps rs → Within qs rs → Within (ps ++ qs) rs
-  within-both rs f g z m = ⊎-elim (λ a. f z a) (λ b. g z b) (append-cases ps {t = qs} m)
-
   to-end : (v : ℕ) → Within (v ∷ (ps ++ qs)) ((ps ++ (v ∷ [])) ++ qs)
-  to-end v z m = ⊎-elim (λ e. append-left qs (append-right ps (here e))) (λ n. within-both ((ps ++ (v ∷ [])) ++ qs) (λ y a. append-left qs (append-left (v ∷ []) a)) (λ y b. append-right (ps ++ (v ∷ [])) b) z n) (cases-cons {l = ps ++ qs} m)
+  to-end v z m = ⊎-elim (λ e. append-left qs (append-right ps (here e))) (λ n. within-both ps qs ((ps ++ (v ∷ [])) ++ qs) (λ y a. append-left qs (append-left (v ∷ []) a)) (λ y b. append-right (ps ++ (v ∷ [])) b) z n) (cases-cons {l = ps ++ qs} m)
 
   from-end : (v : ℕ) → Within ((ps ++ (v ∷ [])) ++ qs) (v ∷ (ps ++ qs))
   from-end v z m = ⊎-elim (λ a. ⊎-elim (λ b. there (append-left qs b)) (λ b. here (eq-of-singleton b)) (append-cases ps {t = v ∷ []} a)) (λ b. there (append-right ps b)) (append-cases (ps ++ (v ∷ [])) {t = qs} m)
-
-within-map : (f : ℕ → ℕ) (xs ys : List ℕ) → Within xs ys → Within (map f xs) (map f ys)
-within-map f xs ys g z m = let r = map-at f xs m in cast (r .2) (map-by f (g (r .0) (r .1)))
 
 -- the table with each set of another, joined with one
 module _ (from : List ℕ) (size set : ℕ) (xs ys : List ℕ) (source : Kept from size xs) where

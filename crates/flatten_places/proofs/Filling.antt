@@ -11,6 +11,7 @@ use lib.ListN.{length, getD, set, take, length-append, length-set, List·getD-ap
 use lib.Seq.{getD-set-same, getD-set-other, getD-append-seam, take-suc-set}
 use Rattle.lists.proofs.Lists.{any-at}
 use Rattle.lists.proofs.Columns.{field-more}
+use Rattle.lists.proofs.Loops.{FilledTo, filled-to-none, filled-to-more}
 use Rattle.lists.proofs.Position.{position-some}
 use Rattle.lists.proofs.Pairwise.{once-getD}
 use Rattle.chart_records.specs.Chart.{Chart, transitionAt}
@@ -22,65 +23,35 @@ use Rattle.flatten_places.specs.Filling.{AutomatedTo, PairedTo}
 use Rattle.flatten_places.specs.declared.automaton.Automata.{Automata}
 use Rattle.flatten_places.specs.declared.pair.Pairs.{Pairs}
 
--- the first n elements are those of f
-abbrev pub FilledTo : (ℕ → ℕ) → List ℕ → ℕ → Type 0
-FilledTo f l n = (i : ℕ) → i < n → getD l i 0 ≡ f i
-
-pub filled-to-none : (f : ℕ → ℕ) (l : List ℕ) → FilledTo f l 0
-filled-to-none f l i h = absurd (omega arith)
-
-pub filled-to-more : (f : ℕ → ℕ) (l : List ℕ) (n v : ℕ) → FilledTo f l n → n < length l → v ≡ f n → FilledTo f (set l n v) (n + 1)
-filled-to-more f l n v F h e i k = elim (ℕ-discrete i n) [
-  | yes q ↦ ap (λ (x : ℕ). getD (set l n v) x 0) q ∙ getD-set-same l n v 0 h ∙ e ∙ ap f (sym q)
-  | no q ↦ getD-set-other l n i v 0 q ∙ F i (omega arith)
-]
-
--- the same of those below m, in a table of w places
-pub record FilledAmong (w m : ℕ) (f : ℕ → ℕ) (l : List ℕ) (n : ℕ) : Type 0 where
-  pub long : length l ≡ w
-  pub filled : (i : ℕ) → i < n → i < m → getD l i 0 ≡ f i
-
-pub filled-among-none : (w m : ℕ) (f : ℕ → ℕ) (l : List ℕ) → length l ≡ w → FilledAmong w m f l 0
-filled-among-none w m f l e = record { long = e; filled = λ i h k. absurd (omega arith) }
-
-pub filled-among-more : {w m : ℕ} {f : ℕ → ℕ} {l : List ℕ} {n v : ℕ} → FilledAmong w m f l n → n < w → (n < m → v ≡ f n) → FilledAmong w m f (set l n v) (n + 1)
-filled-among-more {w} {m} {f} {l} {n} {v} F h e = record {
-  long = length-set l n v ∙ F .long;
-  filled = λ i k j. elim (ℕ-discrete i n) [
-    | yes q ↦ ap (λ (x : ℕ). getD (set l n v) x 0) q ∙ getD-set-same l n v 0 (omega (arith, F .long)) ∙ e (omega arith) ∙ ap f (sym q)
-    | no q ↦ getD-set-other l n i v 0 q ∙ F .filled i (omega arith) j
-  ];
-}
-
 -- the columns of the first n transitions
 pub record ColumnedTo (c : Chart) (sources destinations exits entries : List ℕ) (n : ℕ) : Type 0 where
-  pub source : FilledTo (λ t. transitionAt c t .source) sources n
-  pub destination : FilledTo (λ t. transitionAt c t .destination) destinations n
-  pub exit : FilledTo (λ t. transitionAt c t .exit) exits n
-  pub entry : FilledTo (λ t. transitionAt c t .entry) entries n
+  pub source : FilledTo 64 (λ t. transitionAt c t .source) sources n
+  pub destination : FilledTo 64 (λ t. transitionAt c t .destination) destinations n
+  pub exit : FilledTo 64 (λ t. transitionAt c t .exit) exits n
+  pub entry : FilledTo 64 (λ t. transitionAt c t .entry) entries n
 
 pub columned-none : (c : Chart) (s d x e : List ℕ) → ColumnedTo c s d x e 0
-columned-none c s d x e = record { source = filled-to-none _ s; destination = filled-to-none _ d; exit = filled-to-none _ x; entry = filled-to-none _ e }
+columned-none c s d x e = record { source = filled-to-none 64 _ s; destination = filled-to-none 64 _ d; exit = filled-to-none 64 _ x; entry = filled-to-none 64 _ e }
 
 module _ (c : Chart) (s d x e : List ℕ) (n : ℕ) where
   pub columned-more : ColumnedTo c s d x e n → length s ≡ 64 → length d ≡ 64 → length x ≡ 64 → length e ≡ 64 → n < 64
       → {a b g h : ℕ} → a ≡ transitionAt c n .source → b ≡ transitionAt c n .destination → g ≡ transitionAt c n .exit → h ≡ transitionAt c n .entry
       → ColumnedTo c (set s n a) (set d n b) (set x n g) (set e n h) (n + 1)
   columned-more C ls ld lx le l p q u v = record {
-    source = filled-to-more _ s n _ (C .source) (omega arith) p;
-    destination = filled-to-more _ d n _ (C .destination) (omega arith) q;
-    exit = filled-to-more _ x n _ (C .exit) (omega arith) u;
-    entry = filled-to-more _ e n _ (C .entry) (omega arith) v;
+    source = filled-to-more 64 _ s n _ (C .source) (omega arith) (λ r. p);
+    destination = filled-to-more 64 _ d n _ (C .destination) (omega arith) (λ r. q);
+    exit = filled-to-more 64 _ x n _ (C .exit) (omega arith) (λ r. u);
+    entry = filled-to-more 64 _ e n _ (C .entry) (omega arith) (λ r. v);
   }
 
   pub columned-all : ColumnedTo c s d x e n → (m : ℕ) → m ≡ length (c .transitions) → m ≤ 64 → m ≤ n → Columned c (record { sources = s; destinations = d; exits = x; entries = e; count = m })
   columned-all C m k l h = record {
     count = k;
     few = omega arith;
-    source = λ t i. C .source t (omega arith);
-    destination = λ t i. C .destination t (omega arith);
-    exit = λ t i. C .exit t (omega arith);
-    entry = λ t i. C .entry t (omega arith);
+    source = λ t i. C .source t (omega arith) (omega arith);
+    destination = λ t i. C .destination t (omega arith) (omega arith);
+    exit = λ t i. C .exit t (omega arith) (omega arith);
+    entry = λ t i. C .entry t (omega arith) (omega arith);
   }
 
 -- the automata

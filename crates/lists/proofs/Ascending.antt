@@ -12,6 +12,7 @@ use Rattle.lists.specs.Lists.{ascending, range, below, keep}
 use Rattle.lists.proofs.Parts.{drop-next}
 use Rattle.lists.proofs.Bools.{and-l, and-r, both}
 use Rattle.lists.proofs.Below.{range-at}
+use Rattle.lists.proofs.Within.{Within}
 use Rattle.lists.proofs.Lists.{keep-at}
 use Rattle.lists.proofs.Once.{Once}
 
@@ -62,10 +63,10 @@ ascending-first : (x y : ℕ) (xs ys : List ℕ) → ascending (x ∷ xs) ≡ tr
 ascending-first x y xs ys h k m n =
     ⊎-elim (λ e. e) (λ a. ⊎-elim (λ e. sym e) (λ b. absurd (omega (arith, ascending-above y ys k a, ascending-above x xs h b))) (cases-cons n)) (cases-cons m)
 
-ascending-rest : (x y : ℕ) (xs ys : List ℕ) → ascending (x ∷ xs) ≡ true → x ≡ y → ((z : ℕ) → Mem z (x ∷ xs) → Mem z (y ∷ ys)) → (z : ℕ) → Mem z xs → Mem z ys
+ascending-rest : (x y : ℕ) (xs ys : List ℕ) → ascending (x ∷ xs) ≡ true → x ≡ y → Within (x ∷ xs) (y ∷ ys) → Within xs ys
 ascending-rest x y xs ys h e f z m = ⊎-elim (λ q. absurd (omega (arith, ascending-above x xs h m))) (λ n. n) (cases-cons (f z (there m)))
 
-pub ascending-same : (xs ys : List ℕ) → ascending xs ≡ true → ascending ys ≡ true → ((z : ℕ) → Mem z xs → Mem z ys) → ((z : ℕ) → Mem z ys → Mem z xs) → xs ≡ ys
+pub ascending-same : (xs ys : List ℕ) → ascending xs ≡ true → ascending ys ≡ true → Within xs ys → Within ys xs → xs ≡ ys
 ascending-same [] [] h k f g = refl
 ascending-same [] (y ∷ ys) h k f g = absurd (not-nil (g y (here refl)))
 ascending-same (x ∷ xs) [] h k f g = absurd (not-nil (f x (here refl)))

@@ -3,6 +3,7 @@ pub mod Ascending
 pub mod Below
 pub mod Bits
 pub mod Bools
+pub mod Columns
 pub mod Concat
 pub mod Images
 pub mod Lists
@@ -11,4 +12,4 @@ pub mod Once
 pub mod Pairwise
 pub mod Parts
 pub mod Position
-pub mod Columns
+pub mod Within

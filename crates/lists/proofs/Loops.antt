@@ -4,9 +4,10 @@ use mathlib.Core.Bool.{Bool, true, false, _&&_}
 use mathlib.Core.List.{List, [], _∷_, _++_, append-assoc}
 use Prim.Native.Nat.{ℕ, _+_, _≤_, _<_, suc, _-_}
 use native.Mathlib.Omega.{arith}
+use native.Mathlib.Decide.{ℕ-discrete}
 use native.Mathlib.Numerals.{add-one}
 use lib.ListN.{length, getD, take, drop, set, length-set, drop-of-length-le, replicate, length-append}
-use lib.Seq.{take-all, take-suc, take-suc-set, drop-cons, set-append-seam}
+use lib.Seq.{take-all, take-suc, take-suc-set, drop-cons, set-append-seam, getD-set-same, getD-set-other}
 use Rattle.lists.specs.Lists.{all, padded}
 
 -- one more element of a list that has those of `whole` in front
@@ -74,3 +75,29 @@ padded-more {A} w d l v {i} e h =
     ∙ set-append-seam l d (replicate (w - (i + 1)) d) v
     ∙ sym (append-assoc l (v ∷ []) (replicate (w - (i + 1)) d))
     ∙ ap (λ (k : ℕ). (l ++ (v ∷ [])) ++ replicate k d) (let z : w - (i + 1) ≡ w - length (l ++ (v ∷ [])) = omega (arith, length-append l (v ∷ [])) in z)
+
+-- the elements before n that lie below m are f's
+abbrev pub FilledTo : ℕ → (ℕ → ℕ) → List ℕ → ℕ → Type 0
+FilledTo m f l n = (i : ℕ) → i < n → i < m → getD l i 0 ≡ f i
+
+module _ (m : ℕ) (f : ℕ → ℕ) (l : List ℕ) where
+  pub filled-to-none : FilledTo m f l 0
+  filled-to-none i h k = absurd (omega arith)
+
+  pub filled-to-more : (n v : ℕ) → FilledTo m f l n → n < length l → (n < m → v ≡ f n) → FilledTo m f (set l n v) (n + 1)
+  filled-to-more n v F h e i k j = elim (ℕ-discrete i n) [
+    | yes q ↦ ap (λ (x : ℕ). getD (set l n v) x 0) q ∙ getD-set-same l n v 0 h ∙ e (omega arith) ∙ ap f (sym q)
+    | no q ↦ getD-set-other l n i v 0 q ∙ F i (omega arith) j
+  ]
+
+-- the same, in a list of w elements
+pub record FilledAmong (w m : ℕ) (f : ℕ → ℕ) (l : List ℕ) (n : ℕ) : Type 0 where
+  pub long : length l ≡ w
+  pub filled : FilledTo m f l n
+
+pub filled-among-none : (w m : ℕ) (f : ℕ → ℕ) (l : List ℕ) → length l ≡ w → FilledAmong w m f l 0
+filled-among-none w m f l e = record { long = e; filled = filled-to-none m f l }
+
+pub filled-among-more : {w m : ℕ} {f : ℕ → ℕ} {l : List ℕ} {n v : ℕ} → FilledAmong w m f l n → n < w → (n < m → v ≡ f n) → FilledAmong w m f (set l n v) (n + 1)
+filled-among-more {w} {m} {f} {l} {n} {v} F h e =
+    record { long = length-set l n v ∙ F .long; filled = filled-to-more m f l n v (F .filled) (omega (arith, F .long)) e }

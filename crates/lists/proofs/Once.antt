@@ -11,6 +11,7 @@ use lib.Dec.{eqb}
 use lib.ListN.{length}
 use Rattle.lists.specs.Lists.{range, below, keep, any, elem, distinct}
 use Rattle.lists.proofs.Bools.{parts, clash, fails, and-r, both, not-yes, same}
+use Rattle.lists.proofs.Within.{Within}
 use Rattle.lists.proofs.Lists.{elem-at, elem-by, elem-more, keep-at, map-by}
 use Rattle.lists.proofs.Below.{range-at}
 
@@ -64,7 +65,7 @@ partners-length {A} {B} R (x ∷ xs) ys o f g =
           ⊎-elim (λ e. absurd (o .0 (cast (g x z (p .0) (p .2) (subst (R z) e (q .2))) m))) (λ n. (q .0, n, q .2)) (r .2 (q .0) (q .1))) g,
     )
 
-pub within-length : {A : Type 0} (xs ys : List A) → Once xs → ((x : A) → Mem x xs → Mem x ys) → length xs ≤ length ys
+pub within-length : {A : Type 0} (xs ys : List A) → Once xs → Within xs ys → length xs ≤ length ys
 within-length xs ys o f = partners-length (λ x y. x ≡ y) xs ys o (λ x m. (x, f x m, refl)) (λ x z y e k. e ∙ sym k)
 
 -- distinct: no number twice

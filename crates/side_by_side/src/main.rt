@@ -51,19 +51,12 @@ fn run(file: &[u8], bytes: &[u8], lines: &[u8]) {
     }
 }
 
-// The script on the chart and its network, of so many bytes. A length that flattening answers is never past the buffer.
-fn run_both(file: &[u8], buffer: &[u8], length: usize, lines: &[u8]) {
-    if length <= buffer.len() {
-        run(file, &buffer[0..length], lines);
-    }
-}
-
 // The script on the chart and its network, or why there is no network.
 fn run_flattened(file: &[u8], lines: &[u8]) {
     let mut buffer = io::large_buffer();
     let flattened = flattener::operation::flatten(file, &mut buffer);
     match flattened {
-        Flattened::Length(length) => run_both(file, &buffer, length, lines),
+        Flattened::Length(length) => run(file, &buffer[0..length], lines),
         Flattened::Refused(k) => console::sentence::refusal(k),
     }
 }

@@ -5,7 +5,7 @@ use Rattle.chart_records.specs.Chart.{Chart}
 use Rattle.flattening.specs.Flatten.{number, departure}
 use Rattle.flatten_places.specs.Tables.{Chartered, ColumnOf}
 use Rattle.flatten_tables.specs.Numbering.{Numbered}
-use Rattle.flatten_places.proofs.Filling.{FilledAmong, filled-among-none, filled-among-more}
+use Rattle.lists.proofs.Loops.{FilledAmong, filled-among-none, filled-among-more}
 use borrow.Author.Needs.{needs}
 use native.Mathlib.Omega.{arith}
 use Rattle.flatten_tables.proofs.number.departures.Statement.{statement}

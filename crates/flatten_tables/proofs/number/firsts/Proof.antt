@@ -5,7 +5,7 @@ use mathlib.Core.Path.{_≡_, refl, _∙_}
 use Rattle.chart_records.specs.Chart.{Chart}
 use Rattle.flattening.specs.Flatten.{idle, number}
 use Rattle.flatten_tables.specs.Numbering.{Numbered}
-use Rattle.flatten_places.proofs.Filling.{FilledAmong, filled-among-none, filled-among-more}
+use Rattle.lists.proofs.Loops.{FilledAmong, filled-among-none, filled-among-more}
 use Rattle.flatten_places.proofs.Placing.{state-column}
 use Rattle.flatten_tables.proofs.Slots.{found-idle}
 use borrow.Author.Needs.{needs}

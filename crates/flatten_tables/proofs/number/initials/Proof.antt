@@ -8,7 +8,7 @@ use Rattle.flattening.specs.Flatten.{number, initialPlace}
 use Rattle.flattening.proofs.Automata.{Region, region-at}
 use Rattle.flatten_places.specs.Tables.{Chartered}
 use Rattle.flatten_tables.specs.Numbering.{Numbered, startSet}
-use Rattle.flatten_places.proofs.Filling.{FilledAmong, filled-among-none, filled-among-more}
+use Rattle.lists.proofs.Loops.{FilledAmong, filled-among-none, filled-among-more}
 use Rattle.flatten_places.proofs.Placing.{state-column}
 use Rattle.flatten_tables.proofs.Slots.{rules-of}
 use borrow.Author.Needs.{needs}
