@@ -36,10 +36,10 @@ const IMPLEMENTATIONS: &[Implementation] = &[
     },
 ];
 
-/// About how long one measurement takes at least, and how many there are. The shortest counts: a
-/// short one is seldom interrupted by other programs.
+/// About how long one measurement takes at least, and how many rounds of them there are. The
+/// shortest counts: a short one is seldom interrupted by other programs.
 const LEAST_TIME: Duration = Duration::from_millis(1);
-const MEASUREMENTS: usize = 50;
+const ROUNDS: usize = 200;
 
 fn main() {
     let charts =
@@ -62,12 +62,9 @@ fn time_operations(charts: &[(&str, Chart)]) {
         for (size, requests) in &sizes {
             let request = &requests[operation];
             print!("{:<15}{size:<10}{:>8}", operation_name(request), request.file().len());
-            let times = IMPLEMENTATIONS.iter().map(|implementation| {
-                time(|| {
-                    let _ = black_box((implementation.answer)(black_box(request)));
-                })
-            });
-            print_times(times.collect());
+            print_times(&times(IMPLEMENTATIONS.len(), |number| {
+                let _ = black_box((IMPLEMENTATIONS[number].answer)(black_box(request)));
+            }));
             println!();
         }
     }
@@ -82,22 +79,19 @@ fn time_flattening<'a>(charts: impl Iterator<Item = (&'a str, Chart)>) {
         let network = network_of(&chart).map_or(Vec::new(), |network| network.write());
         let mut buffer = vec![0; network.len()];
         print!("{size:<15}{:>8}{:>10}", file.len(), network.len());
-        let flatten_times: Vec<f64> = IMPLEMENTATIONS
-            .iter()
-            .map(|implementation| {
-                time(|| {
-                    let _ = (implementation.flatten)(black_box(&file), black_box(&mut buffer));
-                })
-            })
-            .collect();
-        let last = flatten_times[flatten_times.len() - 1];
+        let all = times(IMPLEMENTATIONS.len() + 1, |number| match IMPLEMENTATIONS.get(number) {
+            Some(implementation) => {
+                let _ = (implementation.flatten)(black_box(&file), black_box(&mut buffer));
+            }
+            None => black_box(&mut buffer).copy_from_slice(black_box(&network)),
+        });
+        let (copy, flatten_times) = all.split_last().expect("there is the copy");
         print_times(flatten_times);
         if network.is_empty() {
             println!("{:>15}{:>8}", "-", "-");
-            continue;
+        } else {
+            println!("{copy:>15.0}{:>8.1}", flatten_times[flatten_times.len() - 1] / copy);
         }
-        let copy = time(|| black_box(&mut buffer).copy_from_slice(black_box(&network)));
-        println!("{copy:>15.0}{:>8.1}", last / copy);
     }
 }
 
@@ -111,26 +105,36 @@ fn heading() -> String {
 }
 
 /// The implementations' times, each but the first with its ratio to the first.
-fn print_times(times: Vec<f64>) {
+fn print_times(times: &[f64]) {
     print!("{:>15.0}", times[0]);
     for time in &times[1..] {
         print!("{time:>15.0}{:>8.2}", time / times[0]);
     }
 }
 
-/// The shortest mean time of one call, in nanoseconds.
-fn time(mut call: impl FnMut()) -> f64 {
-    let mut time_of = |calls: u32| {
+/// The shortest mean time of one call of each of some, in nanoseconds; `call` makes a call of the
+/// one with that number. They take turns, so that a machine whose speed changes favours none.
+fn times(count: usize, mut call: impl FnMut(usize)) -> Vec<f64> {
+    let mut time_of = |number: usize, calls: u32| {
         let start = Instant::now();
         for _ in 0..calls {
-            call();
+            call(number);
         }
         start.elapsed()
     };
-    let calls = (LEAST_TIME.as_nanos() / time_of(1).as_nanos().max(1)).max(1) as u32;
-    (0..MEASUREMENTS)
-        .map(|_| time_of(calls).as_nanos() as f64 / f64::from(calls))
-        .fold(f64::INFINITY, f64::min)
+    let mut calls_within_least_time = |number: usize| {
+        let first = time_of(number, 1).min(time_of(number, 1));
+        (LEAST_TIME.as_nanos() / first.as_nanos().max(1)).max(1) as u32
+    };
+    let calls: Vec<u32> = (0..count).map(&mut calls_within_least_time).collect();
+    let mut shortest = vec![f64::INFINITY; count];
+    for _ in 0..ROUNDS {
+        for (number, shortest) in shortest.iter_mut().enumerate() {
+            let mean = time_of(number, calls[number]).as_nanos() as f64 / f64::from(calls[number]);
+            *shortest = shortest.min(mean);
+        }
+    }
+    shortest
 }
 
 /// A chart of 48 states and up to 64 transitions in which both machines can step and wait.
