@@ -189,7 +189,9 @@ module _ (x : ℕ) (xs items : List ℕ) (count : ℕ) where
 -- an element in front, and at the end of the first part
 module _ (ps qs : List ℕ) where
   to-end : (v : ℕ) → Within (v ∷ (ps ++ qs)) ((ps ++ (v ∷ [])) ++ qs)
-  to-end v z m = ⊎-elim (λ e. append-left qs (append-right ps (here e))) (λ n. within-both ps qs ((ps ++ (v ∷ [])) ++ qs) (λ y a. append-left qs (append-left (v ∷ []) a)) (λ y b. append-right (ps ++ (v ∷ [])) b) z n) (cases-cons {l = ps ++ qs} m)
+  to-end v z m =
+      let others = within-both ps qs ((ps ++ (v ∷ [])) ++ qs) (λ y a. append-left qs (append-left (v ∷ []) a)) (λ y b. append-right (ps ++ (v ∷ [])) b) in
+      ⊎-elim (λ e. append-left qs (append-right ps (here e))) (λ n. others z n) (cases-cons {l = ps ++ qs} m)
 
   from-end : (v : ℕ) → Within ((ps ++ (v ∷ [])) ++ qs) (v ∷ (ps ++ qs))
   from-end v z m = ⊎-elim (λ a. ⊎-elim (λ b. there (append-left qs b)) (λ b. here (eq-of-singleton b)) (append-cases ps {t = v ∷ []} a)) (λ b. there (append-right ps b)) (append-cases (ps ++ (v ∷ [])) {t = qs} m)

@@ -7,7 +7,7 @@ use native.Mathlib.Omega.{arith}
 use native.Mathlib.Decide.{ℕ-discrete}
 use borrow.Author.Tests.{eqb-true}
 use lib.Dec.{eqb}
-use lib.ListN.{length, getD, set, take, length-append, length-set, List·getD-append}
+use lib.ListN.{length, getD, set, take, length-append, List·getD-append}
 use lib.Seq.{getD-set-same, getD-set-other, getD-append-seam, take-suc-set}
 use Rattle.lists.proofs.Lists.{any-at}
 use Rattle.lists.proofs.Columns.{field-more}
@@ -31,7 +31,12 @@ pub record ColumnedTo (c : Chart) (sources destinations exits entries : List ℕ
   pub entry : FilledTo 64 (λ t. transitionAt c t .entry) entries n
 
 pub columned-none : (c : Chart) (s d x e : List ℕ) → ColumnedTo c s d x e 0
-columned-none c s d x e = record { source = filled-to-none 64 _ s; destination = filled-to-none 64 _ d; exit = filled-to-none 64 _ x; entry = filled-to-none 64 _ e }
+columned-none c s d x e = record {
+  source = filled-to-none 64 _ s;
+  destination = filled-to-none 64 _ d;
+  exit = filled-to-none 64 _ x;
+  entry = filled-to-none 64 _ e;
+}
 
 module _ (c : Chart) (s d x e : List ℕ) (n : ℕ) where
   pub columned-more : ColumnedTo c s d x e n → length s ≡ 64 → length d ≡ 64 → length x ≡ 64 → length e ≡ 64 → n < 64

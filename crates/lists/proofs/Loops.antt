@@ -98,6 +98,7 @@ pub record FilledAmong (w m : ℕ) (f : ℕ → ℕ) (l : List ℕ) (n : ℕ) : 
 pub filled-among-none : (w m : ℕ) (f : ℕ → ℕ) (l : List ℕ) → length l ≡ w → FilledAmong w m f l 0
 filled-among-none w m f l e = record { long = e; filled = filled-to-none m f l }
 
-pub filled-among-more : {w m : ℕ} {f : ℕ → ℕ} {l : List ℕ} {n v : ℕ} → FilledAmong w m f l n → n < w → (n < m → v ≡ f n) → FilledAmong w m f (set l n v) (n + 1)
+pub filled-among-more : {w m : ℕ} {f : ℕ → ℕ} {l : List ℕ} {n v : ℕ} → FilledAmong w m f l n → n < w → (n < m → v ≡ f n)
+    → FilledAmong w m f (set l n v) (n + 1)
 filled-among-more {w} {m} {f} {l} {n} {v} F h e =
     record { long = length-set l n v ∙ F .long; filled = filled-to-more m f l n v (F .filled) (omega (arith, F .long)) e }

@@ -1,6 +1,7 @@
 -- Lists all of whose elements another has.
 use mathlib.Core.Logic.{⊎-elim}
-use mathlib.Core.List.{List, _++_, map, List·Memᴰ as Mem, Memᴰ·cast as cast, Memᴰ·append-right as append-right, List·Memᴰ·append-cases as append-cases}
+use mathlib.Core.List.{List, _++_, map, List·Memᴰ as Mem, Memᴰ·cast as cast}
+use mathlib.Core.List.{Memᴰ·append-right as append-right, List·Memᴰ·append-cases as append-cases}
 use Rattle.lists.proofs.Lists.{map-at, map-by}
 
 abbrev pub Within : {A : Type 0} → List A → List A → Type 0

@@ -117,7 +117,8 @@ module _ (file : List ℕ) where
     refused-leaves z = (subst (FindingFits file) (sym e) tt, subst (ClearedIfRefused offsets) (sym e) z)
 
   -- a file that is right keeps its table
-  pub right-leaves : (offsets : List ℕ) {v : Finding} {k : Counts} → v ≡ Fd.Counts k → 13 ≤ length file → FindingFits file v × ClearedIfRefused offsets v
+  pub right-leaves : (offsets : List ℕ) {v : Finding} {k : Counts} → v ≡ Fd.Counts k → 13 ≤ length file
+      → FindingFits file v × ClearedIfRefused offsets v
   right-leaves offsets e l = (subst (FindingFits file) (sym e) l, subst (ClearedIfRefused offsets) (sym e) tt)
 
   -- what the check of a file says of its network

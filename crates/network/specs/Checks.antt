@@ -1,4 +1,4 @@
--- What the check of a file answers, and the reader of its header.
+-- What the check of a file answers, and what it leaves in the table of offsets.
 use Prim.Native.Nat.{ℕ, _-_, _≤_}
 use lib.ListN.{length, replicate}
 use mathlib.Core.Path.{_≡_}

@@ -90,7 +90,8 @@ fn refuse(number: u8, offsets: &mut [u32; 1024]) -> Finding
 
 // A whole file. The offset of each edge is put down, counted from the sixth byte on; a file that is refused leaves all 0.
 pub fn check(file: &[u8], offsets: &mut [u32; 1024]) -> Finding
-    ensures means { λ r. ⌜ (length (now (offsets .entry)) ≡ 1024 → CheckedAs (onward (now (file .entry)) 5) (now (offsets .exit)) (networkOf (now (file .entry))) r) ⌝ }
+    ensures means { λ r. ⌜ (length (now (offsets .entry)) ≡ 1024
+        → CheckedAs (onward (now (file .entry)) 5) (now (offsets .exit)) (networkOf (now (file .entry))) r) ⌝ }
     ensures within { λ r. ⌜ FindingFits (now (file .entry)) r ⌝ }
     ensures cleared { λ r. ⌜ ClearedIfRefused (now (offsets .exit)) r ⌝ }
 {
