@@ -58,13 +58,19 @@ fn is_configuration(rest: &[u8], counts: Counts, tree: Tree, given: Configuratio
     let active = given.active;
     let variables = given.variables;
     let clocks = given.clocks;
-    let timed = counts.clocks as usize;
-    let one_tree = is_tree(tree, active);
-    let variables_zero = clocks::clock::zeros_past(counts.variables as usize, variables);
-    let within = clocks::clock::in_limit(timed, clocks);
-    let clocks_zero = clocks::clock::zero_past(timed, clocks);
-    let kept = bounds_kept(rest, counts, active, clocks);
-    one_tree & (variables_zero & (within & (clocks_zero & kept)))
+    if !is_tree(tree, active) {
+        return false;
+    }
+    if !clocks::clock::zeros_past(counts.variables as usize, variables) {
+        return false;
+    }
+    if !clocks::clock::in_limit(counts.clocks as usize, clocks) {
+        return false;
+    }
+    if !clocks::clock::zero_past(counts.clocks as usize, clocks) {
+        return false;
+    }
+    bounds_kept(rest, counts, active, clocks)
 }
 
 fn refuse(k: u8, given: Configuration) -> Outcome

@@ -1,18 +1,17 @@
-use mathlib.Core.Path.{refl, sym, ap, ap₂, _∙_}
-use mathlib.Core.Bool.{_&&_}
-use Prim.Native.Nat.{ℕ}
-use Rattle.clocks.specs.Clocks.{inLimit, zeroPast, zerosPast}
+use mathlib.Core.Path.{refl, sym, _∙_}
+use borrow.Author.Tests.{not-true, not-false}
 use Rattle.chart_records.specs.Chart.{stateAt, states}
 use Rattle.chart_moves.specs.Machine.{isConfiguration, boundsKept}
 use borrow.Author.Needs.{needs}
 use Rattle.chart_machine.proofs.operation.is_configuration.Statement.{statement}
 use Rattle.chart_machine.proofs.operation.is_configuration.Tie as tie
 
-cast-timed : tie.Need-cast-timed
-cast-timed c = search needs
-
 is-tree-requires : tie.Need-is-tree-requires
 is-tree-requires c κs = search needs
+
+returns : tie.Need-returns
+unfolding isConfiguration
+returns c = λ k G. rw (sym (c .before .is-tree .ensures k (c .before .before .before .before .before .before .args .given) (G .tabled) (G .parents) refl) ∙ not-true _ (c .if1 .taken))
 
 cast-zeros-past : tie.Need-cast-zeros-past
 cast-zeros-past c = search needs
@@ -20,37 +19,110 @@ cast-zeros-past c = search needs
 zeros-past-requires : tie.Need-zeros-past-requires
 zeros-past-requires c κs = search needs
 
+returns-2 : tie.Need-returns-2
+unfolding isConfiguration
+returns-2 c =
+    let place-1 = c .before .before .before in
+    let if1 = place-1 .if1 in
+    let is-tree = place-1 .before .is-tree in
+    let args = place-1 .before .before .before .before .before .before .args in
+    λ k G. rw (
+      sym (is-tree .ensures k (args .given) (G .tabled) (G .parents) refl) ∙ not-false _ (if1 .left),
+      G .stated .variables,
+      sym (c .before .zeros-past .ensures) ∙ not-true _ (c .if2 .taken),
+    )
+
+cast-in-limit : tie.Need-cast-in-limit
+cast-in-limit c = search needs
+
 in-limit-requires : tie.Need-in-limit-requires
 in-limit-requires c κs = search needs
+
+returns-3 : tie.Need-returns-3
+unfolding isConfiguration
+returns-3 c =
+    let place-1 = c .before .before .before in
+    let if2 = place-1 .if2 in
+    let zeros-past = place-1 .before .zeros-past in
+    let place-2 = place-1 .before .before .before in
+    let if1 = place-2 .if1 in
+    let is-tree = place-2 .before .is-tree in
+    let args = place-2 .before .before .before .before .before .before .args in
+    λ k G. rw (
+      sym (is-tree .ensures k (args .given) (G .tabled) (G .parents) refl) ∙ not-false _ (if1 .left),
+      G .stated .variables,
+      sym (zeros-past .ensures) ∙ not-false _ (if2 .left),
+      G .stated .clocks,
+      sym (c .before .in-limit .ensures) ∙ not-true _ (c .if3 .taken),
+    )
+
+cast-zero-past : tie.Need-cast-zero-past
+cast-zero-past c = search needs
 
 zero-past-requires : tie.Need-zero-past-requires
 zero-past-requires c κs = search needs
 
+returns-4 : tie.Need-returns-4
+unfolding isConfiguration
+returns-4 c =
+    let place-1 = c .before .before .before in
+    let if3 = place-1 .if3 in
+    let in-limit = place-1 .before .in-limit in
+    let place-2 = place-1 .before .before .before in
+    let if2 = place-2 .if2 in
+    let zeros-past = place-2 .before .zeros-past in
+    let place-3 = place-2 .before .before .before in
+    let if1 = place-3 .if1 in
+    let is-tree = place-3 .before .is-tree in
+    let args = place-3 .before .before .before .before .before .before .args in
+    λ k G. rw (
+      sym (is-tree .ensures k (args .given) (G .tabled) (G .parents) refl) ∙ not-false _ (if1 .left),
+      G .stated .variables,
+      sym (zeros-past .ensures) ∙ not-false _ (if2 .left),
+      G .stated .clocks,
+      sym (in-limit .ensures) ∙ not-false _ (if3 .left),
+      sym (c .before .zero-past .ensures) ∙ not-true _ (c .if4 .taken),
+    )
+
 bounds-kept-requires : tie.Need-bounds-kept-requires
 bounds-kept-requires c κs = search needs
 
-returns : tie.Need-returns
+returns-5 : tie.Need-returns-5
 unfolding isConfiguration boundsKept stateAt states
-returns c = λ k G. let z = c .before in
-    let l = z .before in
-    let v = l .before in
-    let t = v .before .before in
-    let σ = t .before .before .before .before .before .before .args .given in
-    ap₂ _&&_ (t .is-tree .ensures k σ (G .tabled) (G .parents) refl)
-    (ap₂ _&&_ (v .zeros-past .ensures ∙ ap (λ (m : ℕ). zerosPast m (σ .variables)) (sym (G .stated .variables)))
-    (ap₂ _&&_ (l .in-limit .ensures ∙ ap (λ (m : ℕ). inLimit m (σ .clocks)) (sym (G .stated .clocks)))
-    (ap₂ _&&_ (z .zero-past .ensures ∙ ap (λ (m : ℕ). zeroPast m (σ .clocks)) (sym (G .stated .clocks)))
-    (c .bounds-kept .ensures k σ (G .stated) refl refl))))
+returns-5 c =
+    let place-1 = c .before .before .before .before in
+    let if3 = place-1 .if3 in
+    let in-limit = place-1 .before .in-limit in
+    let place-2 = place-1 .before .before .before in
+    let if2 = place-2 .if2 in
+    let zeros-past = place-2 .before .zeros-past in
+    let place-3 = place-2 .before .before .before in
+    let if1 = place-3 .if1 in
+    let is-tree = place-3 .before .is-tree in
+    let args = place-3 .before .before .before .before .before .before .args in
+    λ k G. rw (
+      sym (is-tree .ensures k (args .given) (G .tabled) (G .parents) refl) ∙ not-false _ (if1 .left),
+      G .stated .variables,
+      sym (zeros-past .ensures) ∙ not-false _ (if2 .left),
+      G .stated .clocks,
+      sym (in-limit .ensures) ∙ not-false _ (if3 .left),
+      sym (c .before .before .zero-past .ensures) ∙ not-false _ (c .before .if4 .left),
+    ) (c .bounds-kept .ensures k (args .given) (G .stated) refl refl)
 
 pub is-configuration-spec : {M : Type 1} → statement M
 is-configuration-spec =
     tie.close
     (tie.spec
-    cast-timed
     is-tree-requires
+    returns
     cast-zeros-past
     zeros-past-requires
+    returns-2
+    cast-in-limit
     in-limit-requires
+    returns-3
+    cast-zero-past
     zero-past-requires
+    returns-4
     bounds-kept-requires
-    returns)
+    returns-5)
