@@ -86,6 +86,7 @@ fn refused_file(k: u8) -> CheckedFile
     CheckedFile {
         verdict: Verdict::Refused(k),
         counts: Counts {
+            version: 0,
             states: 0,
             clocks: 0,
             variables: 0,

@@ -54,7 +54,14 @@ fn read_transition(s: &[u8], at: usize, counts: Counts) -> TransitionRead
     let ByteRead::Value(_, at4) = e else {
         return no_transition(reading::field::byte_fault(e));
     };
-    let l = labels::label::read_label(s, at4, counts.clocks, counts.variables, channels);
+    let l = labels::label::read_label(
+        s,
+        at4,
+        counts.version,
+        counts.clocks,
+        counts.variables,
+        channels,
+    );
     let LabelRead::Label(label, next) = l else {
         return no_transition(labels::label::label_fault(l));
     };

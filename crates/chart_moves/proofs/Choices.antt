@@ -12,8 +12,7 @@ use lib.ListN.{length, getD, take}
 use Rattle.lists.specs.Lists.{below}
 use Rattle.reading.specs.Reading.{got}
 use Rattle.reading.specs.Places.{onward}
-use Rattle.labels.specs.Guard.{limits}
-use Rattle.labels.specs.Label.{Label, body, guardsHold, receives}
+use Rattle.labels.specs.Label.{limits, Label, body, guardsHold, receives}
 use Rattle.steps.specs.Moves.{known, noneFits, maximal, variablesAfter, clocksAfter}
 use Rattle.steps.specs.Cases.{member, caseOf, caseAllows}
 use Rattle.steps.specs.declared.step.Member.{Member}
@@ -47,8 +46,8 @@ module _ {rest : List ℕ} {n : Counts} {offsets : List ℕ} {c : Chart} (L : La
 
 -- the body of a transition's label, at its place
 pub body-here : {rest : List ℕ} {n : Counts} {offsets : List ℕ} {c : Chart} → Laid rest n offsets c → (t : ℕ) → t < n .transitions → {p : ℕ} → p ≡ getD offsets t 0 + 9
-    → (u : List ℕ) × (body (limits (n .clocks) (n .variables)) (onward rest p) ≡ got (transitionAt c t .label .body) u)
-body-here {rest} {n} L t h e = let b = laid-parts L t h .content in (b .0, ap (λ (p : ℕ). body (limits (n .clocks) (n .variables)) (onward rest p)) e ∙ b .1)
+    → (u : List ℕ) × (body (limits (n .version) (n .clocks) (n .variables)) (onward rest p) ≡ got (transitionAt c t .label .body) u)
+body-here {rest} {n} L t h e = let b = laid-parts L t h .content in (b .0, ap (λ (p : ℕ). body (limits (n .version) (n .clocks) (n .variables)) (onward rest p)) e ∙ b .1)
 
 -- whether a transition is active, by its source, its guards and what is completed
 module _ (c : Chart) (σ : Configuration) (t : Transition) {s : ℕ} (e : s ≡ t .source) {a : Bool} (p : a ≡ getD (σ .active) s false) where

@@ -8,8 +8,8 @@ use Prim.Native.Nat.{ℕ, _+_, _<_}
 use borrow.Author.Tests.{lt-ltb, not-true}
 use lib.Dec.{ltb}
 use Rattle.lists.specs.Lists.{all}
-use Rattle.labels.specs.Guard.{Update, limits}
-use Rattle.labels.specs.Label.{Label}
+use Rattle.labels.specs.Update.{Update, formOf, writes}
+use Rattle.labels.specs.Label.{limits, Label}
 use Rattle.clocks.specs.Clocks.{inLimit, zeroPast, zerosPast}
 use Rattle.lists.proofs.Bools.{parts, clash, fails, and-l, and-r, both, or-l, or-cases, same, not-yes}
 use Rattle.lists.proofs.Lists.{all-at, all-by, any-at, map-at, map-by}
@@ -118,10 +118,10 @@ module _ (c : Chart) (passed : Passed c) (ranges : Ranges c) (σ : Configuration
       past : zeroPast (c .clocks) (σ .clocks) ≡ true
       past = search parts
 
-      assigned : (l : Label) → Mem l labels → (u : Update) → Mem u (l .body .updates) → u .target < c .variables
+      assigned : (l : Label) → Mem l labels → (u : Update) → Mem u (l .body .updates) → (v : ℕ) → Mem v (writes (formOf u)) → v < c .variables
       assigned l m u k =
           let r = map-at (λ (t : Transition). t .label) (map (transitionAt c) ts) m in
           let j = map-at (transitionAt c) ts (r .1) in
-          updates-known (limits (c .clocks) (c .variables)) _ l
-          (subst (LabelRange (limits (c .clocks) (c .variables)) (c .rendezvous + c .broadcasts)) (sym (r .2 ∙ ap (λ (t : Transition). t .label) (j .2)))
+          updates-known (limits (c .version) (c .clocks) (c .variables)) _ l
+          (subst (LabelRange (limits (c .version) (c .clocks) (c .variables)) (c .rendezvous + c .broadcasts)) (sym (r .2 ∙ ap (λ (t : Transition). t .label) (j .2)))
           (ranges .of-transition (transitionAt c (j .0)) (transition-mem c (j .0) (together .each-known (j .0) (j .1))) .label-known)) u k

@@ -58,6 +58,7 @@ fn variables_after(
         let next = labels::label::assigned(
             rest,
             body,
+            counts.version,
             counts.clocks,
             counts.variables,
             old,

@@ -10,7 +10,7 @@ use lib.Dec.{ltb, eqb}
 use lib.ListN.{length, drop, length-drop}
 use Rattle.reading.specs.Answer.{done}
 use Rattle.reading.specs.Reading.{Read, got, fault, length-fault, range-fault, byte, byte2, recorded}
-use Rattle.labels.specs.Guard.{Limits, limits}
+use Rattle.labels.specs.Label.{Limits, limits}
 use Rattle.lists.proofs.Bools.{parts, both, or-cases}
 use Rattle.lists.proofs.Lists.{getD-mem}
 use Rattle.reading.proofs.Answer.{unless-at, then-at as then-at-answer}
@@ -91,7 +91,7 @@ pub record Ranges (c : Chart) : Type 0 where
   pub exits-few : c .exits ≤ 8
   pub transitions-few : length (c .transitions) ≤ 64
   pub of-state : (s : ℕ) → s < size c → StateRange (c .clocks) (c .entries) (c .exits) (stateAt c s)
-  pub of-transition : (t : Transition) → Mem t (c .transitions) → TransitionRange (size c) (c .entries) (c .exits) (limits (c .clocks) (c .variables)) (c .rendezvous + c .broadcasts) 65523 t
+  pub of-transition : (t : Transition) → Mem t (c .transitions) → TransitionRange (size c) (c .entries) (c .exits) (limits (c .version) (c .clocks) (c .variables)) (c .rendezvous + c .broadcasts) 65523 t
 
 -- the counts that the header gives
 pub record CountRanges (n : Counts) : Type 0 where
@@ -134,7 +134,7 @@ records-range n s {c} {t} r long h =
     let k = many-at (n .states) _ s (a .2) in
     let l = many-at (n .transitions) _ (a .1) (b .2) in
     let m = many-within (n .states) (recorded byte (state (n .clocks) (n .entries) (n .exits))) (recorded-shrinks 1 byte byte-consumes _) s (a .2) in
-    let w = many-within (n .transitions) (recorded byte2 (transition (n .states) (n .entries) (n .exits) (limits (n .clocks) (n .variables)) (n .rendezvous + n .broadcasts))) (recorded-shrinks 2 byte2 byte2-consumes _) (a .1) (b .2) in
+    let w = many-within (n .transitions) (recorded byte2 (transition (n .states) (n .entries) (n .exits) (limits (n .version) (n .clocks) (n .variables)) (n .rendezvous + n .broadcasts))) (recorded-shrinks 2 byte2 byte2-consumes _) (a .1) (b .2) in
     subst Ranges (yield-at (z .1) (z .3)) (record {
       states-some = omega (arith, r .states-some, k .0);
       states-few = omega (arith, r .states-few, k .0);
@@ -149,8 +149,8 @@ records-range n s {c} {t} r long h =
       of-transition = λ t j.
           let q = w .1 t j in
           let u = recorded-all 2 byte2 byte2-consumes _ (q .0) (q .2) in
-          let f = transition-range (n .states) (n .entries) (n .exits) (limits (n .clocks) (n .variables)) (n .rendezvous + n .broadcasts) (u .0) (u .1) in
-          subst (λ (x : ℕ). TransitionRange x (n .entries) (n .exits) (limits (n .clocks) (n .variables)) (n .rendezvous + n .broadcasts) 65523 t) (sym (k .0)) (record {
+          let f = transition-range (n .states) (n .entries) (n .exits) (limits (n .version) (n .clocks) (n .variables)) (n .rendezvous + n .broadcasts) (u .0) (u .1) in
+          subst (λ (x : ℕ). TransitionRange x (n .entries) (n .exits) (limits (n .version) (n .clocks) (n .variables)) (n .rendezvous + n .broadcasts) 65523 t) (sym (k .0)) (record {
             source-known = f .source-known;
             destination-known = f .destination-known;
             exit-known = f .exit-known;

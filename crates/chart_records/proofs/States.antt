@@ -78,6 +78,7 @@ stated rest n {c} {t} ok h =
     let z = then-at _ _ (b .1) (b .3) in
     subst (Stated rest n) (yield-at (z .1) (z .3)) (record {
       in-range = ok;
+      version = refl;
       clocks = refl;
       variables = refl;
       rendezvous = refl;

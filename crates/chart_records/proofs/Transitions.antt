@@ -9,8 +9,7 @@ use lib.ListN.{length, getD, set, List·getD-append, length-set}
 use lib.Seq.{getD-set-same, getD-set-other, getD-append-seam}
 use Rattle.lists.specs.Lists.{all}
 use Rattle.reading.specs.Reading.{Fault, got, fault, Reader, byte2, many, recorded, mapped}
-use Rattle.labels.specs.Guard.{Limits, limits}
-use Rattle.labels.specs.Label.{body, label}
+use Rattle.labels.specs.Label.{Limits, limits, body, label}
 use Rattle.reading.specs.Places.{onward}
 use Rattle.reading.proofs.Reading.{got-value, bind-at, yield-at, mapped-got, mapped-at, fault-at}
 use Rattle.reading.proofs.Places.{onward-onward}
@@ -54,13 +53,13 @@ parts-of states entries exits l channels s p v at {x} {w} e h =
       content = f .content;
     })
 
-pub parts : (n : Counts) (s : List ℕ) (at : ℕ) {x : Transition} {t : List ℕ} → recorded byte2 (transitionBy n) (onward s at) ≡ got x t → Parts (limits (n .clocks) (n .variables)) s at x
+pub parts : (n : Counts) (s : List ℕ) (at : ℕ) {x : Transition} {t : List ℕ} → recorded byte2 (transitionBy n) (onward s at) ≡ got x t → Parts (limits (n .version) (n .clocks) (n .variables)) s at x
 parts n s at h =
     let w = recorded-part byte2 (transitionBy n) (onward s at) h in
     parts-of (n .states) (n .entries) (n .exits) _ _ s (w .2) (w .3) at (w .6 ∙ byte2-takes _ _ _ (w .5) ∙ onward-onward s at 2) (w .7)
 
 -- the fields of a chart's transition, where its offset says
-pub laid-parts : {rest : List ℕ} {n : Counts} {offsets : List ℕ} {c : Chart} → Laid rest n offsets c → (t : ℕ) → t < n .transitions → Parts (limits (n .clocks) (n .variables)) rest (getD offsets t 0) (transitionAt c t)
+pub laid-parts : {rest : List ℕ} {n : Counts} {offsets : List ℕ} {c : Chart} → Laid rest n offsets c → (t : ℕ) → t < n .transitions → Parts (limits (n .version) (n .clocks) (n .variables)) rest (getD offsets t 0) (transitionAt c t)
 unfolding transitionAt
 laid-parts {rest} {n} {offsets} L t h = parts n rest (getD offsets t 0) (L .placed t h .1)
 

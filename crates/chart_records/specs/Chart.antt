@@ -6,8 +6,8 @@ use lib.Dec.{leb, ltb, eqb}
 use lib.ListN.{getD, length, drop}
 use Rattle.lists.specs.Lists.{has, all, any, below, keep, implies}
 use Rattle.reading.specs.Reading.{length-fault, range-fault, Read, got, fault, Reader, yield, _>>=_, _>>_, byte, byte2, such, many, end, recorded}
-use Rattle.labels.specs.Guard.{Limits, limits}
-use Rattle.labels.specs.Label.{Label, Body, label}
+use Rattle.reading.specs.Version.{isVersion}
+use Rattle.labels.specs.Label.{Limits, limits, Label, Body, label}
 use Rattle.clocks.specs.Clocks.{row}
 use Rattle.reading.specs.Answer.{Answer, done, refused, unless}
 use Rattle.reading.specs.Answer as answer
@@ -28,6 +28,7 @@ pub record Transition : Type 0 where
   pub label : Label
 
 pub record Chart : Type 0 where
+  pub version : ℕ
   pub clocks : ℕ
   pub variables : ℕ
   pub rendezvous : ℕ
@@ -59,9 +60,9 @@ transition states entries exits l channels = do
 unfoldable pub records : Counts → Reader Chart
 records n = do
   ss ← many (n .states) (recorded byte (state (n .clocks) (n .entries) (n .exits)))
-  ts ← many (n .transitions) (recorded byte2 (transition (n .states) (n .entries) (n .exits) (limits (n .clocks) (n .variables)) (n .rendezvous + n .broadcasts)))
+  ts ← many (n .transitions) (recorded byte2 (transition (n .states) (n .entries) (n .exits) (limits (n .version) (n .clocks) (n .variables)) (n .rendezvous + n .broadcasts)))
   end
-  yield (record { clocks = n .clocks; variables = n .variables; rendezvous = n .rendezvous; broadcasts = n .broadcasts; entries = n .entries; exits = n .exits; states = ss; transitions = ts })
+  yield (record { version = n .version; clocks = n .clocks; variables = n .variables; rendezvous = n .rendezvous; broadcasts = n .broadcasts; entries = n .entries; exits = n .exits; states = ss; transitions = ts })
 
 -- 3 for a length, 4 for a field
 unfoldable pub numbered : {A : Type 0} → Read A → Answer A
@@ -69,14 +70,15 @@ numbered (got a rest) = done a
 numbered (fault length-fault) = refused 3
 numbered (fault range-fault) = refused 4
 
--- version 1, two bytes that give the length of the rest, and at least eight bytes of counts
+-- a version, two bytes that give the length of the rest, and at least eight bytes of counts
 unfoldable pub headed : List ℕ → Bool
 headed file =
     leb 11 (length file) && (leb (length file) 65536
-    && (eqb (getD file 0 0) 1 && eqb (256 * getD file 1 0 + getD file 2 0) (length file - 3)))
+    && (isVersion (getD file 0 0) && eqb (256 * getD file 1 0 + getD file 2 0) (length file - 3)))
 
 unfoldable pub countsAt : List ℕ → Counts
 countsAt file = record {
+  version = getD file 0 0;
   states = getD file 3 0;
   clocks = getD file 4 0;
   variables = getD file 5 0;

@@ -5,8 +5,7 @@ use mathlib.Core.List.{List}
 use Prim.Native.Nat.{ℕ, _+_, _*_, _<_}
 use lib.ListN.{length}
 use Rattle.reading.specs.Reading.{Reader, got, byte, recorded}
-use Rattle.labels.specs.Guard.{limits}
-use Rattle.labels.specs.Label.{assignsOnce}
+use Rattle.labels.specs.Label.{limits, assignsOnce}
 use Rattle.reading.specs.declared.field.Fault.{Fault}
 use Rattle.reading.specs.declared.field.Reached.{Reached}
 use Rattle.reading.specs.declared.field.Reached.the-variants as Rd
@@ -25,6 +24,7 @@ statePlace clocks s = 8 + s * stateSize clocks
 -- the counts and the states of c stand in the bytes
 pub record Stated (rest : List ℕ) (n : Counts) (c : Chart) : Type 0 where
   pub in-range : inRange n ≡ true
+  pub version : c .version ≡ n .version
   pub clocks : c .clocks ≡ n .clocks
   pub variables : c .variables ≡ n .variables
   pub rendezvous : c .rendezvous ≡ n .rendezvous
@@ -40,7 +40,7 @@ stopped f = Rd.Fault f
 
 -- the content of a transition's record, in a file with such counts
 abbrev pub transitionBy : Counts → Reader Transition
-transitionBy n = transition (n .states) (n .entries) (n .exits) (limits (n .clocks) (n .variables)) (n .rendezvous + n .broadcasts)
+transitionBy n = transition (n .states) (n .entries) (n .exits) (limits (n .version) (n .clocks) (n .variables)) (n .rendezvous + n .broadcasts)
 
 -- rule 13
 abbrev pub once : Transition → Bool

@@ -8,6 +8,7 @@ ghost use Rattle.chart_records.specs.Chart.{headed, countsAt, inRange, c
 ghost use Rattle.chart_records.specs.Headers.{headerOf};
 
 pub struct Counts {
+    pub version: u8,
     pub states: u8,
     pub clocks: u8,
     pub variables: u8,
@@ -33,7 +34,7 @@ fn is_headed(file: &[u8]) -> bool
     if file.len() > 65536 {
         return false;
     }
-    if file[0] != 1 {
+    if !reading::version::is_version(file[0]) {
         return false;
     }
     let size = reading::field::short_of(file[1], file[2]) as usize;
@@ -44,6 +45,7 @@ fn counts_at(file: &[u8]) -> Counts
     ensures { λ r. ⌜ r ≡ countsAt (now (file .entry)) ⌝ }
 {
     Counts {
+        version: reading::field::byte_at(file, 0),
         states: reading::field::byte_at(file, 3),
         clocks: reading::field::byte_at(file, 4),
         variables: reading::field::byte_at(file, 5),

@@ -172,6 +172,24 @@ module _ (z : ℤ) (d : ℕ) {a u : ℕ} (h : mag z < 2 ^ 31) (i : isDivisor d �
       go (pos n) h l = rw (add-zero n) (wrap-small (pos (n / d)) (omega (arith, div-le-self n d)))
       go (negsuc n) h l = clash refl l
 
+-- the floored quotient by the sign and the magnitude, which is no greater than that of the number
+pub floored-negative : (z : ℤ) (d : ℕ) → ltZ z (pos 0) ≡ true → negsuc (mag z / d) ≡ floorDiv z d
+unfolding floorDiv
+floored-negative (pos n) d e = absurd (omega (arith, ltb-true n 0 e))
+floored-negative (negsuc n) d e = refl
+
+pub floored-not-negative : (z : ℤ) (d : ℕ) → ltZ z (pos 0) ≡ false → pos (mag z / d) ≡ floorDiv z d
+unfolding floorDiv
+floored-not-negative (pos n) d e = refl
+floored-not-negative (negsuc n) d e = clash refl e
+
+-- the sum of a 32-bit number and a number of 16 bits without sign, and of a 32-bit number and one of some 32 bits
+pub total-within : (x : ℤ) (n : ℕ) → SFits w32 x → n < 2 ^ 16 → mag (x +ℤ pos n) < 2 ^ 32
+total-within x n f h = omega (arith, mag-add x (pos n), f .sfits)
+
+pub step-fits : (x y : ℤ) → SFits w32 x → mag y < 2 ^ 32 → SFits w64 (x +ℤ y)
+step-fits x y f h = record { sfits = omega (arith, mag-add x y, f .sfits) }
+
 -- the floored remainder, and the low 32 bits, by the sign and the magnitude
 pub remainder-negative : (z : ℤ) (d : ℕ) → ltZ z (pos 0) ≡ true → pos (d - 1 - mag z % d) ≡ floorMod z d
 unfolding floorMod

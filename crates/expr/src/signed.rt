@@ -115,20 +115,60 @@ pub fn quotient(x: i32, d: u32) -> i32
     if negative { wrap(0 - q) } else { wrap(q) }
 }
 
-// What the quotient rounded down leaves. By what is no divisor it is 0.
-pub fn remainder(x: i32, d: u32) -> i32
-    ensures { λ r. ⌜ r ≡ cond (isDivisor d) (floorMod x d) (pos 0) ⌝ }
+// What the quotient of z rounded down leaves. By what is no divisor it is 0.
+fn rest(z: i64, d: u32) -> i32
+    ensures { λ r. ⌜ r ≡ cond (isDivisor d) (floorMod z d) (pos 0) ⌝ }
 {
     if !is_divisor(d) {
         return 0;
     }
-    let z = x as i64;
     let m = magnitude(z) % (d as u64);
     if below_zero(z) {
         with_sign(false, d - 1 - (m as u32))
     } else {
         with_sign(false, m as u32)
     }
+}
+
+pub fn remainder(x: i32, d: u32) -> i32
+    ensures { λ r. ⌜ r ≡ cond (isDivisor d) (floorMod x d) (pos 0) ⌝ }
+{
+    rest(x as i64, d)
+}
+
+// The remainder and the numerator of an advance, added exactly.
+fn total(remainder: i32, numerator: u16) -> i64
+    ensures is { λ r. ⌜ r ≡ remainder +ℤ pos numerator ⌝ }
+    ensures within { λ r. ⌜ mag r < 2 ^ 32 ⌝ }
+{
+    (remainder as i64) + (numerator as i64)
+}
+
+// The quotient of z rounded down.
+fn floored(z: i64, d: u16) -> i64
+    requires { ⌜ 1 ≤ d ⌝ }
+    ensures is { λ r. ⌜ r ≡ floorDiv z d ⌝ }
+    ensures within { λ r. ⌜ mag r ≤ mag z ⌝ }
+{
+    let q = (magnitude(z) / (d as u64)) as i64;
+    if below_zero(z) { -1 - q } else { q }
+}
+
+// The steps after an advance: the whole part is added, and the sum wraps. By a denominator of 0 they stay.
+pub fn steps_after(steps: i32, remainder: i32, numerator: u16, denominator: u16) -> i32
+    ensures { λ r. ⌜ (1 ≤ denominator → r ≡ wrap (steps +ℤ floorDiv (remainder +ℤ pos numerator) denominator)) ⌝ }
+{
+    if denominator == 0 {
+        return steps;
+    }
+    wrap((steps as i64) + floored(total(remainder, numerator), denominator))
+}
+
+// The remainder after an advance: what the whole part leaves. By a denominator of 0 it is 0.
+pub fn remainder_after(remainder: i32, numerator: u16, denominator: u16) -> i32
+    ensures { λ r. ⌜ (1 ≤ denominator → r ≡ floorMod (remainder +ℤ pos numerator) denominator) ⌝ }
+{
+    rest(total(remainder, numerator), denominator as u32)
 }
 
 fn equal(x: i32, y: i32) -> bool

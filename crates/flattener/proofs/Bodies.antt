@@ -10,8 +10,7 @@ use lib.Dec.{leb}
 use lib.ListN.{length, getD, take, drop, length-drop}
 use lib.Seq.{take-add, drop-at, drop-drop, length-take-le}
 use Rattle.reading.specs.Reading.{Fault, got, fault, Reader, _>>=_, byte, byte2, such, framed, whole, recorded}
-use Rattle.labels.specs.Guard.{Limits}
-use Rattle.labels.specs.Label.{Label, body, label}
+use Rattle.labels.specs.Label.{Limits, Label, body, label}
 use Rattle.reading.specs.Places.{onward}
 use Rattle.reading.proofs.Reading.{no-answer, next-at, bind-at, such-at, yield-at, got-value}
 use Rattle.reading.proofs.Places.{length-onward, onward-onward}

@@ -15,8 +15,7 @@ use Rattle.reading.specs.Answer.{done}
 use Rattle.reading.specs.Answer as answer
 use Rattle.reading.specs.Places.{onward}
 use Rattle.reading.specs.Reading.{got, yield, byte, byte2, byte4, many}
-use Rattle.labels.specs.Guard.{Limits, limits}
-use Rattle.labels.specs.Label.{label}
+use Rattle.labels.specs.Label.{Limits, limits, label}
 use Rattle.clocks.specs.Clocks.{isBound, clock-limit, no-bound, row}
 use Rattle.lists.proofs.Bools.{both, or-l, or-r, or-cases, implies-by}
 use Rattle.lists.proofs.Concat.{concat-length}
@@ -90,7 +89,7 @@ pub record Printable (n : Network) : Type 0 where
   pub rendezvous-few : n .rendezvous ≤ 16
   pub broadcasts-few : n .broadcasts ≤ 144
   pub of-location : (l : Location) → Mem l (n .locations) → PrintableLocation (n .automata) (n .clocks) l
-  pub of-edge : (e : Edge) → Mem e (n .edges) → PrintableEdge (n .automata) (length (n .locations)) (limits (n .clocks) (n .variables)) (n .rendezvous + n .broadcasts) e
+  pub of-edge : (e : Edge) → Mem e (n .edges) → PrintableEdge (n .automata) (length (n .locations)) (limits (n .version) (n .clocks) (n .variables)) (n .rendezvous + n .broadcasts) e
 
 one-of : (x m k : ℕ) → (x < m) ⊎ (x ≡ k) → (ltb x m || eqb x k) ≡ true
 one-of x m k h = ⊎-elim (λ l. or-l (eqb x k) (lt-ltb x m l)) (λ e. or-r (ltb x m) (eq-eqb x k e)) h

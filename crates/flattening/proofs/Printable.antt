@@ -13,8 +13,7 @@ use Rattle.lists.specs.Lists.{has, subset}
 use Rattle.reading.specs.Answer.{done}
 use Rattle.reading.specs.Answer as answer
 use Rattle.reading.specs.Reading.{yield, many}
-use Rattle.labels.specs.Guard.{Limits, limits}
-use Rattle.labels.specs.Label.{Label, body, channelFits}
+use Rattle.labels.specs.Label.{Limits, limits, Label, body, channelFits}
 use Rattle.lists.proofs.Bools.{clash, and-l, and-r}
 use Rattle.lists.proofs.Lists.{map-at}
 use Rattle.lists.proofs.Bits.{has-bits, has-zero, bits-lt, has-low-lt, subset-by}
@@ -101,10 +100,10 @@ values-written c p r = subset-by 8 _ _ (λ i l h.
 
 module _ (c : Chart) (passed : Passed c) (ranges : Ranges c) where
   abbrev Fits : Edge → Type 0
-  Fits e = PrintableEdge (length (sequentials c)) (length (flatten c .locations)) (limits (c .clocks) (c .variables)) (flatten c .rendezvous + flatten c .broadcasts) e
+  Fits e = PrintableEdge (length (sequentials c)) (length (flatten c .locations)) (limits (c .version) (c .clocks) (c .variables)) (flatten c .rendezvous + flatten c .broadcasts) e
 
   abbrev FitsLabel : Label → Type 0
-  FitsLabel l = LabelRange (limits (c .clocks) (c .variables)) (flatten c .rendezvous + flatten c .broadcasts) l
+  FitsLabel l = LabelRange (limits (c .version) (c .clocks) (c .variables)) (flatten c .rendezvous + flatten c .broadcasts) l
 
   -- an edge between two places
   edge-fits : {p r : Place} → IsPlace c p → IsPlace c r → (transition exit set : ℕ) (l : Label) → ((transition < 64) ⊎ (transition ≡ 255)) → ((exit < 8) ⊎ (exit ≡ 255)) → (exit ≡ 255 → set ≡ 0)

@@ -36,7 +36,7 @@ contentBytes n =
     ++ concat (λ e. recordBytes out2 (edgeBytes e)) (n .edges))
 
 unfoldable pub networkBytes : Network → List ℕ
-networkBytes n = 1 ∷ recordBytes out4 (contentBytes n)
+networkBytes n = n .version ∷ recordBytes out4 (contentBytes n)
 
 -- the network's bytes, if a lent buffer of so many bytes holds them
 unfoldable pub fitted : ℕ → List ℕ → Answer (List ℕ)

@@ -9,7 +9,7 @@ use lib.Dec.{ltb}
 use lib.ListN.{getD}
 use Rattle.reading.specs.Reading.{Fault, got, fault, yield, byte, such}
 use Rattle.expr.specs.Relation.{lt, relations}
-use Rattle.labels.specs.Guard.{relation, Limits, clock, ticks, dataGuard, clockGuard, differenceGuard, guard, update}
+use Rattle.labels.specs.Guard.{relation, clock, ticks, dataGuard, clockGuard, differenceGuard, guard}
 use Rattle.reading.proofs.Places.{bind-got, bind-fault}
 use Rattle.reading.proofs.Reading.{such-at}
 use Rattle.reading.proofs.InFront.{InFront, yield-front, bind-front, such-front, byte-front, byte4-front}
@@ -25,24 +25,24 @@ module _ (b : List ℕ) where
   relation-fault h = bind-fault _ _ b h
 
 -- what follows the kind
-module _ (l : Limits) (b : List ℕ) {k : ℕ} {t : List ℕ} (h : such byte (λ k. ltb k 3) b ≡ got k t) where
-  pub guard-data : k ≡ 0 → guard l b ≡ dataGuard l t
+module _ (clocks variables : ℕ) (b : List ℕ) {k : ℕ} {t : List ℕ} (h : such byte (λ k. ltb k 3) b ≡ got k t) where
+  pub guard-data : k ≡ 0 → guard clocks variables b ≡ dataGuard variables t
   unfolding guard
   guard-data e = bind-got _ _ b h ∙ rw e
 
-  pub guard-clock : k ≡ 1 → guard l b ≡ clockGuard l t
+  pub guard-clock : k ≡ 1 → guard clocks variables b ≡ clockGuard clocks t
   unfolding guard
   guard-clock e = bind-got _ _ b h ∙ rw e
 
-  pub guard-difference : k ≢ 0 → k ≢ 1 → guard l b ≡ differenceGuard l t
+  pub guard-difference : k ≢ 0 → k ≢ 1 → guard clocks variables b ≡ differenceGuard clocks t
   unfolding guard
   guard-difference n m = bind-got _ _ b h ∙ rw (let z : k ≡ 2 = omega (arith, ltb-true k 3 (such-at byte _ b h .0)) in z)
 
-pub guard-fault : (l : Limits) (b : List ℕ) {f : Fault} → such byte (λ k. ltb k 3) b ≡ fault f → guard l b ≡ fault f
+pub guard-fault : (clocks variables : ℕ) (b : List ℕ) {f : Fault} → such byte (λ k. ltb k 3) b ≡ fault f → guard clocks variables b ≡ fault f
 unfolding guard
-guard-fault l b h = bind-fault _ _ b h
+guard-fault clocks variables b h = bind-fault _ _ b h
 
--- guards and assignments are read in front, whatever follows them
+-- guards are read in front, whatever follows them
 relation-front : InFront relation
 unfolding relation
 relation-front = bind-front _ _ (such-front _ _ byte-front) λ n. yield-front _
@@ -51,26 +51,22 @@ ticks-front : InFront ticks
 unfolding ticks
 ticks-front = such-front _ _ byte4-front
 
-module _ (l : Limits) where
-  clock-front : InFront (clock l)
+module _ (clocks variables : ℕ) where
+  clock-front : InFront (clock clocks)
   unfolding clock
   clock-front = such-front _ _ byte-front
 
-  data-front : InFront (dataGuard l)
+  data-front : InFront (dataGuard variables)
   unfolding dataGuard
   data-front = bind-front _ _ relation-front λ r. bind-front _ _ (expression-front _ _) λ a. bind-front _ _ (expression-front _ _) λ b. yield-front _
 
-  guards-front : (k : ℕ) → InFront (getD (dataGuard l ∷ clockGuard l ∷ differenceGuard l ∷ []) k (dataGuard l))
+  guards-front : (k : ℕ) → InFront (getD (dataGuard variables ∷ clockGuard clocks ∷ differenceGuard clocks ∷ []) k (dataGuard variables))
   unfolding clockGuard differenceGuard
   guards-front zero = data-front
   guards-front (suc zero) = bind-front _ _ clock-front λ c. bind-front _ _ relation-front λ r. bind-front _ _ ticks-front λ n. yield-front _
   guards-front (suc (suc zero)) = bind-front _ _ clock-front λ c. bind-front _ _ clock-front λ d. bind-front _ _ relation-front λ r. bind-front _ _ ticks-front λ n. yield-front _
   guards-front (suc (suc (suc k))) = data-front
 
-  pub guard-front : InFront (guard l)
+  pub guard-front : InFront (guard clocks variables)
   unfolding guard
   guard-front = bind-front _ _ (such-front _ _ byte-front) λ k. guards-front k
-
-  pub update-front : InFront (update l)
-  unfolding update
-  update-front = bind-front _ _ (such-front _ _ byte-front) λ v. bind-front _ _ (expression-front _ _) λ e. yield-front _

@@ -8,13 +8,14 @@ use borrow.Author.Tests.{lt-ltb, ltb-true}
 use lib.Dec.{ltb, eqb}
 use lib.ListN.{length}
 use Rattle.reading.specs.Reading.{got, yield, next, byte, many}
-use Rattle.labels.specs.Guard.{Limits, Update, guard, update}
-use Rattle.labels.specs.Label.{Label, body, channelFits, label, Body}
+use Rattle.labels.specs.Guard.{guard}
+use Rattle.labels.specs.Update.{Update, update, formOf, writes}
+use Rattle.labels.specs.Label.{Limits, Label, body, channelFits, label, Body}
 use Rattle.reading.proofs.Places.{bind-got}
 use Rattle.reading.proofs.Reading.{next-at, bind-at, yield-at, yield-rest, such-at, many-at}
 use Rattle.reading.proofs.Lengths.{byte-consumes}
 use Rattle.reading.proofs.Printed.{such-front}
-use Rattle.labels.proofs.Labels.{update-known}
+use Rattle.labels.proofs.Updates.{update-known}
 
 -- the fields of a label, and its body, which is all of its bytes
 pub record LabelRange (l : Limits) (channels : ℕ) (x : Label) : Type 0 where
@@ -69,13 +70,13 @@ label-range-more l n m x h r =
       body-read = r .body-read;
     }
 
--- a label that was read assigns declared variables
-pub updates-known : (l : Limits) (channels : ℕ) (x : Label) → LabelRange l channels x → (u : Update) → Mem u (x .body .updates) → u .target < l .variables
+-- a label that was read writes declared variables
+pub updates-known : (l : Limits) (channels : ℕ) (x : Label) → LabelRange l channels x → (u : Update) → Mem u (x .body .updates) → (v : ℕ) → Mem v (writes (formOf u)) → v < l .variables
 unfolding body
 updates-known l channels x h u m =
     let g = bind-at byte _ (x .bytes) (h .body-read) in
     let a = bind-at byte _ (g .1) (g .3) in
-    let gs = bind-at (many (g .0) (guard l)) _ (a .1) (a .3) in
-    let us = bind-at (many (a .0) (update l)) _ (gs .1) (gs .3) in
-    let r = many-at (a .0) (update l) (gs .1) (us .2) .1 u (subst (λ (b : Body). Mem u (b .updates)) (sym (yield-at (us .1) (us .3))) m) in
-    update-known l (r .0) (r .2)
+    let gs = bind-at (many (g .0) (guard (l .clocks) (l .variables))) _ (a .1) (a .3) in
+    let us = bind-at (many (a .0) (update (l .version) (l .variables))) _ (gs .1) (gs .3) in
+    let r = many-at (a .0) (update (l .version) (l .variables)) (gs .1) (us .2) .1 u (subst (λ (b : Body). Mem u (b .updates)) (sym (yield-at (us .1) (us .3))) m) in
+    update-known (l .version) (l .variables) (r .0) (r .2)

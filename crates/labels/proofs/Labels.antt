@@ -1,4 +1,4 @@
--- Laws of assignments, of rule 13's test, and of the body of a label.
+-- Laws of rule 13's test, of the body of a label, and of labels.
 use mathlib.Core.Path.{_≡_, refl, sym, ap, ap₂, _∙_, subst}
 use mathlib.Core.Bool.{Bool, true, false, not, _&&_, _||_}
 use mathlib.Core.List.{List, [], _∷_, _++_, map-append}
@@ -12,47 +12,18 @@ use Rattle.lists.specs.Lists.{elem, distinct}
 use Rattle.reading.specs.Reading.{got, byte, many}
 use Rattle.reading.specs.Places.{onward}
 use Rattle.expr.specs.Expression.{value}
-use Rattle.labels.specs.Guard.{Update, Limits, guard, update, assign}
-use Rattle.labels.specs.Label.{Label, Body, body, label, targets, bodyOnce, assignsOnce, sends, receives}
+use Rattle.labels.specs.Guard.{guard}
+use Rattle.labels.specs.Update.{Update, update, targets}
+use Rattle.labels.specs.Label.{Limits, Label, Body, body, label, bodyOnce, assignsOnce, sends, receives}
 use Rattle.lists.proofs.Bools.{parts, or-else, not-no, both}
 use Rattle.lists.proofs.Once.{distinct-more}
 use Rattle.lists.proofs.Lists.{seen-more}
 use Rattle.reading.proofs.Places.{bind-got}
 use Rattle.reading.proofs.InFront.{InFront, yield-front, bind-front, many-front, byte-front}
 use Rattle.reading.proofs.Sizes.{byte-here}
-use Rattle.labels.proofs.Guards.{guard-front, update-front}
+use Rattle.labels.proofs.Guards.{guard-front}
+use Rattle.labels.proofs.Updates.{update-front}
 use Rattle.reading.proofs.Reading.{bind-at, next-at, such-at, yield-at, yield-rest}
-
--- an assignment that was read assigns a declared variable
-pub update-known : (l : Limits) (s : List ℕ) {u : Update} {t : List ℕ} → update l s ≡ got u t → u .target < l .variables
-unfolding update
-update-known l s {u} h =
-    let x = bind-at _ _ s h in
-    let y = bind-at _ _ (x .1) (x .3) in
-    subst (λ (k : Update). k .target < l .variables) (yield-at (y .1) (y .3)) (ltb-true (x .0) (l .variables) (such-at byte _ s (x .2) .0))
-
-module _ (us : List Update) (u : Update) {t : ℕ} (e : u .target ≡ t) where
-  targets-more : targets (us ++ (u ∷ [])) ≡ targets us ++ (t ∷ [])
-  targets-more = map-append (λ k. k .target) us (u ∷ []) ∙ ap (λ (n : ℕ). targets us ++ (n ∷ [])) e
-
-  pub once-more : {a b r : Bool} → r ≡ (a && not b) → a ≡ distinct (targets us) → b ≡ elem t (targets us) → r ≡ distinct (targets (us ++ (u ∷ [])))
-  once-more h p q = h ∙ ap₂ (λ (x y : Bool). x && not y) p q ∙ sym (ap distinct targets-more ∙ distinct-more (targets us) t)
-
-  pub assigned-more : (seen : List Bool) {w : ℕ} → length seen ≡ w → t < w → ((v : ℕ) → v < w → getD seen v false ≡ elem v (targets us))
-      → (v : ℕ) → v < w → getD (set seen t true) v false ≡ elem v (targets (us ++ (u ∷ [])))
-  assigned-more seen {w} h l f v k = seen-more seen (targets us) t w h l f v k ∙ sym (ap (elem v) targets-more)
-
--- one more assignment
-pub assign-more : (old : List ℤ) (us : List Update) (u : Update) (new : List ℤ) → assign old (us ++ (u ∷ [])) new ≡ set (assign old us new) (u .target) (value old (u .expr))
-unfolding assign
-assign-more old [] u new = refl
-assign-more old (v ∷ vs) u new = assign-more old vs u _
-
--- the assignments of one label after those of another
-pub assign-append : (old : List ℤ) (us vs : List Update) (new : List ℤ) → assign old (us ++ vs) new ≡ assign old vs (assign old us new)
-unfolding assign
-assign-append old [] vs new = refl
-assign-append old (u ∷ us) vs new = assign-append old us vs _
 
 -- rule 13 of a body, by what was counted and seen of its assignments
 pub body-once-by :
@@ -63,7 +34,7 @@ body-once-by signal b h e d = h ∙ ap₂ (λ (n : ℕ) (x : Bool). (not (eqb si
 
 -- the parts of a body that was read
 pub body-parts : (l : Limits) (s : List ℕ) {b : Body} {t : List ℕ} → body l s ≡ got b t → {g a : ℕ} {u v : List ℕ} → byte s ≡ got g u → byte u ≡ got a v
-    → (w : List ℕ) × (many g (guard l) v ≡ got (b .guards) w) × (many a (update l) w ≡ got (b .updates) t)
+    → (w : List ℕ) × (many g (guard (l .clocks) (l .variables)) v ≡ got (b .guards) w) × (many a (update (l .version) (l .variables)) w ≡ got (b .updates) t)
 unfolding body
 body-parts l s {b} {t} h {g} {a} {u} {v} p q =
     let k = sym (bind-got _ _ s p ∙ bind-got _ _ u q) ∙ h in
@@ -78,8 +49,8 @@ unfolding body
 body-front l =
     bind-front _ _ byte-front λ g.
     bind-front _ _ byte-front λ a.
-    bind-front _ _ (many-front g _ (guard-front l))
-    λ gs. bind-front _ _ (many-front a _ (update-front l)) λ us. yield-front _
+    bind-front _ _ (many-front g _ (guard-front (l .clocks) (l .variables)))
+    λ gs. bind-front _ _ (many-front a _ (update-front (l .version) (l .variables))) λ us. yield-front _
 
 -- a label that was read has the body that its bytes give
 pub label-body : (l : Limits) (channels : ℕ) (s : List ℕ) {b : Label} {t : List ℕ} → label l channels s ≡ got b t → body l (b .bytes) ≡ got (b .body) t

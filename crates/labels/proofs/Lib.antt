@@ -2,3 +2,4 @@
 pub mod Guards
 pub mod LabelRanges
 pub mod Labels
+pub mod Updates

@@ -1,13 +1,23 @@
 -- A label: the part of a transition or an edge from its signal on.
 use Prim.Native.Nat.{ℕ, _^_}
 use mathlib.Core.Bool.{Bool, cond, not, _&&_, _||_}
-use mathlib.Core.List.{List, map}
+use mathlib.Core.List.{List}
 use lib.IntN.{ℤ}
 use lib.Dec.{ltb, eqb}
 use lib.ListN.{length}
 use Rattle.lists.specs.Lists.{all, distinct}
 use Rattle.reading.specs.Reading.{Reader, yield, next, _>>=_, byte, such, many}
-use Rattle.labels.specs.Guard.{Guard, Update, Limits, guard, update, holds, assign}
+use Rattle.labels.specs.Guard.{Guard, guard, holds}
+use Rattle.labels.specs.Update.{Update, update, targets}
+
+-- what the labels of a file may hold: its version, and how many clocks and variables there are
+pub record Limits : Type 0 where
+  pub version : ℕ
+  pub clocks : ℕ
+  pub variables : ℕ
+
+abbrev pub limits : ℕ → ℕ → ℕ → Limits
+limits version clocks variables = record { version = version; clocks = clocks; variables = variables }
 
 pub record Body : Type 0 where
   pub guards : List Guard
@@ -25,8 +35,8 @@ unfoldable pub body : Limits → Reader Body
 body l = do
   g ← byte
   a ← byte
-  gs ← many g (guard l)
-  us ← many a (update l)
+  gs ← many g (guard (l .clocks) (l .variables))
+  us ← many a (update (l .version) (l .variables))
   yield (record { guards = gs; updates = us })
 
 -- 255 without a signal, and else one of the channels
@@ -40,10 +50,6 @@ label l channels = do
   c ← such byte (channelFits channels s)
   r ← such byte (λ r. ltb r (2 ^ (l .clocks)))
   λ bytes. next (body l bytes) (λ b. yield (record { signal = s; channel = c; resets = r; body = b; bytes = bytes }))
-
--- the variables that some assignments assign
-abbrev pub targets : List Update → List ℕ
-targets us = map (λ u. u .target) us
 
 unfoldable pub bodyOnce : ℕ → Body → Bool
 bodyOnce signal b = (not (eqb signal 2) || eqb (length (b .updates)) 0) && distinct (targets (b .updates))

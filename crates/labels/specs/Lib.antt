@@ -1,4 +1,6 @@
 -- The definitions of this crate.
+pub mod Forms
 pub mod Guard
 pub mod Headings
 pub mod Label
+pub mod Update

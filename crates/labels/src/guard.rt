@@ -1,11 +1,11 @@
-// Guards and assignments: read as a file is checked, and evaluated on variables and clocks.
+// Guards: read as a file is checked, and evaluated on variables and clocks.
 ghost use mathlib.Core.Path.{_≡_};
 ghost use Prim.Native.Nat.{_+_, _^_, _<_};
 ghost use lib.ListN.{getD};
 ghost use Rattle.reading.specs.Reading.{mapped, skipped};
 ghost use Rattle.expr.specs.Expression.{expression, value};
-ghost use Rattle.labels.specs.Guard.{limits, ticks, dataGuard, clockGuard, differenceGuard, guard, update, holds};
-ghost use Rattle.reading.specs.Places.{onward, byteOf, wordOf, valueOf, testOf, reached, testReached};
+ghost use Rattle.labels.specs.Guard.{ticks, dataGuard, clockGuard, differenceGuard, guard, holds};
+ghost use Rattle.reading.specs.Places.{onward, wordOf, valueOf, testOf, reached, testReached};
 use expr::expression;
 use expr::signed;
 use reading::field;
@@ -20,7 +20,7 @@ use reading::field::WordRead;
 pub const LEVELS: u8 = 8;
 
 // The expression at a place.
-fn expression_at(s: &[u8], at: usize, variables: u8) -> Reached
+pub fn expression_at(s: &[u8], at: usize, variables: u8) -> Reached
     ensures { λ r. ⌜ reached (now (s .entry)) tt r ≡ skipped (expression variables 8 (onward (now (s .entry)) at)) ⌝ }
 {
     if s.len() < at {
@@ -95,7 +95,7 @@ fn test_reached(t: TestRead) -> Reached
 
 // What follows the kind of a guard on variables.
 fn read_data_guard(s: &[u8], at: usize, variables: u8) -> Reached
-    ensures { λ r. ⌜ ((c : _) → reached (now (s .entry)) tt r ≡ skipped (dataGuard (limits c variables) (onward (now (s .entry)) at))) ⌝ }
+    ensures { λ r. ⌜ reached (now (s .entry)) tt r ≡ skipped (dataGuard variables (onward (now (s .entry)) at)) ⌝ }
 {
     let k = field::read_byte_below(s, at, 6);
     let ByteRead::Value(_, at1) = k else {
@@ -110,7 +110,7 @@ fn read_data_guard(s: &[u8], at: usize, variables: u8) -> Reached
 
 // What follows the kind of a guard on one clock.
 fn clock_guard_holds(s: &[u8], at: usize, clocks: u8, times: [u32; 8]) -> TestRead
-    ensures { λ r. ⌜ ((v : _) (vars : _) → testOf (now (s .entry)) r ≡ mapped (holds vars (times)) (clockGuard (limits clocks v) (onward (now (s .entry)) at))) ⌝ }
+    ensures { λ r. ⌜ ((vars : _) → testOf (now (s .entry)) r ≡ mapped (holds vars (times)) (clockGuard clocks (onward (now (s .entry)) at))) ⌝ }
 {
     let c = field::read_byte_below(s, at, clocks);
     let ByteRead::Value(clock, at1) = c else {
@@ -132,7 +132,7 @@ fn clock_guard_holds(s: &[u8], at: usize, clocks: u8, times: [u32; 8]) -> TestRe
 
 // What follows the kind of a guard on the difference of two clocks.
 fn difference_guard_holds(s: &[u8], at: usize, clocks: u8, times: [u32; 8]) -> TestRead
-    ensures { λ r. ⌜ ((v : _) (vars : _) → testOf (now (s .entry)) r ≡ mapped (holds vars (times)) (differenceGuard (limits clocks v) (onward (now (s .entry)) at))) ⌝ }
+    ensures { λ r. ⌜ ((vars : _) → testOf (now (s .entry)) r ≡ mapped (holds vars (times)) (differenceGuard clocks (onward (now (s .entry)) at))) ⌝ }
 {
     let c = field::read_byte_below(s, at, clocks);
     let ByteRead::Value(first, at1) = c else {
@@ -162,7 +162,7 @@ fn difference_guard_holds(s: &[u8], at: usize, clocks: u8, times: [u32; 8]) -> T
 
 // What follows the kind of a guard on variables.
 fn data_guard_holds(s: &[u8], at: usize, variables: u8, values: &[i32; 16]) -> TestRead
-    ensures { λ r. ⌜ ((c : _) (times : _) → testOf (now (s .entry)) r ≡ mapped (holds (now (values .entry)) times) (dataGuard (limits c variables) (onward (now (s .entry)) at))) ⌝ }
+    ensures { λ r. ⌜ ((times : _) → testOf (now (s .entry)) r ≡ mapped (holds (now (values .entry)) times) (dataGuard variables (onward (now (s .entry)) at))) ⌝ }
 {
     let k = field::read_byte_below(s, at, 6);
     let ByteRead::Value(relation, at1) = k else {
@@ -181,7 +181,7 @@ fn data_guard_holds(s: &[u8], at: usize, variables: u8, values: &[i32; 16]) -> T
 
 // A guard, as a file is checked. No value is needed, and none is computed on variables.
 pub fn read_guard(s: &[u8], at: usize, clocks: u8, variables: u8) -> Reached
-    ensures { λ r. ⌜ reached (now (s .entry)) tt r ≡ skipped (guard (limits clocks variables) (onward (now (s .entry)) at)) ⌝ }
+    ensures { λ r. ⌜ reached (now (s .entry)) tt r ≡ skipped (guard clocks variables (onward (now (s .entry)) at)) ⌝ }
 {
     let b = field::read_byte_below(s, at, 3);
     let ByteRead::Value(kind, from) = b else {
@@ -203,7 +203,7 @@ pub fn guard_holds(
     values: &[i32; 16],
     times: [u32; 8],
 ) -> TestRead
-    ensures { λ r. ⌜ testOf (now (s .entry)) r ≡ mapped (holds (now (values .entry)) times) (guard (limits clocks variables) (onward (now (s .entry)) at)) ⌝ }
+    ensures { λ r. ⌜ testOf (now (s .entry)) r ≡ mapped (holds (now (values .entry)) times) (guard clocks variables (onward (now (s .entry)) at)) ⌝ }
 {
     let b = field::read_byte_below(s, at, 3);
     let ByteRead::Value(kind, from) = b else {
@@ -214,19 +214,4 @@ pub fn guard_holds(
         1 => clock_guard_holds(s, from, clocks, times),
         _ => difference_guard_holds(s, from, clocks, times),
     }
-}
-
-// An assignment, as a file is checked: its variable.
-pub fn read_update(s: &[u8], at: usize, variables: u8) -> ByteRead
-    ensures { λ r. ⌜ ((c : _) → byteOf (now (s .entry)) r ≡ mapped (λ u. u .target) (update (limits c variables) (onward (now (s .entry)) at))) ⌝ }
-{
-    let b = field::read_byte_below(s, at, variables);
-    let ByteRead::Value(target, at1) = b else {
-        return b;
-    };
-    let q = expression_at(s, at1, variables);
-    let Reached::At(at2) = q else {
-        return ByteRead::Fault(field::reached_fault(q));
-    };
-    ByteRead::Value(target, at2)
 }

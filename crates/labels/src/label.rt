@@ -1,26 +1,26 @@
 // The label of a transition or an edge: what stands from the signal on.
 ghost use mathlib.Core.Path.{_≡_};
-ghost use lib.ListN.{set};
 ghost use mathlib.Core.Bool.{_&&_, _||_, not};
 ghost use lib.Dec.{eqb};
 ghost use Rattle.lists.specs.Lists.{all, distinct};
 ghost use Rattle.reading.specs.Reading.{got, byte, such, many, mapped, skipped};
-ghost use Rattle.expr.specs.Expression.{expression, value};
-ghost use Rattle.labels.specs.Guard.{limits, guard, update, holds, assign};
-ghost use Rattle.labels.specs.Label.{targets, bodyOnce, body, channelFits, label, heading};
-ghost use Rattle.reading.specs.Places.{onward, byteOf, valueOf, testOf, reached};
+ghost use Rattle.labels.specs.Guard.{guard, holds};
+ghost use Rattle.labels.specs.Update.{update, targets, assign};
+ghost use Rattle.labels.specs.Label.{limits, bodyOnce, body, channelFits, label, heading};
+ghost use Rattle.reading.specs.Places.{onward, byteOf, testOf, reached};
 ghost use Rattle.labels.specs.Headings.{labelOf, labelFault};
 use crate::guard;
+use crate::update;
+use crate::update::FormRead;
 use reading::field;
 use reading::field::ByteRead;
 use reading::field::Fault;
 use reading::field::Reached;
 use reading::field::TestRead;
-use reading::field::ValueRead;
 
 // So many guards from a place on, as a file is checked.
 fn read_guards(s: &[u8], at: usize, count: u8, clocks: u8, variables: u8) -> Reached
-    ensures { λ r. ⌜ reached (now (s .entry)) tt r ≡ skipped (many count (guard (limits clocks variables)) (onward (now (s .entry)) at)) ⌝ }
+    ensures { λ r. ⌜ reached (now (s .entry)) tt r ≡ skipped (many count (guard clocks variables) (onward (now (s .entry)) at)) ⌝ }
 {
     let mut place = at;
     let mut i = 0;
@@ -35,28 +35,20 @@ fn read_guards(s: &[u8], at: usize, count: u8, clocks: u8, variables: u8) -> Rea
     Reached::At(place)
 }
 
-fn still(once: bool, again: bool) -> bool
-    ensures { λ r. ⌜ r ≡ (once && not again) ⌝ }
-{
-    once && !again
-}
-
-// So many assignments from a place on, as a file is checked: whether no variable is assigned twice.
-fn read_updates(s: &[u8], at: usize, count: u8, variables: u8) -> TestRead
-    ensures { λ r. ⌜ testOf (now (s .entry)) r ≡ mapped (λ us. distinct (targets us)) (many count (update (limits 0 variables)) (onward (now (s .entry)) at)) ⌝ }
+// So many updates from a place on, as a file is checked: whether no variable is written twice.
+fn read_updates(s: &[u8], at: usize, count: u8, version: u8, variables: u8) -> TestRead
+    ensures { λ r. ⌜ testOf (now (s .entry)) r ≡ mapped (λ us. distinct (targets us)) (many count (update version variables) (onward (now (s .entry)) at)) ⌝ }
 {
     let mut seen = [false; 256];
     let mut once = true;
     let mut place = at;
     let mut i = 0;
     while i < count {
-        let b = guard::read_update(s, place, variables);
-        let ByteRead::Value(target, next) = b else {
-            return TestRead::Fault(field::byte_fault(b));
+        let u = update::read_update(s, place, version, variables);
+        let FormRead::Form(form, next) = u else {
+            return TestRead::Fault(update::form_fault(u));
         };
-        let v = target as usize;
-        once = still(once, seen[v]);
-        seen[v] = true;
+        once = update::note(form, once, &mut seen);
         place = next;
         i += 1;
     }
@@ -73,7 +65,7 @@ fn all_hold(
     values: &[i32; 16],
     times: [u32; 8],
 ) -> bool
-    ensures { λ r. ⌜ ((gs : _) (t : _) → many count (guard (limits clocks variables)) (onward (now (s .entry)) at) ≡ got gs t → r ≡ all (holds (now (values .entry)) times) gs) ⌝ }
+    ensures { λ r. ⌜ ((gs : _) (t : _) → many count (guard clocks variables) (onward (now (s .entry)) at) ≡ got gs t → r ≡ all (holds (now (values .entry)) times) gs) ⌝ }
 {
     let mut place = at;
     let mut i = 0;
@@ -91,57 +83,35 @@ fn all_hold(
     true
 }
 
-// The value of an expression. The variables pass by value, so that old and new ones are told apart by their names alone.
-fn value_from(s: &[u8], at: usize, variables: u8, values: [i32; 16]) -> ValueRead
-    ensures { λ r. ⌜ valueOf (now (s .entry)) r ≡ mapped (value values) (expression variables 8 (onward (now (s .entry)) at)) ⌝ }
-{
-    guard::value_at(s, at, variables, &values)
-}
-
-// The variables with one of them at a value. There are sixteen; one that is not there changes none.
-fn stored(values: [i32; 16], variable: u8, z: i32) -> [i32; 16]
-    ensures { λ r. ⌜ r ≡ set values variable z ⌝ }
-{
-    let mut next = values;
-    let i = variable as usize;
-    if i < 16 {
-        next[i] = z;
-    }
-    next
-}
-
-// The variables after so many assignments from a place on, which are known to be there. All of them read `old`.
+// The variables after so many updates from a place on, which are known to be there. All of them read `old`.
 fn all_assigned(
     s: &[u8],
     at: usize,
     count: u8,
+    version: u8,
     variables: u8,
     old: [i32; 16],
     new: [i32; 16],
 ) -> [i32; 16]
-    ensures { λ r. ⌜ ((us : _) (t : _) → many count (update (limits 0 variables)) (onward (now (s .entry)) at) ≡ got us t → r ≡ assign old us new) ⌝ }
+    ensures { λ r. ⌜ ((us : _) (t : _) → many count (update version variables) (onward (now (s .entry)) at) ≡ got us t → r ≡ assign old us new) ⌝ }
 {
     let mut values = new;
     let mut place = at;
     let mut i = 0;
     while i < count {
-        let b = field::read_byte_below(s, place, variables);
-        let ByteRead::Value(target, from) = b else {
+        let u = update::updated_at(s, place, version, variables, old, values);
+        let q = u.reached;
+        let Reached::At(next) = q else {
             return old;
         };
-        let v = value_from(s, from, variables, old);
-        let ValueRead::Value(z, next) = v else {
-            return old;
-        };
-        let after = stored(values, target, z);
-        values = after;
+        values = u.values;
         place = next;
         i += 1;
     }
     values
 }
 
-// Rule 13 of a label with so many assignments: a receiver has none, and no variable is assigned twice.
+// Rule 13 of a label with so many updates: a receiver has none, and no variable is written twice.
 fn keeps_rule(signal: u8, updates: u8, once: bool) -> bool
     ensures { λ r. ⌜ r ≡ ((not (eqb signal 2) || eqb updates 0) && once) ⌝ }
 {
@@ -153,8 +123,8 @@ fn keeps_rule(signal: u8, updates: u8, once: bool) -> bool
 }
 
 // The body of a label, as a file is checked: whether it keeps rule 13.
-fn read_body(s: &[u8], at: usize, clocks: u8, variables: u8, signal: u8) -> TestRead
-    ensures { λ r. ⌜ testOf (now (s .entry)) r ≡ mapped (bodyOnce signal) (body (limits clocks variables) (onward (now (s .entry)) at)) ⌝ }
+fn read_body(s: &[u8], at: usize, version: u8, clocks: u8, variables: u8, signal: u8) -> TestRead
+    ensures { λ r. ⌜ testOf (now (s .entry)) r ≡ mapped (bodyOnce signal) (body (limits version clocks variables) (onward (now (s .entry)) at)) ⌝ }
 {
     let g = field::read_byte(s, at);
     let ByteRead::Value(guards, at1) = g else {
@@ -168,7 +138,7 @@ fn read_body(s: &[u8], at: usize, clocks: u8, variables: u8, signal: u8) -> Test
     let Reached::At(at3) = q else {
         return TestRead::Fault(field::reached_fault(q));
     };
-    let u = read_updates(s, at3, updates, variables);
+    let u = read_updates(s, at3, updates, version, variables);
     let TestRead::Value(once, at4) = u else {
         return u;
     };
@@ -224,8 +194,15 @@ pub fn label_fault(l: LabelRead) -> Fault
 }
 
 // A label, as a file is checked.
-pub fn read_label(s: &[u8], at: usize, clocks: u8, variables: u8, channels: u8) -> LabelRead
-    ensures { λ r. ⌜ labelOf (now (s .entry)) r ≡ mapped heading (label (limits clocks variables) channels (onward (now (s .entry)) at)) ⌝ }
+pub fn read_label(
+    s: &[u8],
+    at: usize,
+    version: u8,
+    clocks: u8,
+    variables: u8,
+    channels: u8,
+) -> LabelRead
+    ensures { λ r. ⌜ labelOf (now (s .entry)) r ≡ mapped heading (label (limits version clocks variables) channels (onward (now (s .entry)) at)) ⌝ }
 {
     let a = field::read_byte_below(s, at, 3);
     let ByteRead::Value(signal, at1) = a else {
@@ -239,7 +216,7 @@ pub fn read_label(s: &[u8], at: usize, clocks: u8, variables: u8, channels: u8) 
     let ByteRead::Value(resets, body) = m else {
         return LabelRead::Fault(field::byte_fault(m));
     };
-    let u = read_body(s, body, clocks, variables, signal);
+    let u = read_body(s, body, version, clocks, variables, signal);
     let TestRead::Value(once, next) = u else {
         return LabelRead::Fault(field::test_fault(u));
     };
@@ -264,7 +241,7 @@ pub fn guards_hold(
     values: &[i32; 16],
     times: [u32; 8],
 ) -> bool
-    ensures { λ r. ⌜ ((b : _) (t : _) → body (limits clocks variables) (onward (now (s .entry)) at) ≡ got b t → r ≡ all (holds (now (values .entry)) times) (b .guards)) ⌝ }
+    ensures { λ r. ⌜ ((w : _) (b : _) (t : _) → body (limits w clocks variables) (onward (now (s .entry)) at) ≡ got b t → r ≡ all (holds (now (values .entry)) times) (b .guards)) ⌝ }
 {
     let g = field::read_byte(s, at);
     let ByteRead::Value(guards, at1) = g else {
@@ -277,16 +254,17 @@ pub fn guards_hold(
     all_hold(s, at2, guards, clocks, variables, values, times)
 }
 
-// The variables after the assignments of a body, which is known to stand at a place. All of them read `old`.
+// The variables after the updates of a body, which is known to stand at a place. All of them read `old`.
 pub fn assigned(
     s: &[u8],
     at: usize,
+    version: u8,
     clocks: u8,
     variables: u8,
     old: [i32; 16],
     new: [i32; 16],
 ) -> [i32; 16]
-    ensures { λ r. ⌜ ((b : _) (t : _) → body (limits clocks variables) (onward (now (s .entry)) at) ≡ got b t → r ≡ assign old (b .updates) new) ⌝ }
+    ensures { λ r. ⌜ ((b : _) (t : _) → body (limits version clocks variables) (onward (now (s .entry)) at) ≡ got b t → r ≡ assign old (b .updates) new) ⌝ }
 {
     let g = field::read_byte(s, at);
     let ByteRead::Value(guards, at1) = g else {
@@ -300,5 +278,5 @@ pub fn assigned(
     let Reached::At(at3) = q else {
         return new;
     };
-    all_assigned(s, at3, updates, variables, old, new)
+    all_assigned(s, at3, updates, version, variables, old, new)
 }

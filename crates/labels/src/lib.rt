@@ -1,3 +1,4 @@
-// Guards, assignments, and the labels of transitions and edges that hold them.
+// Guards, updates, and the labels of transitions and edges that hold them.
 pub mod guard;
 pub mod label;
+pub mod update;

@@ -42,7 +42,7 @@ module _ (k : Counts) (rest : List ℕ) where
   EdgesFrom at = many (k .edges) (recorded byte2 (edgeIn k)) (onward rest at)
 
   abbrev net : List Location → List Edge → Network
-  net ls es = record { automata = k .automata; clocks = k .clocks; variables = k .variables; rendezvous = k .rendezvous; broadcasts = k .broadcasts; locations = ls; edges = es }
+  net ls es = record { version = k .version; automata = k .automata; clocks = k .clocks; variables = k .variables; rendezvous = k .rendezvous; broadcasts = k .broadcasts; locations = ls; edges = es }
 
   pub locations-fault : (f : Fault) → skipped Locations ≡ fault (faultOf f) → soundOf (records k (onward rest 8)) ≡ refused (faultNumber f)
   unfolding records skipped

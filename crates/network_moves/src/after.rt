@@ -2,7 +2,7 @@
 ghost use mathlib.Core.Path.{_≡_};
 ghost use mathlib.Core.List.{map};
 ghost use lib.ListN.{getD, set};
-ghost use Rattle.labels.specs.Guard.{assign};
+ghost use Rattle.labels.specs.Update.{assign};
 ghost use Rattle.network_records.specs.Network.{Network, edgeAt};
 ghost use Rattle.network_moves.specs.Choices.{Known};
 ghost use Rattle.network_moves.specs.Machine.{overwrite, after};
@@ -50,7 +50,15 @@ fn with_flags(flags: [u8; 16], automaton: u8, written: u8, values: u8) -> [u8; 1
 fn assigned_by(rest: &[u8], counts: Counts, e: Edge, old: [i32; 16], new: [i32; 16]) -> [i32; 16]
     ensures { λ r. ⌜ ((d : _) → Kept counts (now (rest .entry)) e d → r ≡ assign old (d .label .body .updates) new) ⌝ }
 {
-    labels::label::assigned(rest, e.body, counts.clocks, counts.variables, old, new)
+    labels::label::assigned(
+        rest,
+        e.body,
+        counts.version,
+        counts.clocks,
+        counts.variables,
+        old,
+        new,
+    )
 }
 
 // The configuration with one more edge taken. Its assignments read the old values.

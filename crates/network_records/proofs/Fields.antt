@@ -7,8 +7,7 @@ use native.Mathlib.Omega.{arith}
 use lib.Dec.{leb}
 use lib.ListN.{length, getD, take, drop}
 use Rattle.reading.specs.Reading.{Fault, got, fault, Reader, _>>=_, byte, byte2, such, end, framed, whole, recorded}
-use Rattle.labels.specs.Label.{Label, body, label}
-use Rattle.labels.specs.Guard.{Limits, limits}
+use Rattle.labels.specs.Label.{Limits, limits, Label, body, label}
 use Rattle.reading.specs.Places.{onward}
 use Rattle.reading.proofs.Reading.{no-answer, got-value, bind-at, next-at, yield-at, such-at}
 use Rattle.reading.proofs.Places.{onward-all, onward-onward}
@@ -67,7 +66,7 @@ record Fields (l : Limits) (p : List ℕ) (e : Edge) : Type 0 where
   values : byte (onward p 9) ≡ got (e .values) (onward p 10)
   label : LabelFields l p (e .label)
 
-fields : (k : Counts) (p : List ℕ) {e : Edge} {t : List ℕ} → edgeIn k p ≡ got e t → Fields (limits (k .clocks) (k .variables)) p e
+fields : (k : Counts) (p : List ℕ) {e : Edge} {t : List ℕ} → edgeIn k p ≡ got e t → Fields (limits (k .version) (k .clocks) (k .variables)) p e
 unfolding edge
 fields k p {e} {t} h =
     past p e t _ _ _ 0 1 (one _) (λ s hs. past p e t _ _ _ 1 1 (one _) λ d hd. past p e t _ _ _ 2 1 (one _) λ y hy. past p e t _ _ _ 3 1 (one _) λ x hx.
@@ -107,7 +106,7 @@ module _ (k : Counts) (rest : List ℕ) (at : ℕ) {e : Edge} {t : List ℕ} (h 
   bytes = take (content .0) (drop (at + 2) rest)
 
   abbrev l : Limits
-  l = limits (k .clocks) (k .variables)
+  l = limits (k .version) (k .clocks) (k .variables)
 
   here : Fields l bytes e
   here = fields k bytes (content .2)

@@ -8,8 +8,7 @@ use mathlib.Core.List.{List}
 use Rattle.lists.specs.Lists.{implies, subset}
 use Rattle.reading.specs.Reading.{Read, got, fault, Reader, yield, _>>=_, byte, byte2, such, recorded}
 use Rattle.reading.specs.Places.{onward, faultOf}
-use Rattle.labels.specs.Guard.{limits}
-use Rattle.labels.specs.Label.{Label, label, body, assignsOnce}
+use Rattle.labels.specs.Label.{limits, Label, label, body, assignsOnce}
 use Rattle.labels.specs.declared.label.LabelRead.{LabelRead}
 use Rattle.labels.specs.declared.label.LabelRead.the-variants as Lb
 use Rattle.reading.specs.declared.field.TestRead.{TestRead}
@@ -20,10 +19,10 @@ use Rattle.network_records.specs.declared.edge.Edge as code
 
 -- the reader of a file's edges, and that of their labels
 abbrev pub labelIn : Counts → Reader Label
-labelIn k = label (limits (k .clocks) (k .variables)) (k .rendezvous + k .broadcasts)
+labelIn k = label (limits (k .version) (k .clocks) (k .variables)) (k .rendezvous + k .broadcasts)
 
 abbrev pub edgeIn : Counts → Reader Edge
-edgeIn k = edge (k .automata) (k .locations) (limits (k .clocks) (k .variables)) (k .rendezvous + k .broadcasts)
+edgeIn k = edge (k .automata) (k .locations) (limits (k .version) (k .clocks) (k .variables)) (k .rendezvous + k .broadcasts)
 
 -- an edge from the automata tested on, after its first four fields
 unfoldable pub edgeFromTested : Counts → ℕ → ℕ → ℕ → ℕ → Reader Edge
@@ -56,7 +55,7 @@ pub record Kept (k : Counts) (s : List ℕ) (c : code.Edge) (e : Edge) : Type 0 
   pub signal : c .signal ≡ e .label .signal
   pub channel : c .channel ≡ e .label .channel
   pub resets : c .resets ≡ e .label .resets
-  pub body : (t : List ℕ) × (body (limits (k .clocks) (k .variables)) (onward s (c .body)) ≡ got (e .label .body) t)
+  pub body : (t : List ℕ) × (body (limits (k .version) (k .clocks) (k .variables)) (onward s (c .body)) ≡ got (e .label .body) t)
 
 -- each of some edges stands in s at its offset
 abbrev pub EdgesAt : Counts → List ℕ → List ℕ → List Edge → Type 0

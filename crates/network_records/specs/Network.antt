@@ -7,8 +7,8 @@ use lib.ListN.{getD, length}
 use Rattle.lists.specs.Lists.{all, below, keep, implies, subset}
 use Rattle.reading.specs.Reading.{length-fault, range-fault, Read, got, fault, Reader, yield, _>>=_, _>>_, byte, byte2, such, many, end, recorded}
 use Rattle.reading.specs.Places.{onward}
-use Rattle.labels.specs.Guard.{Limits, limits}
-use Rattle.labels.specs.Label.{Label, label, assignsOnce}
+use Rattle.reading.specs.Version.{isVersion}
+use Rattle.labels.specs.Label.{Limits, limits, Label, label, assignsOnce}
 use Rattle.clocks.specs.Clocks.{row}
 use Rattle.reading.specs.Answer.{Answer, done, refused, unless}
 use Rattle.reading.specs.Answer as answer
@@ -32,6 +32,7 @@ pub record Edge : Type 0 where
   pub label : Label
 
 pub record Network : Type 0 where
+  pub version : ℕ
   pub automata : ℕ
   pub clocks : ℕ
   pub variables : ℕ
@@ -65,9 +66,9 @@ edge automata locations l channels = do
 unfoldable pub records : Counts → Reader Network
 records k = do
   ls ← many (k .locations) (recorded byte (location (k .automata) (k .clocks)))
-  es ← many (k .edges) (recorded byte2 (edge (k .automata) (k .locations) (limits (k .clocks) (k .variables)) (k .rendezvous + k .broadcasts)))
+  es ← many (k .edges) (recorded byte2 (edge (k .automata) (k .locations) (limits (k .version) (k .clocks) (k .variables)) (k .rendezvous + k .broadcasts)))
   end
-  yield (record { automata = k .automata; clocks = k .clocks; variables = k .variables; rendezvous = k .rendezvous; broadcasts = k .broadcasts; locations = ls; edges = es })
+  yield (record { version = k .version; automata = k .automata; clocks = k .clocks; variables = k .variables; rendezvous = k .rendezvous; broadcasts = k .broadcasts; locations = ls; edges = es })
 
 -- 24 for a length, 25 for a field
 unfoldable pub numbered : {A : Type 0} → Read A → Answer A
@@ -75,16 +76,17 @@ numbered (got a rest) = done a
 numbered (fault length-fault) = refused 24
 numbered (fault range-fault) = refused 25
 
--- at least 13 bytes: version 1, four that give the length of the rest, and eight of counts
+-- at least 13 bytes: a version, four that give the length of the rest, and eight of counts
 unfoldable pub headed : List ℕ → Bool
 headed file =
     leb 13 (length file)
-    && (eqb (getD file 0 0) 1
+    && (isVersion (getD file 0 0)
     && eqb (256 * (256 * (256 * getD file 1 0 + getD file 2 0) + getD file 3 0) + getD file 4 0) (length file - 5))
 
--- the counts of automata, locations, edges (two bytes), clocks, variables, rendezvous and broadcast channels
+-- the version, and the counts of automata, locations, edges (two bytes), clocks, variables, rendezvous and broadcast channels
 abbrev pub countsAt : List ℕ → Counts
 countsAt file = record {
+  version = getD file 0 0;
   automata = getD file 5 0;
   locations = getD file 6 0;
   edges = 256 * getD file 7 0 + getD file 8 0;

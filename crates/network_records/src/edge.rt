@@ -111,7 +111,14 @@ fn read_edge_label(s: &[u8], at: usize, counts: Counts) -> TestRead
     ensures { λ r. ⌜ (inRange counts ≡ true → testOf (now (s .entry)) r ≡ mapped assignsOnce (labelIn counts (onward (now (s .entry)) at))) ⌝ }
 {
     let channels = channels_of(counts);
-    let l = labels::label::read_label(s, at, counts.clocks, counts.variables, channels);
+    let l = labels::label::read_label(
+        s,
+        at,
+        counts.version,
+        counts.clocks,
+        counts.variables,
+        channels,
+    );
     label_once(l)
 }
 

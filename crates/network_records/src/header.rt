@@ -1,9 +1,10 @@
-// The header of a network file: version 1, the length of the rest in four bytes, and the counts.
+// The header of a network file: the version, the length of the rest in four bytes, and the counts.
 ghost use mathlib.Core.Path.{_≡_};
 ghost use Rattle.network_records.specs.Network.{inRange, headed, countsAt, countsOf};
 ghost use Rattle.network_records.specs.Headers.{headerOf, HeaderFits};
 
 pub struct Counts {
+    pub version: u8,
     pub automata: u8,
     pub locations: u8,
     pub edges: u16,
@@ -27,7 +28,7 @@ fn in_range(k: Counts) -> bool
     (1 <= k.automata) & ((k.automata <= 16) & records)
 }
 
-// Version 1 and the right length.
+// A version and the right length.
 fn headed(file: &[u8]) -> bool
     ensures { λ r. ⌜ r ≡ headed (now (file .entry)) ⌝ }
 {
@@ -35,13 +36,14 @@ fn headed(file: &[u8]) -> bool
         return false;
     }
     let length = reading::field::word_of(file[1], file[2], file[3], file[4]);
-    (file[0] == 1) & (length as usize == file.len() - 5)
+    reading::version::is_version(file[0]) & (length as usize == file.len() - 5)
 }
 
 fn counts_at(file: &[u8]) -> Counts
     ensures { λ r. ⌜ r ≡ countsAt (now (file .entry)) ⌝ }
 {
     Counts {
+        version: reading::field::byte_at(file, 0),
         automata: reading::field::byte_at(file, 5),
         locations: reading::field::byte_at(file, 6),
         edges: reading::field::short_of(

@@ -16,6 +16,10 @@ no-answer e = absurd (let z : _≡_ {A = ℕ} 0 1 = cc in omega arith)
 pub got-value : {A : Type 0} {a b : A} {s t : List ℕ} → got a s ≡ got b t → a ≡ b
 got-value e = cc
 
+-- a value as another has it
+pub got-by : {A : Type 0} {a b : A} {t : List ℕ} {r : Read A} → a ≡ b → r ≡ got b t → got a t ≡ r
+got-by {t = t} e h = ap (λ a. got a t) e ∙ sym h
+
 pub got-rest : {A : Type 0} {a b : A} {s t : List ℕ} → got a s ≡ got b t → s ≡ t
 got-rest e = cc
 

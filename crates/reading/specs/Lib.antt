@@ -3,3 +3,4 @@ pub mod Answer
 pub mod Places
 pub mod Reading
 pub mod Verdict
+pub mod Version

@@ -10,7 +10,7 @@ use lib.IntN.{ℤ}
 use lib.ListN.{length, getD, drop, length-drop}
 use lib.Seq.{getD-drop, drop-set-lt}
 use Rattle.lists.specs.Lists.{all, concat}
-use Rattle.labels.specs.Guard.{Update, assign}
+use Rattle.labels.specs.Update.{Update, assignment, advance, formOf, writes, updated, assign}
 use Rattle.labels.specs.Label.{Label, body}
 use Rattle.clocks.specs.Clocks.{clock-limit, reset, inLimit, zeroPast, keeps, isZero, zerosPast}
 use Rattle.steps.specs.Moves.{variablesAfter, clocksAfter}
@@ -20,14 +20,22 @@ use Rattle.lists.proofs.Concat.{concat-at}
 use Rattle.clocks.proofs.Clocks.{length-reset, reset-keeps, reset-at-most, reset-none}
 use Rattle.clocks.proofs.Rows.{values-reset, ClockValues}
 
-zeros-past-assign : (n : ℕ) (old : List ℤ) (us : List Update) (new : List ℤ) → ((u : Update) → Mem u us → u .target < n) → zerosPast n (assign old us new) ≡ zerosPast n new
-unfolding assign zerosPast
+-- an update that writes declared variables leaves the others
+zeros-past-updated : (n : ℕ) (old : List ℤ) (u : Update) (new : List ℤ) → ((v : ℕ) → Mem v (writes (formOf u)) → v < n) → zerosPast n (updated old u new) ≡ zerosPast n new
+unfolding updated zerosPast
+zeros-past-updated n old (assignment v e) new f = ap (all isZero) (drop-set-lt n new v _ (f v (here refl)))
+zeros-past-updated n old (advance a) new f =
+    ap (all isZero) (drop-set-lt n _ (a .remainder) _ (f (a .remainder) (there (here refl))) ∙ drop-set-lt n new (a .steps) _ (f (a .steps) (here refl)))
+
+zeros-past-assign : (n : ℕ) (old : List ℤ) (us : List Update) (new : List ℤ) → ((u : Update) → Mem u us → (v : ℕ) → Mem v (writes (formOf u)) → v < n)
+    → zerosPast n (assign old us new) ≡ zerosPast n new
+unfolding assign
 zeros-past-assign n old [] new f = refl
-zeros-past-assign n old (u ∷ us) new f = zeros-past-assign n old us _ (λ v m. f v (there m)) ∙ ap (all isZero) (drop-set-lt n new (u .target) _ (f u (here refl)))
+zeros-past-assign n old (u ∷ us) new f = zeros-past-assign n old us _ (λ v m. f v (there m)) ∙ zeros-past-updated n old u new (f u (here refl))
 
 -- so a step leaves undeclared variables as they are
 pub zeros-past-after : (n : ℕ) (ls : List Label) (vs : List ℤ) →
-    ((l : Label) → Mem l ls → (u : Update) → Mem u (l .body .updates) → u .target < n) →
+    ((l : Label) → Mem l ls → (u : Update) → Mem u (l .body .updates) → (v : ℕ) → Mem v (writes (formOf u)) → v < n) →
     zerosPast n (variablesAfter ls vs) ≡ zerosPast n vs
 unfolding variablesAfter
 zeros-past-after n ls vs f = zeros-past-assign n vs _ vs (λ u m. let r = concat-at (λ (l : Label). l .body .updates) ls m in f (r .0) (r .1) u (r .2))

@@ -12,7 +12,7 @@ guards-hold-requires c κs = search needs
 
 returns : tie.Need-returns
 unfolding guardsHold
-returns c = λ k L h. let b = body-here L _ h (c .before .before .body-of .ensures) in c .guards-hold .ensures _ (b .0) (b .1)
+returns c = λ k L h. let b = body-here L _ h (c .before .before .body-of .ensures) in c .guards-hold .ensures _ _ (b .0) (b .1)
 
 pub guards-hold-spec : {M : Type 1} → statement M
 guards-hold-spec = tie.close (tie.spec body-of-requires guards-hold-requires returns)

@@ -27,25 +27,24 @@ byte-at-requires-7 c κs = search needs
 byte-at-requires-8 : tie.Need-byte-at-requires-8
 byte-at-requires-8 c κs = search needs
 
+byte-at-requires-9 : tie.Need-byte-at-requires-9
+byte-at-requires-9 c κs = search needs
+
 returns : tie.Need-returns
 unfolding countsAt
 returns c =
     let place-1 = c .before .before .before in
-    let byte-at5 = place-1 .byte-at5 in
-    let byte-at4 = place-1 .before .byte-at4 in
-    let byte-at3 = place-1 .before .before .byte-at3 in
     let place-2 = place-1 .before .before .before in
-    let byte-at2 = place-2 .byte-at2 in
-    let byte-at = place-2 .before .byte-at in
     rw (
-      byte-at .ensures,
-      byte-at2 .ensures,
-      byte-at3 .ensures,
-      byte-at4 .ensures,
-      byte-at5 .ensures,
-      c .before .before .byte-at6 .ensures,
-      c .before .byte-at7 .ensures,
-      c .byte-at8 .ensures,
+      place-2 .before .before .byte-at .ensures,
+      place-2 .before .byte-at2 .ensures,
+      place-2 .byte-at3 .ensures,
+      place-1 .before .before .byte-at4 .ensures,
+      place-1 .before .byte-at5 .ensures,
+      place-1 .byte-at6 .ensures,
+      c .before .before .byte-at7 .ensures,
+      c .before .byte-at8 .ensures,
+      c .byte-at9 .ensures,
     )
 
 pub counts-at-spec : {M : Type 1} → statement M
@@ -60,4 +59,5 @@ counts-at-spec =
     byte-at-requires-6
     byte-at-requires-7
     byte-at-requires-8
+    byte-at-requires-9
     returns)

@@ -1,4 +1,5 @@
-use borrow.Author.Tests.{le-leb, lt-leb, eq-eqb, ne-eqb}
+use borrow.Author.Tests.{le-leb, lt-leb, not-true, not-false}
+use mathlib.Core.Path.{_≡_, sym, _∙_}
 use Rattle.chart_records.specs.Chart.{headed}
 use borrow.Author.Needs.{needs}
 use Rattle.chart_records.proofs.header.is_headed.Statement.{statement}
@@ -12,12 +13,21 @@ returns-2 : tie.Need-returns-2
 unfolding headed
 returns-2 c = rw (le-leb 11 _ (c .before .if1 .left), lt-leb _ 65536 (c .if2 .taken))
 
-shared-slice-read-if3 : tie.Need-shared-slice-read-if3
-shared-slice-read-if3 c = search needs
+shared-slice-read-is-version : tie.Need-shared-slice-read-is-version
+shared-slice-read-is-version c = search needs
+
+is-version-requires : tie.Need-is-version-requires
+is-version-requires c κs = search needs
 
 returns-3 : tie.Need-returns-3
 unfolding headed
-returns-3 c = rw (le-leb 11 _ (c .before .before .before .if1 .left), le-leb _ 65536 (c .before .before .if2 .left), ne-eqb _ 1 (c .if3 .taken))
+returns-3 c =
+    let at-version = c .before in
+    rw (
+      le-leb 11 _ (at-version .before .before .before .if1 .left),
+      le-leb _ 65536 (at-version .before .before .if2 .left),
+      sym (at-version .is-version .ensures) ∙ not-true _ (c .if3 .taken),
+    )
 
 shared-slice-read-short-of : tie.Need-shared-slice-read-short-of
 shared-slice-read-short-of c = search needs
@@ -36,7 +46,15 @@ sub-result c = search needs
 
 returns-4 : tie.Need-returns-4
 unfolding headed
-returns-4 c = rw (le-leb 11 _ (c .before .before .before .before .before .before .if1 .left), le-leb _ 65536 (c .before .before .before .before .before .if2 .left), eq-eqb _ 1 (c .before .before .before .if3 .left), c .short-of .ensures)
+returns-4 c =
+    let at-else = c .before .before .before in
+    let at-version = at-else .before in
+    rw (
+      le-leb 11 _ (at-version .before .before .before .if1 .left),
+      le-leb _ 65536 (at-version .before .before .if2 .left),
+      sym (at-version .is-version .ensures) ∙ not-false _ (at-else .if3 .left),
+      c .short-of .ensures,
+    )
 
 pub is-headed-spec : {M : Type 1} → statement M
 is-headed-spec =
@@ -44,7 +62,8 @@ is-headed-spec =
     (tie.spec
     returns
     returns-2
-    shared-slice-read-if3
+    shared-slice-read-is-version
+    is-version-requires
     returns-3
     shared-slice-read-short-of
     shared-slice-read-short-of-2

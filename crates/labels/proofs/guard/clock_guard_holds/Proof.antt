@@ -26,7 +26,7 @@ unfolding clockGuard clock yield holds
 returns c =
     let at-read-byte-below = c .before .before .before in
     let fails = answered (byteOf _) (at-read-byte-below .read-byte-below .ensures) (c .before .enum-told .given .1) in
-    λ v vars.
+    λ vars.
     handed-on byteFault (c .byte-fault .ensures) (c .before .enum-told .given .1)
     (mapped-fault _ (bind-fault _ _ _ fails))
 
@@ -49,7 +49,7 @@ returns-2 c =
     let at-c = at-read-byte-below2 .before .before in
     let read-c = answered (byteOf _) (at-c .before .before .read-byte-below .ensures) (at-c .c .given .1) in
     let fails = answered (byteOf _) (at-read-byte-below2 .read-byte-below2 .ensures) (c .before .enum-told2 .given .1) in
-    λ v vars.
+    λ vars.
     handed-on byteFault (c .byte-fault2 .ensures) (c .before .enum-told2 .given .1)
     (mapped-fault _ (bind-got _ _ _ read-c ∙ bind-fault _ _ _ (relation-fault _ fails)))
 
@@ -74,7 +74,7 @@ returns-3 c =
     let read-c = answered (byteOf _) (at-c .before .before .read-byte-below .ensures) (at-c .c .given .1) in
     let read-k = answered (byteOf _) (at-k .before .before .read-byte-below2 .ensures) (at-k .k .given .1) in
     let fails = answered (wordOf _) (at-read-ticks .read-ticks .ensures) (c .before .enum-told3 .given .1) in
-    λ v vars.
+    λ vars.
     handed-on wordFault (c .word-fault .ensures) (c .before .enum-told3 .given .1)
     (mapped-fault _ (bind-got _ _ _ read-c ∙ bind-got _ _ _ (relation-got _ read-k) ∙ bind-fault _ _ _ fails))
 
@@ -96,7 +96,7 @@ returns-4 c =
     let read-c = answered (byteOf _) (at-c .before .before .read-byte-below .ensures) (at-c .c .given .1) in
     let read-k = answered (byteOf _) (at-k .before .before .read-byte-below2 .ensures) (at-k .k .given .1) in
     let read-w = answered (wordOf _) (at-w .before .before .read-ticks .ensures) (at-w .w .given .1) in
-    λ v vars.
+    λ vars.
     rw (c .compare-clocks .ensures, c .before .time-of .ensures .0) (sym (mapped-got (holds vars _)
     (bind-got _ _ _ read-c ∙ bind-got _ _ _ (relation-got _ read-k) ∙ bind-got _ _ _ read-w)))
 

@@ -27,7 +27,7 @@ unfolding dataGuard yield holds
 returns c =
     let at-read-byte-below = c .before .before .before in
     let fails = answered (byteOf _) (at-read-byte-below .read-byte-below .ensures) (c .before .enum-told .given .1) in
-    λ l times.
+    λ times.
     handed-on byteFault (c .byte-fault .ensures) (c .before .enum-told .given .1) (mapped-fault _ (bind-fault _ _ _ (relation-fault _ fails)))
 
 value-at-requires : tie.Need-value-at-requires
@@ -49,7 +49,7 @@ returns-2 c =
     let at-k = at-value-at .before .before in
     let read-k = answered (byteOf _) (at-k .before .before .read-byte-below .ensures) (at-k .k .given .1) in
     let fails = answered (valueOf _) (at-value-at .value-at .ensures) (c .before .enum-told2 .given .1) in
-    λ l times.
+    λ times.
     handed-on valueFault (c .value-fault .ensures) (c .before .enum-told2 .given .1)
     (mapped-fault _ (bind-got _ _ _ (relation-got _ read-k) ∙ bind-fault _ _ _ (fault-at _ _ fails)))
 
@@ -74,7 +74,7 @@ returns-3 c =
     let read-k = answered (byteOf _) (at-k .before .before .read-byte-below .ensures) (at-k .k .given .1) in
     let read-v = answered (valueOf _) (at-v .before .before .value-at .ensures) (at-v .v .given .1) in
     let fails = answered (valueOf _) (at-value-at2 .value-at2 .ensures) (c .before .enum-told3 .given .1) in
-    λ l times.
+    λ times.
     handed-on valueFault (c .value-fault2 .ensures) (c .before .enum-told3 .given .1)
     (mapped-fault _ (bind-got _ _ _ (relation-got _ read-k)
     ∙ bind-got _ _ _ (mapped-at _ _ read-v .1)
@@ -93,7 +93,7 @@ returns-4 c =
     let read-k = answered (byteOf _) (at-k .before .before .read-byte-below .ensures) (at-k .k .given .1) in
     let read-v = answered (valueOf _) (at-v .before .before .value-at .ensures) (at-v .v .given .1) in
     let read-w = answered (valueOf _) (at-w .before .before .value-at2 .ensures) (at-w .w .given .1) in
-    λ l times.
+    λ times.
     rw (
       c .compare .ensures,
       read-back (at-v .v .given .0 .0) (at-known-told2 .known-told2 .given .0 .1),

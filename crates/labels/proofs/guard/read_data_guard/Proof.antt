@@ -27,7 +27,6 @@ unfolding dataGuard skipped yield
 returns c =
     let at-read-byte-below = c .before .before .before in
     let fails = answered (byteOf _) (at-read-byte-below .read-byte-below .ensures) (c .before .enum-told .given .1) in
-    λ l.
     handed-on byteFault (c .byte-fault .ensures) (c .before .enum-told .given .1) (mapped-fault _ (bind-fault _ _ _ (relation-fault _ fails)))
 
 expression-at-requires : tie.Need-expression-at-requires
@@ -45,7 +44,6 @@ returns-2 c =
     let at-k = c .before .before .before .before in
     let read-k = answered (byteOf _) (at-k .before .before .read-byte-below .ensures) (at-k .k .given .1) in
     let fails = answered (reached _ tt) (c .before .before .expression-at .ensures) (c .enum-told2 .given .1) in
-    λ l.
     ap (reached _ tt) (c .enum-told2 .given .1)
     ∙ sym (mapped-fault _ (bind-got _ _ _ (relation-got _ read-k) ∙ bind-fault _ _ _ (fault-at _ _ fails)))
 
@@ -59,7 +57,6 @@ returns-3 c =
     let at-k = at-a .before .before .before .before in
     let read-k = answered (byteOf _) (at-k .before .before .read-byte-below .ensures) (at-k .k .given .1) in
     let read-a = answered (reached _ tt) (at-a .before .before .expression-at .ensures) (at-a .a .given .1) in
-    λ l.
     c .expression-at2 .ensures
     ∙ sym (ap (mapped (λ g. tt)) (bind-got _ _ _ (relation-got _ read-k) ∙ bind-got _ _ _ (mapped-at _ _ read-a .1))
     ∙ mapped-yield (λ g. tt) _ (expression _ 8) _)

@@ -1,93 +1,46 @@
-use mathlib.Core.Path.{_≡_, refl, sym, ap, ap₂, _∙_}
+use mathlib.Core.Path.{_≡_, refl, sym, ap, _∙_}
 use mathlib.Core.List.{List, []}
 use Prim.Native.Nat.{_-_}
 use lib.IntN.{ℤ}
-use Rattle.expr.proofs.Integers.{read-back}
 use borrow.Author.Needs.{needs}
-use lib.ListN.{set}
-use Rattle.reading.specs.Reading.{got, yield}
-use Rattle.labels.specs.Guard.{Update, limits, update, assign}
-use Rattle.expr.specs.Expression.{Expr, value}
-use Rattle.reading.specs.Places.{onward, byteOf, valueOf}
-use Rattle.reading.proofs.Places.{answered, bind-got, bind-fault}
+use Rattle.reading.specs.Reading.{got}
+use Rattle.labels.specs.Update.{Update, update, updated, assign}
+use Rattle.reading.specs.Places.{onward, reached}
+use Rattle.reading.proofs.Places.{answered}
 use Rattle.reading.proofs.Reading.{no-answer, got-value, mapped-at, fault-at}
-use Rattle.labels.proofs.Labels.{assign-more}
+use Rattle.labels.proofs.Updates.{assign-more}
 use Rattle.reading.proofs.Many.{Going, going-none, going-more, going-stop, going-all}
 use Rattle.labels.proofs.label.all_assigned.Statement.{statement}
 use Rattle.labels.proofs.label.all_assigned.Tie as tie
 
 abbrev Inv-loop : tie.InvT-loop
-Inv-loop s at count variables old values₀ place₀ i₀ values place i =
+Inv-loop s at count version variables old values₀ place₀ i₀ values place i =
     (us : List Update)
-    × Going (update (limits 0 variables)) count (onward s at) (onward s place) i us
+    × Going (update version variables) count (onward s at) (onward s place) i us
     × (values ≡ assign old us values₀)
 
 abbrev μ-loop : tie.MeasureT-loop
-μ-loop s at count variables old values₀ place₀ i₀ values place i = count - i
-
--- the assignment that was read
-read : (c : tie.After-known-told2 Inv-loop μ-loop) →
-    let a = c .before .before .before .before .before .before .before .before .before .before .before .args in
-    (e : Expr)
-    × (update (limits 0 (a .variables))
-    (onward (a .s .now) (c .before .before .before .before .before .before .before .before .before .loop .place))
-    ≡ got (record { target = c .before .before .before .before .before .b .given .0 .0; expr = e })
-    (onward (a .s .now) (c .before .v .given .0 .1 .0)))
-    × (value (a .old) e ≡ c .before .v .given .0 .0)
-unfolding update yield
-read c =
-    let at-value-from = c .before .before .before in
-    let at-b = at-value-from .before .before in
-    let read-b = answered (byteOf _) (at-b .before .before .read-byte-below .ensures) (at-b .b .given .1) in
-    let read-v = answered (valueOf _) (at-value-from .value-from .ensures) (c .before .v .given .1) in
-    let m = mapped-at _ _ read-v in (m .0, bind-got _ _ _ read-b ∙ bind-got _ _ _ (m .1), m .2)
+μ-loop s at count version variables old values₀ place₀ i₀ values place i = count - i
 
 loop-holds : tie.Need-loop-holds Inv-loop μ-loop
 unfolding assign
 loop-holds c = ([], going-none _ _ _, refl)
 
-read-byte-below-requires : tie.Need-read-byte-below-requires Inv-loop μ-loop
-read-byte-below-requires c κs = search needs
+updated-at-requires : tie.Need-updated-at-requires Inv-loop μ-loop
+updated-at-requires c κs = search needs
 
-enum-known-b : tie.Need-enum-known-b Inv-loop μ-loop
-enum-known-b c = search needs
+enum-known-q : tie.Need-enum-known-q Inv-loop μ-loop
+enum-known-q c = search needs
 
 enum-told : tie.Need-enum-told Inv-loop μ-loop
 enum-told c = search needs
 
 returns : tie.Need-returns Inv-loop μ-loop
-unfolding update
 returns c =
-    let at-loop-test = c .before .before .before in
-    let fails = answered (byteOf _) (c .before .before .read-byte-below .ensures) (c .enum-told .given .1) in
-    λ us t e.
-    no-answer (sym (going-stop _ _ _ (at-loop-test .before .loop .inv .1) (at-loop-test .loop-test .taken)
-    (bind-fault _ _ _ fails))
-    ∙ e)
-
-value-from-requires : tie.Need-value-from-requires Inv-loop μ-loop
-value-from-requires c κs = search needs
-
-enum-known-v : tie.Need-enum-known-v Inv-loop μ-loop
-enum-known-v c = search needs
-
-enum-told-2 : tie.Need-enum-told-2 Inv-loop μ-loop
-enum-told-2 c = search needs
-
-returns-2 : tie.Need-returns-2 Inv-loop μ-loop
-unfolding update
-returns-2 c =
-    let at-b = c .before .before .before .before in
-    let at-loop-test = at-b .before .before .before in
-    let read-b = answered (byteOf _) (at-b .before .before .read-byte-below .ensures) (at-b .b .given .1) in
-    let fails = answered (valueOf _) (c .before .before .value-from .ensures) (c .enum-told2 .given .1) in
-    λ us t e.
-    no-answer (sym (going-stop _ _ _ (at-loop-test .before .loop .inv .1) (at-loop-test .loop-test .taken)
-    (bind-got _ _ _ read-b ∙ bind-fault _ _ _ (fault-at _ _ fails)))
-    ∙ e)
-
-stored-requires : tie.Need-stored-requires Inv-loop μ-loop
-stored-requires c κs = search needs
+    let at-updated-at = c .before .before in
+    let at-loop-test = at-updated-at .before in
+    let fails = answered (reached _ _) (at-updated-at .updated-at .ensures) (c .enum-told .given .1) in
+    λ us t e. no-answer (sym (going-stop _ _ _ (at-loop-test .before .loop .inv .1) (at-loop-test .loop-test .taken) (fault-at _ _ fails)) ∙ e)
 
 add-i : tie.Need-add-i Inv-loop μ-loop
 add-i c = search needs
@@ -97,20 +50,19 @@ loop-less c = search needs
 
 loop-again : tie.Need-loop-again Inv-loop μ-loop
 loop-again c =
-    let at-b = c .before .before .before .before .before .before in
-    let at-loop-test = at-b .before .before .before in
+    let at-q = c .before .before in
+    let at-updated-at = at-q .before .before in
+    let at-loop-test = at-updated-at .before in
     let g = at-loop-test .before .loop .inv in
-    let r = read (c .before) in (
+    let a = at-loop-test .before .before .before .args in
+    let r = mapped-at _ _ (answered (reached _ _) (at-updated-at .updated-at .ensures) (at-q .q .given .1)) in (
       _,
       going-more _ _ _ (g .1) (at-loop-test .loop-test .taken) (r .1),
-      c .stored .ensures
-          ∙ ap₂ (λ (vs : List ℤ) (z : ℤ). set vs (at-b .b .given .0 .0) z) (g .2)
-          (read-back (c .before .before .v .given .0 .0) (c .before .known-told2 .given .0 .1) ∙ sym (r .2))
-          ∙ sym (assign-more _ (g .0) _ _),
+      sym (r .2) ∙ ap (λ (vs : List ℤ). updated (a .old) (r .0) vs) (g .2) ∙ sym (assign-more (a .old) (g .0) (r .0) (a .new)),
     )
 
-returns-3 : tie.Need-returns-3 Inv-loop μ-loop
-returns-3 c =
+returns-2 : tie.Need-returns-2 Inv-loop μ-loop
+returns-2 c =
     let start = c .before .before .before in
     λ us t e.
     let g = c .before .loop .inv in
@@ -125,16 +77,11 @@ all-assigned-spec =
     Inv-loop
     μ-loop
     loop-holds
-    read-byte-below-requires
-    enum-known-b
+    updated-at-requires
+    enum-known-q
     enum-told
     returns
-    value-from-requires
-    enum-known-v
-    enum-told-2
-    returns-2
-    stored-requires
     add-i
     loop-less
     loop-again
-    returns-3)
+    returns-2)

@@ -6,7 +6,7 @@ use borrow.Author.Needs.{needs}
 use borrow.Author.Tests.{not-true, not-false}
 use Rattle.lists.proofs.Bools.{both}
 use Rattle.lists.specs.Lists.{all}
-use Rattle.labels.specs.Guard.{Guard, limits, guard, holds}
+use Rattle.labels.specs.Guard.{Guard, guard, holds}
 use Rattle.reading.specs.Places.{onward, testOf}
 use Rattle.reading.proofs.Places.{answered}
 use Rattle.reading.proofs.Reading.{no-answer, got-value, mapped-at, fault-at}
@@ -18,7 +18,7 @@ use Rattle.labels.proofs.label.all_hold.Tie as tie
 abbrev Inv-loop : tie.InvT-loop
 Inv-loop s at count clocks variables values times place₀ i₀ place i =
     (seen : List Guard)
-    × Going (guard (limits clocks variables)) count (onward s at) (onward s place) i seen
+    × Going (guard clocks variables) count (onward s at) (onward s place) i seen
     × (all (holds values times) seen ≡ true)
 
 abbrev μ-loop : tie.MeasureT-loop

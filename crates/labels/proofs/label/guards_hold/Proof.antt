@@ -19,7 +19,7 @@ enum-told c = search needs
 
 returns : tie.Need-returns
 unfolding body
-returns c = λ b t e. no-answer (sym (bind-fault _ _ _ (answered (byteOf _) (c .before .before .read-byte .ensures .0) (c .enum-told .given .1))) ∙ e)
+returns c = λ w b t e. no-answer (sym (bind-fault _ _ _ (answered (byteOf _) (c .before .before .read-byte .ensures .0) (c .enum-told .given .1))) ∙ e)
 
 read-byte-requires-2 : tie.Need-read-byte-requires-2
 read-byte-requires-2 c κs = search needs
@@ -36,7 +36,7 @@ returns-2 c =
     let at-g = c .before .before .before .before in
     let read-g = answered (byteOf _) (at-g .before .before .read-byte .ensures .0) (at-g .g .given .1) in
     let fails = answered (byteOf _) (c .before .before .read-byte2 .ensures .0) (c .enum-told2 .given .1) in
-    λ b t e. no-answer (sym (bind-got _ _ _ read-g ∙ bind-fault _ _ _ fails) ∙ e)
+    λ w b t e. no-answer (sym (bind-got _ _ _ read-g ∙ bind-fault _ _ _ fails) ∙ e)
 
 all-hold-requires : tie.Need-all-hold-requires
 all-hold-requires c κs = search needs
@@ -48,7 +48,7 @@ returns-3 c =
     let at-g = at-a .before .before .before .before in
     let read-g = answered (byteOf _) (at-g .before .before .read-byte .ensures .0) (at-g .g .given .1) in
     let read-a = answered (byteOf _) (at-a .before .before .read-byte2 .ensures .0) (at-a .a .given .1) in
-    λ b t e. let w = body-parts _ _ e read-g read-a in c .all-hold .ensures _ _ (w .1)
+    λ w b t e. let k = body-parts _ _ e read-g read-a in c .all-hold .ensures _ _ (k .1)
 
 pub guards-hold-spec : {M : Type 1} → statement M
 guards-hold-spec =

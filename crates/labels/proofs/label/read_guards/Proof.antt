@@ -3,7 +3,7 @@ use mathlib.Core.List.{List, []}
 use Prim.Native.Nat.{_-_}
 use borrow.Author.Needs.{needs}
 use Rattle.reading.specs.Reading.{skipped}
-use Rattle.labels.specs.Guard.{Guard, limits, guard}
+use Rattle.labels.specs.Guard.{Guard, guard}
 use Rattle.reading.specs.Places.{onward, reached}
 use Rattle.reading.proofs.Places.{answered}
 use Rattle.reading.proofs.Reading.{mapped-got, mapped-fault, mapped-at, fault-at}
@@ -13,7 +13,7 @@ use Rattle.labels.proofs.label.read_guards.Tie as tie
 
 abbrev Inv-loop : tie.InvT-loop
 Inv-loop s at count clocks variables place₀ i₀ place i =
-    (seen : List Guard) × Going (guard (limits clocks variables)) count (onward s at) (onward s place) i seen
+    (seen : List Guard) × Going (guard clocks variables) count (onward s at) (onward s place) i seen
 
 abbrev μ-loop : tie.MeasureT-loop
 μ-loop s at count clocks variables place₀ i₀ place i = count - i

@@ -17,7 +17,7 @@ flags-agree-requires c κs = search needs
 
 returns : tie.Need-returns
 returns c = λ n d L K. let p = c .before .before .before .before in
-    active-kept K n (p .before .before .before .before .before .args .c) (p .before .automaton-of .ensures n L) (p .place .ensures) (c .before .guards-hold .ensures (d .label .body) (K .body .0) (K .body .1)) (c .flags-agree .ensures _ _ d K)
+    active-kept K n (p .before .before .before .before .before .args .c) (p .before .automaton-of .ensures n L) (p .place .ensures) (c .before .guards-hold .ensures _ (d .label .body) (K .body .0) (K .body .1)) (c .flags-agree .ensures _ _ d K)
 
 pub is-active-spec : {M : Type 1} → statement M
 is-active-spec =

@@ -3,8 +3,8 @@ use native.Mathlib.Omega.{arith}
 use lib.ListN.{length}
 use lib.Seq.{set-out}
 use borrow.Author.Needs.{needs}
-use Rattle.labels.proofs.label.stored.Statement.{statement}
-use Rattle.labels.proofs.label.stored.Tie as tie
+use Rattle.labels.proofs.update.stored.Statement.{statement}
+use Rattle.labels.proofs.update.stored.Tie as tie
 
 mul-next : tie.Need-mul-next
 mul-next c = search needs
