@@ -7,9 +7,10 @@ use Prim.Native.Nat.{ℕ, _+_, _^_, _≤_, _<_}
 use native.Mathlib.Omega.{arith}
 use borrow.Author.Tests.{eqb-true, ltb-true, leb-true, le-leb}
 use lib.Dec.{ltb, eqb}
-use lib.ListN.{length, drop, length-drop}
+use lib.ListN.{getD, length, drop, length-drop}
 use Rattle.reading.specs.Answer.{done}
 use Rattle.reading.specs.Reading.{Read, got, fault, length-fault, range-fault, byte, byte2, recorded}
+use Rattle.reading.specs.Version.{isVersion}
 use Rattle.labels.specs.Label.{Limits, limits}
 use Rattle.lists.proofs.Bools.{parts, both, or-cases}
 use Rattle.lists.proofs.Lists.{getD-mem}
@@ -81,6 +82,7 @@ transition-range states entries exits l channels s {x} h =
 
 -- what a chart that was read is
 pub record Ranges (c : Chart) : Type 0 where
+  pub version-known : isVersion (c .version) ≡ true
   pub states-some : 2 ≤ size c
   pub states-few : size c ≤ 48
   pub clocks-few : c .clocks ≤ 8
@@ -125,9 +127,9 @@ range-counts n r =
     both (le-leb _ _ (r .states-some)) (both (le-leb _ _ (r .states-few)) (both (le-leb _ _ (r .clocks-few)) (both (le-leb _ _ (r .variables-few)) (both (le-leb _ _ (r .channels-few))
     (both (le-leb _ _ (r .entries-some)) (both (le-leb _ _ (r .entries-few)) (both (le-leb _ _ (r .exits-few)) (le-leb _ _ (r .transitions-few)))))))))
 
-records-range : (n : Counts) (s : List ℕ) {c : Chart} {t : List ℕ} → CountRanges n → length s ≤ 65525 → records n s ≡ got c t → Ranges c
+records-range : (n : Counts) (s : List ℕ) {c : Chart} {t : List ℕ} → isVersion (n .version) ≡ true → CountRanges n → length s ≤ 65525 → records n s ≡ got c t → Ranges c
 unfolding records stateAt
-records-range n s {c} {t} r long h =
+records-range n s {c} {t} v r long h =
     let a = bind-at _ _ s h in
     let b = bind-at _ _ (a .1) (a .3) in
     let z = then-at _ _ (b .1) (b .3) in
@@ -136,6 +138,7 @@ records-range n s {c} {t} r long h =
     let m = many-within (n .states) (recorded byte (state (n .clocks) (n .entries) (n .exits))) (recorded-shrinks 1 byte byte-consumes _) s (a .2) in
     let w = many-within (n .transitions) (recorded byte2 (transition (n .states) (n .entries) (n .exits) (limits (n .version) (n .clocks) (n .variables)) (n .rendezvous + n .broadcasts))) (recorded-shrinks 2 byte2 byte2-consumes _) (a .1) (b .2) in
     subst Ranges (yield-at (z .1) (z .3)) (record {
+      version-known = v;
       states-some = omega (arith, r .states-some, k .0);
       states-few = omega (arith, r .states-few, k .0);
       clocks-few = r .clocks-few;
@@ -175,6 +178,12 @@ pub headed-short : (file : List ℕ) → headed file ≡ true → length file �
 unfolding headed
 headed-short file h = leb-true (length file) 65536 (search parts)
 
+pub headed-version : (file : List ℕ) {n : Counts} → headed file ≡ true → n ≡ countsAt file → isVersion (n .version) ≡ true
+unfolding headed countsAt
+headed-version file h e =
+    let v : isVersion (getD file 0 0) ≡ true = search parts in
+    ap (λ (n : Counts). isVersion (n .version)) e ∙ v
+
 -- what the counts of a file that has a header are
 pub counts-of-at : (file : List ℕ) {n : Counts} → countsOf file ≡ done n → (headed file ≡ true) × (inRange n ≡ true) × (n ≡ countsAt file)
 unfolding countsOf
@@ -193,7 +202,7 @@ read-range file h =
     let r = then-at-answer (countsOf file) _ h in
     let w = numbered-at _ (r .2) in
     let k = counts-of-at file (r .1) in
-    records-range (r .0) (drop 11 file) (counts-range (r .0) (k .1)) (omega (arith, length-drop 11 file, headed-short file (k .0))) (w .1)
+    records-range (r .0) (drop 11 file) (headed-version file (k .0) (k .2)) (counts-range (r .0) (k .1)) (omega (arith, length-drop 11 file, headed-short file (k .0))) (w .1)
 
 -- a chart that is not refused keeps the rules, and is in range
 pub chart-at : (file : List ℕ) {c : Chart} → chartOf file ≡ done c → Passed c × Ranges c

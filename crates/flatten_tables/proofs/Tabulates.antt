@@ -84,6 +84,7 @@ module _ (c : Chart) {file : List ℕ} {n : Counts} (S : Stated file n c) where
         → Summed c (record { counts = n; tree = t .tree; transitions = t .transitions; places = ps; initials = t .initials; automata = t .automata .count; broadcasts = b })
     summed e f = record {
       chartered = T .chart;
+      version = sym (S .version);
       clocks = sym (S .clocks);
       variables = sym (S .variables);
       rendezvous = sym (S .rendezvous);

@@ -66,17 +66,18 @@ module _ (c : Chart) (s : Summary) (S : Summed c s) where
   pub located : {rows : List (List ℕ)} → Bounded c (s .tree) rows → Located c (s .tree) rows (s .transitions) (s .places) (s .initials)
   located B = record { chartered = S .chartered; bounded = B; columned = S .columned; listed = S .listed; starting = S .starting }
 
-  pub network-written : {size edges : ℕ} → size ≡ length (contentBytes (flatten c)) → edges ≡ length (flatten c .edges) → {a t u v w x : List ℕ} {i j k l r : ℕ} → Wrote a 0 (1 ∷ []) t i → Wrote t i (out4 size) u j
+  pub network-written : {size edges : ℕ} → size ≡ length (contentBytes (flatten c)) → edges ≡ length (flatten c .edges) → {a t u v w x : List ℕ} {i j k l r : ℕ} → Wrote a 0 (s .counts .version ∷ []) t i → Wrote t i (out4 size) u j
       → Wrote u j (s .automata ∷ s .places .count ∷ out2 edges ++ (s .counts .clocks ∷ s .counts .variables ∷ s .counts .rendezvous ∷ s .broadcasts ∷ [])) v k
       → Wrote v k (concat (locationRecord (s .counts .clocks)) (flatten c .locations)) w l → Wrote w l (concat edgeRecord (flatten c .edges)) x r → Wrote a 0 (networkBytes (flatten c)) x r
-  unfolding networkBytes recordBytes
+  unfolding networkBytes recordBytes flatten
   network-written {size} {edges} e f {a} {t} {u} {v} {w} {x} {i} {j} {k} {l} {r} o p q g h =
       let n = flatten c in
+      let version = subst (λ (y : ℕ). Wrote a 0 (y ∷ []) t i) (S .version) o in
       let counts = subst (λ (ys : List ℕ). Wrote u j ys v k) (counts-are f) q in
       let locations = subst (λ (y : ℕ). Wrote v k (concat (locationRecord y) (n .locations)) w l) (S .clocks) g in
       let content : Wrote u j (contentBytes n) x r = rw content-parts (wrote-then counts (wrote-then locations h)) in
       let head = subst (λ (y : ℕ). Wrote t i (out4 y) u j) e p in
-      wrote-then o (wrote-then head content)
+      wrote-then version (wrote-then head content)
 
 -- a buffer that holds all
 pub wrote-all : {s xs t : List ℕ} {end : ℕ} → Wrote s 0 xs t end → length xs ≤ length s → t ≡ xs ++ drop (length xs) s

@@ -84,7 +84,7 @@ pub fn write_network(
     let transitions = summary.transitions;
     let places = summary.places;
     let initials = summary.initials;
-    let at1 = put(out, 0, 1);
+    let at1 = put(out, 0, counts.version);
     let at2 = put_word(out, at1, size);
     let at3 = write_counts(
         out,

@@ -15,6 +15,7 @@ use Rattle.reading.specs.Answer.{done}
 use Rattle.reading.specs.Answer as answer
 use Rattle.reading.specs.Places.{onward}
 use Rattle.reading.specs.Reading.{got, yield, byte, byte2, byte4, many}
+use Rattle.reading.specs.Version.{isVersion}
 use Rattle.labels.specs.Label.{Limits, limits, label}
 use Rattle.clocks.specs.Clocks.{isBound, clock-limit, no-bound, row}
 use Rattle.lists.proofs.Bools.{both, or-l, or-r, or-cases, implies-by}
@@ -79,6 +80,7 @@ pub record PrintableEdge (automata locations : ℕ) (l : Limits) (channels : ℕ
   pub record-short : length (edgeBytes e) < 2 ^ 16
 
 pub record Printable (n : Network) : Type 0 where
+  pub version-known : isVersion (n .version) ≡ true
   pub automata-some : 1 ≤ n .automata
   pub automata-few : n .automata ≤ 16
   pub locations-some : 1 ≤ length (n .locations)
@@ -122,7 +124,7 @@ edge-printed automata locations l channels h e p =
 
 -- the counts of a network's file, and its records
 abbrev countsIn : Network → Counts
-countsIn n = record { automata = n .automata; locations = length (n .locations); edges = length (n .edges); clocks = n .clocks; variables = n .variables; rendezvous = n .rendezvous; broadcasts = n .broadcasts }
+countsIn n = record { version = n .version; automata = n .automata; locations = length (n .locations); edges = length (n .edges); clocks = n .clocks; variables = n .variables; rendezvous = n .rendezvous; broadcasts = n .broadcasts }
 
 locationRecord : Network → Location → List ℕ
 locationRecord n l = recordBytes (λ k. k ∷ []) (locationBytes (n .clocks) l)
@@ -144,7 +146,7 @@ counts-printed : (n : Network) → Printable n → countsAt (networkBytes n) ≡
 unfolding networkBytes recordBytes contentBytes out2 out4
 counts-printed n p =
     let z : 256 * (length (n .edges) / 256 % 256) + length (n .edges) % 256 ≡ length (n .edges) = omega (arith, p .edges-few) in
-    ap (λ (e : ℕ). record { automata = n .automata; locations = length (n .locations); edges = e; clocks = n .clocks; variables = n .variables; rendezvous = n .rendezvous; broadcasts = n .broadcasts }) z
+    ap (λ (e : ℕ). record { version = n .version; automata = n .automata; locations = length (n .locations); edges = e; clocks = n .clocks; variables = n .variables; rendezvous = n .rendezvous; broadcasts = n .broadcasts }) z
 
 in-range-printed : (n : Network) → Printable n → inRange (countsIn n) ≡ true
 in-range-printed n p = both (le-leb _ _ (p .automata-some)) (both (le-leb _ _ (p .automata-few))
@@ -160,12 +162,12 @@ content-some : (n : Network) → 8 ≤ length (contentBytes n)
 unfolding contentBytes out2
 content-some n = omega arith
 
-header-printed : (n : Network) → length (contentBytes n) < 2 ^ 32 → headed (networkBytes n) ≡ true
+header-printed : (n : Network) → isVersion (n .version) ≡ true → length (contentBytes n) < 2 ^ 32 → headed (networkBytes n) ≡ true
 unfolding headed networkBytes recordBytes out4
-header-printed n h =
+header-printed n v h =
     let some : 13 ≤ length (networkBytes n) = omega (arith, network-length n, content-some n) in
     let rest : length (contentBytes n) ≡ length (networkBytes n) - 5 = omega (arith, network-length n) in
-    both (le-leb 13 (length (networkBytes n)) some) (both refl (eq-eqb _ (length (networkBytes n) - 5) (digits (length (contentBytes n)) h ∙ rest)))
+    both (le-leb 13 (length (networkBytes n)) some) (both v (eq-eqb _ (length (networkBytes n) - 5) (digits (length (contentBytes n)) h ∙ rest)))
 
 -- its length fits four bytes
 content-short : (n : Network) → Printable n → length (contentBytes n) < 2 ^ 32
@@ -193,5 +195,5 @@ pub read-printed : (n : Network) → Printable n → readNetwork (networkBytes n
 unfolding readNetwork countsOf numbered answer._>>=_
 read-printed n p =
     let e = counts-printed n p in
-    rw (unless-by 24 (done (countsAt (networkBytes n))) (both (header-printed n (content-short n p)) (ap inRange e ∙ in-range-printed n p)))
+    rw (unless-by 24 (done (countsAt (networkBytes n))) (both (header-printed n (p .version-known) (content-short n p)) (ap inRange e ∙ in-range-printed n p)))
     (rw (e, rest-printed n, records-printed n p))

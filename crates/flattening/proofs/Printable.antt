@@ -169,6 +169,7 @@ module _ (c : Chart) (passed : Passed c) (ranges : Ranges c) where
   pub printable-flatten : length (flatten c .edges) ≤ 1024 → Printable (flatten c)
   unfolding flatten
   printable-flatten h = record {
+    version-known = ranges .version-known;
     automata-some = automata-some c passed ranges;
     automata-few = passed .at-most;
     locations-some = omega (arith, locations-length c, all-places-some c passed ranges);

@@ -9,6 +9,7 @@ use Rattle.labels.specs.Guard as Guard
 use Rattle.expr.specs.Integer as Integer
 use Rattle.expr.specs.Relation as Relation
 use Rattle.labels.specs.Label as Label
+use Rattle.labels.specs.Update as Update
 use Rattle.lists.specs.Lists as Lists
 use Rattle.steps.specs.Moves as Moves
 use Rattle.reading.specs.Places as Places
@@ -27,8 +28,8 @@ pub samples-right : map (λ s. answered (s .request)) samples ≡ map (λ s. s .
 unfolding
     Bool.xor Answer._>>=_ Answer.unless Clocks.inLimit Clocks.isZero Clocks.join Clocks.keeps Clocks.later Clocks.reset Clocks.resetFrom Clocks.row
     Clocks.zeroPast Clocks.zerosPast Expression.after Expression.by Expression.codes Expression.divisor Expression.expression Expression.two
-    Expression.value Guard.assign Guard.clock Guard.clockGuard Guard.dataGuard Guard.differenceGuard Guard.guard Guard.holds Guard.relation
-    Guard.ticks Guard.update Relation.compareℕ Relation.compareℤ Relation.relations Integer.floorDiv Integer.floorMod Integer.residue Integer.signed
+    Expression.value Guard.clock Guard.clockGuard Guard.dataGuard Guard.differenceGuard Guard.guard Guard.holds Guard.relation
+    Guard.ticks Update.assign Update.form Update.ofForm Update.opens Update.update Update.updated Relation.compareℕ Relation.compareℤ Relation.relations Integer.floorDiv Integer.floorMod Integer.residue Integer.signed
     Integer.wrap Label.assignsOnce Label.body Label.bodyOnce Label.channelFits Label.guardsHold Label.label Label.receives Label.sends Lists.all
     Lists.any Lists.ascending Lists.below Lists.bitsFrom Lists.bitsOf Lists.concat Lists.distinct Lists.elem Lists.has Lists.implies Lists.keep
     Lists.padded Lists.position Lists.range Lists.subset Moves.allowed Moves.clocksAfter Moves.known Moves.maximal Moves.oneSends Moves.senders

@@ -8,7 +8,7 @@ use native.Mathlib.Omega.{arith}
 use borrow.Author.Tests.{eqb-true, eq-eqb}
 use lib.Dec.{eqb}
 use lib.ListN.{length}
-use Rattle.lists.specs.Lists.{all, below, distinct}
+use Rattle.lists.specs.Lists.{all, below, concat, distinct}
 use Rattle.labels.specs.Label.{assignsOnce}
 use Rattle.lists.proofs.Bools.{parts, both, or-r, cond-yes}
 use Rattle.lists.proofs.Lists.{all-at, all-by, keep-at, keep-by}
@@ -29,7 +29,7 @@ use Rattle.flattening.proofs.Order.{edges-ascend}
 
 -- a label that only signals assigns nothing
 signalling-assigns : (signal channel : ℕ) → assignsOnce (signalling signal channel) ≡ true
-unfolding assignsOnce distinct signalling
+unfolding assignsOnce concat distinct signalling
 signalling-assigns signal channel = both (or-r (not (eqb signal 2)) refl) refl
 
 -- the location of a place is initial just where its automaton starts
