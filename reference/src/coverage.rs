@@ -17,6 +17,7 @@ use crate::refusal::Refusal;
 use crate::request::{Request, Success};
 use crate::run_request::{Read, RunRequest, View};
 use crate::side_by_side::{Call, Machines};
+use crate::update::Update;
 use crate::values::Values;
 
 /// A set of features, each in words.
@@ -270,10 +271,12 @@ fn add_label_parts(label: &Label, found: &mut Features) {
             add_codes(right, found);
         }
     }
-    for assignment in &label.assignments {
-        add_codes(&assignment.expression, found);
+    for update in &label.updates {
+        if let Update::Assignment(assignment) = update {
+            add_codes(&assignment.expression, found);
+        }
     }
-    if label.assignments.len() > 1 {
+    if label.updates.len() > 1 {
         found.insert("several assignments".to_string());
     }
     if label.resets != 0 {

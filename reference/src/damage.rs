@@ -5,10 +5,11 @@ use std::rc::Rc;
 use crate::chart::{Chart, Kind};
 use crate::chart_machine::ChartConfiguration;
 use crate::expression::Expression;
-use crate::label::{Assignment, Label, Signal};
+use crate::label::{Label, Signal};
 use crate::limits::{AUTOMATA, CHART_HEADER, LARGEST, LIST, NETWORK_HEADER, STATES};
 use crate::network_machine::NetworkConfiguration;
 use crate::random::Random;
+use crate::update::Update;
 use crate::values::Values;
 
 /// The two forms of files.
@@ -186,7 +187,7 @@ pub fn damage_chart(chart: &Chart, random: &mut Random) -> Chart {
             _ => one.label = Rc::new(with_assignment(&one.label, chart, random)),
         }
     }
-    Chart::new(chart.declared, chart.entries, chart.exits, states, transitions)
+    Chart::new(chart.version, chart.declared, chart.entries, chart.exits, states, transitions)
 }
 
 fn one_or_none(count: usize, random: &mut Random) -> Option<usize> {
@@ -207,7 +208,7 @@ fn with_assignment(label: &Label, chart: &Chart, random: &mut Random) -> Label {
     let mut label = label.clone();
     if chart.declared.variables > 0 {
         let variable = random.below(chart.declared.variables);
-        label.assignments.push(Assignment { variable, expression: Expression::Constant(1) });
+        label.updates.push(Update::assignment(variable, Expression::Constant(1)));
     }
     label
 }

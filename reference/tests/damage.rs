@@ -120,9 +120,18 @@ fn damage_that_decides_the_number_of_a_network() {
         for damaged in damaged_files {
             assert_eq!(refusal(&damaged), Refusal::NetworkLength, "seed {seed}");
         }
-        for (place, wrong) in
-            [(0, 2), (5, 0), (5, 17), (6, 193), (7, 5), (9, 9), (10, 17), (11, 17), (12, 145)]
-        {
+        for (place, wrong) in [
+            (0, 0),
+            (0, 3),
+            (5, 0),
+            (5, 17),
+            (6, 193),
+            (7, 5),
+            (9, 9),
+            (10, 17),
+            (11, 17),
+            (12, 145),
+        ] {
             let mut changed = file.clone();
             changed[place] = wrong;
             assert_eq!(refusal(&changed), Refusal::NetworkLength);

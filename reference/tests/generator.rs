@@ -8,6 +8,7 @@ use reference::generate::chart_from_seed;
 use reference::label::Signal;
 use reference::limits::{CLOCKS, STATES, VARIABLES};
 use reference::network::Network;
+use reference::update::Update;
 
 const CHARTS: u64 = 4_000;
 
@@ -46,8 +47,8 @@ fn has_composite_self_loop(chart: &Chart) -> bool {
 }
 
 fn has_swap(chart: &Chart) -> bool {
-    chart.transitions.iter().any(|one| match &one.label.assignments[..] {
-        [first, second] => {
+    chart.transitions.iter().any(|one| match &one.label.updates[..] {
+        [Update::Assignment(first), Update::Assignment(second)] => {
             first.expression == Expression::Variable(second.variable)
                 && second.expression == Expression::Variable(first.variable)
         }
@@ -62,8 +63,8 @@ fn has_division(chart: &Chart) -> bool {
     chart
         .transitions
         .iter()
-        .flat_map(|one| &one.label.assignments)
-        .any(|assignment| divides(&assignment.expression))
+        .flat_map(|one| &one.label.updates)
+        .any(|update| matches!(update, Update::Assignment(one) if divides(&one.expression)))
 }
 
 fn most_alternatives(chart: &Chart, network: &Network) -> usize {

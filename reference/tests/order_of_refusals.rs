@@ -13,6 +13,7 @@ use reference::network::Network;
 use reference::network_machine::{self, NetworkConfiguration};
 use reference::refusal::Refusal;
 use reference::special::{dense, nested_channel, state, transition};
+use reference::version::Version;
 
 /// Two sequential states in parallel. The first enters a composite state; the second has a
 /// transition to itself that resets the clock, one that does not and is guarded, and two with
@@ -44,7 +45,7 @@ fn chart() -> Chart {
         labelled(Label::of_signal(Signal::Receive(0))),
     ];
     let declared = Declared { clocks: 1, rendezvous: 1, ..Declared::default() };
-    let chart = Chart::new(declared, 2, 0, states, transitions);
+    let chart = Chart::new(Version::One, declared, 2, 0, states, transitions);
     check(&chart.write()).expect("the chart passes")
 }
 

@@ -8,7 +8,7 @@ use reference::check::check;
 use reference::expression::Expression;
 use reference::flatten::{flatten, network_of};
 use reference::guard::{Guard, Relation};
-use reference::label::{Assignment, Declared, Label, Signal};
+use reference::label::{Declared, Label, Signal};
 use reference::limits::{NONE, VARIABLES};
 use reference::network_machine;
 use reference::refusal::Refusal;
@@ -16,6 +16,8 @@ use reference::special::{
     broadcast_of_self_loops, chart_with_edges, chart_with_sequential_children, largest,
     longest_network, many_equal_choices, most_alternatives, sample_1, sample_3, state, transition,
 };
+use reference::update::Update;
+use reference::version::Version;
 
 const S1_CHART: [u8; 40] = [
     0x01, 0x00, 0x25, 0x03, 0x00, 0x00, 0x00, 0x00, 0x01, 0x00, 0x01, //
@@ -44,7 +46,7 @@ fn one_loop(declared: Declared, label: Label) -> Chart {
         entry: None,
         label: Rc::new(label),
     }];
-    Chart::new(declared, 1, 0, states, transitions)
+    Chart::new(Version::One, declared, 1, 0, states, transitions)
 }
 
 #[test]
@@ -98,12 +100,12 @@ fn s4_and_s5() {
 
 #[test]
 fn s6() {
-    let assignments = vec![
-        Assignment { variable: 0, expression: Expression::Variable(1) },
-        Assignment { variable: 1, expression: Expression::Variable(0) },
+    let updates = vec![
+        Update::assignment(0, Expression::Variable(1)),
+        Update::assignment(1, Expression::Variable(0)),
     ];
     let declared = Declared { variables: 2, ..Declared::default() };
-    let chart = one_loop(declared, Label { assignments, ..Label::of_signal(Signal::None) });
+    let chart = one_loop(declared, Label { updates, ..Label::of_signal(Signal::None) });
     let mut configuration = chart_machine::start(&chart);
     configuration.values.variables[..2].copy_from_slice(&[5, -8]);
     let new = chart_machine::step(&chart, &configuration, &[0]).unwrap();
@@ -180,7 +182,7 @@ fn branches_that_cannot_complete_are_left_out() {
         chart.states[state].exit_marks = 0;
     }
     let transitions = vec![transition(2, 1, Some(0), None, Signal::None); 60];
-    let chart = Chart::new(chart.declared, 1, 1, chart.states, transitions);
+    let chart = Chart::new(Version::One, chart.declared, 1, 1, chart.states, transitions);
     let network = network_of(&chart).unwrap();
     // One edge from each post, and 20 that hear the exit.
     assert_eq!(network.edges.len(), 60 + 20);

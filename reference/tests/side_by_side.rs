@@ -12,6 +12,7 @@ use reference::limits::NONE;
 use reference::random::Random;
 use reference::side_by_side::{run_chart_list, run_network_list, Failure, Machines, Tally};
 use reference::special;
+use reference::version::Version;
 
 const CHARTS: u64 = 2_000;
 const CALLS: usize = 40;
@@ -187,7 +188,7 @@ fn entering_before_exiting_is_noticed() {
         special::state(1, Kind::Basic, 1, 1),
     ];
     let transitions = vec![special::transition(1, 1, Some(0), Some(0), Signal::None)];
-    let chart = Chart::new(Default::default(), 1, 1, states, transitions);
+    let chart = Chart::new(Version::One, Default::default(), 1, 1, states, transitions);
     let mut machines = machines(chart);
     assert!(run(&machines, 1, CALLS).is_ok());
     // Let post send "enter" and pre send "exit".
