@@ -44,6 +44,8 @@ pub const NO_BOUND: u32 = 0xFFFF_FFFF;
 pub const NONE: u8 = 255;
 /// The byte that stands for an advance where the variable of an assignment may stand.
 pub const ADVANCE: u8 = 255;
+/// Bytes of an advance, that one included.
+pub const ADVANCE_BYTES: usize = 7;
 
 /// The lowest `count` bits of a set of marks.
 pub fn lowest_bits(count: usize) -> u32 {

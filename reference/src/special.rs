@@ -7,7 +7,7 @@ use crate::expression::Expression;
 use crate::guard::{Guard, Relation};
 use crate::label::{Declared, Label, Signal};
 use crate::limits::{AUTOMATA, CHART_BYTES, LEVELS, NONE, STATES, TRANSITIONS};
-use crate::update::Update;
+use crate::update::{Advance, Update};
 use crate::values::Bounds;
 use crate::version::Version;
 
@@ -25,6 +25,41 @@ pub fn transition(
     signal: Signal,
 ) -> Transition {
     Transition { source, destination, exit, entry, label: Rc::new(Label::of_signal(signal)) }
+}
+
+/// A sequential state with one basic child, which has a transition to itself.
+pub fn one_loop(version: Version, declared: Declared, label: Label) -> Chart {
+    let states = vec![state(NONE, Kind::Sequential, 1, 0), state(0, Kind::Basic, 1, 0)];
+    let label = Rc::new(label);
+    let one = Transition { source: 1, destination: 1, exit: None, entry: None, label };
+    Chart::new(version, declared, 1, 0, states, vec![one])
+}
+
+/// A loop of version 2 with three variables and these updates.
+pub fn one_pick(updates: Vec<Update>) -> Chart {
+    let declared = Declared { variables: 3, ..Declared::default() };
+    one_loop(Version::Two, declared, Label { updates, ..Label::of_signal(Signal::None) })
+}
+
+/// As many transitions as there may be, each with eight advances on all 16 variables: eight basic
+/// states of which each leads to each.
+pub fn most_advances() -> Chart {
+    let mut states = vec![state(NONE, Kind::Sequential, 1, 0)];
+    states.extend((0..8).map(|number| state(0, Kind::Basic, u16::from(number == 0), 0)));
+    let advance = |pair: usize, number: usize| Advance {
+        steps: 2 * pair,
+        remainder: 2 * pair + 1,
+        numerator: (1_000 * pair + 7 * number) as u16,
+        denominator: (1 + 500 * pair + 3 * number) as u16,
+    };
+    let transitions = (0..TRANSITIONS).map(|number| {
+        let updates = (0..8).map(|pair| Update::Advance(advance(pair, number))).collect();
+        let label = Rc::new(Label { updates, ..Label::of_signal(Signal::None) });
+        let (source, destination) = (1 + number / 8, 1 + number % 8);
+        Transition { source, destination, exit: None, entry: None, label }
+    });
+    let declared = Declared { variables: 16, ..Declared::default() };
+    Chart::new(Version::Two, declared, 1, 0, states, transitions.collect())
 }
 
 /// Sample S1: two basic states and a transition between them.

@@ -39,6 +39,10 @@ impl Advance {
         bytes.extend(self.denominator.to_be_bytes());
     }
 
+    pub fn writes(&self, variable: usize) -> bool {
+        variable == self.steps || variable == self.remainder
+    }
+
     /// Remainder plus numerator. It is exact: it may pass the range of a variable.
     pub fn sum(&self, old: &[i32; VARIABLES]) -> i64 {
         i64::from(old[self.remainder]) + i64::from(self.numerator)
