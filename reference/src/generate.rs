@@ -200,16 +200,18 @@ impl Wish {
                 ..ordinary
             },
         };
-        let wish = Wish { transitions: wish.transitions.min(TRANSITIONS), ..wish };
-        match (seed / 8) as usize % Version::ALL.len() {
-            0 => wish,
-            version => Wish {
-                version: Version::ALL[version],
-                assignments: wish.assignments.max(60),
-                take_ups: random.between(0, 2),
-                ..wish
-            },
+        let version = Version::ALL[(seed / 8) as usize % Version::ALL.len()];
+        let wish = Wish { transitions: wish.transitions.min(TRANSITIONS), version, ..wish };
+        wish.with_more_updates(&mut random)
+    }
+
+    /// Where there are advances, more transitions assign, so that runs make many advances.
+    fn with_more_updates(self, random: &mut Random) -> Wish {
+        if !self.version.has_advances() {
+            return self;
         }
+        let take_ups = random.between(0, 2);
+        Wish { assignments: self.assignments.max(60), take_ups, ..self }
     }
 }
 

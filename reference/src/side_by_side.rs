@@ -338,12 +338,8 @@ impl<'a> Moment<'a> {
 
     // The tests.
 
-    /// Tests every clause that can be tested between two calls.
-    fn test(&mut self, random: &mut Random) -> Result<(), Failure> {
-        demand(
-            self.network.values == self.chart.values,
-            "the variables or clocks of the two machines differ",
-        )?;
+    /// Tests what a weaver relies on, of each machine by itself.
+    fn test_take_ups(&self) -> Result<(), Failure> {
         demand(
             self.chart_take_ups.hold(&self.chart.values.variables),
             "the take-up of the chart is not that of so many advances",
@@ -351,7 +347,16 @@ impl<'a> Moment<'a> {
         demand(
             self.network_take_ups.hold(&self.network.values.variables),
             "the take-up of the network is not that of so many advances",
+        )
+    }
+
+    /// Tests every clause that can be tested between two calls.
+    fn test(&mut self, random: &mut Random) -> Result<(), Failure> {
+        demand(
+            self.network.values == self.chart.values,
+            "the variables or clocks of the two machines differ",
         )?;
+        self.test_take_ups()?;
         let moves = self.allowed_network_moves(random);
         if self.owed > 0 {
             return self.test_while_owed(&moves, random);
