@@ -5,11 +5,12 @@ use std::rc::Rc;
 use crate::label::{Declared, Label};
 use crate::limits::{
     lowest_bits, CHANNELS, CHART_BYTES, CHART_HEADER, CLOCKS, ENTRIES, EXITS, FEWEST_STATES, NONE,
-    STATES, TRANSITIONS, VARIABLES, VERSION,
+    STATES, TRANSITIONS, VARIABLES,
 };
 use crate::reader::{in_range, Fault, Reader};
 use crate::refusal::Refusal;
 use crate::values::Bounds;
+use crate::version::Version;
 
 /// The number of the root.
 pub const ROOT: usize = 0;
@@ -66,6 +67,7 @@ pub struct Transition {
 
 #[derive(Clone, PartialEq, Eq, Debug)]
 pub struct Chart {
+    pub version: Version,
     pub declared: Declared,
     pub entries: usize,
     pub exits: usize,
@@ -77,6 +79,7 @@ pub struct Chart {
 
 impl Chart {
     pub fn new(
+        version: Version,
         declared: Declared,
         entries: usize,
         exits: usize,
@@ -89,7 +92,7 @@ impl Chart {
                 list.push(number);
             }
         }
-        Chart { declared, entries, exits, states, transitions, children }
+        Chart { version, declared, entries, exits, states, transitions, children }
     }
 
     /// The parent of a state; none for the root. Asked of charts that pass rule 5.
@@ -149,21 +152,26 @@ impl Chart {
 
     /// Reads a file: refusals 1 to 4.
     pub fn read(file: &[u8]) -> Result<Chart, Refusal> {
-        if file.len() < CHART_HEADER || file.len() > CHART_BYTES || file[0] != VERSION {
+        if file.len() < CHART_HEADER || file.len() > CHART_BYTES {
             return Err(Refusal::ChartHeader);
         }
+        let version = Version::of_number(file[0]).ok_or(Refusal::ChartHeader)?;
         if usize::from(u16::from_be_bytes([file[1], file[2]])) != file.len() - 3 {
             return Err(Refusal::ChartHeader);
         }
         let counts = Counts::from_header(file).ok_or(Refusal::ChartCount)?;
         let mut reader = Reader::new(&file[CHART_HEADER..]);
-        Chart::read_records(&mut reader, &counts).map_err(|fault| match fault {
+        Chart::read_records(&mut reader, version, &counts).map_err(|fault| match fault {
             Fault::Length => Refusal::ChartLength,
             Fault::Field => Refusal::ChartField,
         })
     }
 
-    fn read_records(reader: &mut Reader, counts: &Counts) -> Result<Chart, Fault> {
+    fn read_records(
+        reader: &mut Reader,
+        version: Version,
+        counts: &Counts,
+    ) -> Result<Chart, Fault> {
         let mut states = Vec::with_capacity(counts.states);
         for _ in 0..counts.states {
             let mut record = reader.short_record()?;
@@ -173,17 +181,18 @@ impl Chart {
         let mut transitions = Vec::with_capacity(counts.transitions);
         for _ in 0..counts.transitions {
             let mut record = reader.long_record()?;
-            transitions.push(Transition::read(&mut record, counts)?);
+            transitions.push(Transition::read(&mut record, version, counts)?);
             record.end()?;
         }
         reader.end()?;
-        Ok(Chart::new(counts.declared, counts.entries, counts.exits, states, transitions))
+        let Counts { declared, entries, exits, .. } = *counts;
+        Ok(Chart::new(version, declared, entries, exits, states, transitions))
     }
 
     /// The file of this chart.
     pub fn write(&self) -> Vec<u8> {
         let mut bytes = vec![
-            VERSION,
+            self.version.number(),
             0,
             0,
             self.states.len() as u8,
@@ -272,13 +281,13 @@ impl State {
 }
 
 impl Transition {
-    fn read(record: &mut Reader, counts: &Counts) -> Result<Transition, Fault> {
+    fn read(record: &mut Reader, version: Version, counts: &Counts) -> Result<Transition, Fault> {
         Ok(Transition {
             source: record.byte_below(counts.states)?,
             destination: record.byte_below(counts.states)?,
             exit: record.optional_byte_below(counts.exits)?,
             entry: record.optional_byte_below(counts.entries)?,
-            label: Rc::new(Label::read(record, &counts.declared)?),
+            label: Rc::new(Label::read(record, version, &counts.declared)?),
         })
     }
 }

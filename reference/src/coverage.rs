@@ -17,6 +17,7 @@ use crate::refusal::Refusal;
 use crate::request::{Request, Success};
 use crate::run_request::{Read, RunRequest, View};
 use crate::side_by_side::{Call, Machines};
+use crate::update::{Advance, Update};
 use crate::values::Values;
 
 /// A set of features, each in words.
@@ -47,6 +48,9 @@ pub fn features(request: &Request, layout: Option<&Layout>) -> Features {
         Ok(_) => "ok".to_string(),
         Err(refusal) => format!("refusal {}", refusal.number()),
     });
+    if answer.is_ok() {
+        found.insert(format!("version {}", request.file()[0]));
+    }
     match request {
         Request::Check(file) if answer.is_ok() => {
             if let Ok(chart) = check(file) {
@@ -104,6 +108,7 @@ pub fn run_features(request: &RunRequest) -> Features {
         Err(refusal) => format!("refusal {}", refusal.number()),
     });
     if let Ok(machines) = request.machines() {
+        found.insert(format!("version {}", machines.network.version.number()));
         if machines.network.edges.len() == EDGES {
             found.insert("most edges".to_string());
         }
@@ -139,6 +144,12 @@ fn add_call_features(machines: &Machines, call: &Call, view: &View, found: &mut 
             let transitions = at_most(carried.len(), 3);
             found.insert(format!("move of {edges} edges with {transitions} transitions"));
             found.insert(format!("move, {owed} owed"));
+            if carried.iter().any(|&number| {
+                let label = &machines.chart.transitions[usize::from(number)].label;
+                label.updates.iter().any(|update| update.as_advance().is_some())
+            }) {
+                found.insert("move with an advance".to_string());
+            }
             if *carried != machines.borne(list) {
                 found.insert("transitions in another order than their edges".to_string());
             }
@@ -161,6 +172,7 @@ fn add_chart_step_features(
         add_guard_truths(&transition.label, values, found);
         if answer.is_ok() {
             add_label_parts(&transition.label, found);
+            add_advances_made(&transition.label, values, found);
             let kind = |state: usize| chart.states[state].kind;
             found.insert(format!("from {:?}", kind(transition.source)));
             found.insert(format!("to {:?}", kind(transition.destination)));
@@ -188,6 +200,7 @@ fn add_network_step_features(
         add_guard_truths(&edge.label, values, found);
         if answer.is_ok() {
             add_label_parts(&edge.label, found);
+            add_advances_made(&edge.label, values, found);
             add_flag_parts(edge, found);
             if let Some(layout) = layout {
                 found.insert(format!("leaves {}", place_name(layout.places[edge.source])));
@@ -270,14 +283,54 @@ fn add_label_parts(label: &Label, found: &mut Features) {
             add_codes(right, found);
         }
     }
-    for assignment in &label.assignments {
-        add_codes(&assignment.expression, found);
+    for update in &label.updates {
+        match update {
+            Update::Assignment(assignment) => add_codes(&assignment.expression, found),
+            Update::Advance(advance) => add_ratio(advance, found),
+        }
     }
-    if label.assignments.len() > 1 {
+    for pair in label.updates.windows(2) {
+        found.extend(match pair {
+            [Update::Assignment(_), Update::Advance(_)] => Some("assignment before advance".into()),
+            [Update::Advance(_), Update::Assignment(_)] => Some("advance before assignment".into()),
+            [Update::Advance(_), Update::Advance(_)] => Some("several advances".into()),
+            _ => None,
+        });
+    }
+    if label.updates.len() > 1 {
         found.insert("several assignments".to_string());
     }
     if label.resets != 0 {
         found.insert("resets".to_string());
+    }
+}
+
+fn add_ratio(advance: &Advance, found: &mut Features) {
+    found.insert("advance".to_string());
+    let ends =
+        [("numerator", advance.numerator, [0, 1]), ("denominator", advance.denominator, [1, 2])];
+    for (name, value, small) in ends {
+        if small.contains(&value) || value == u16::MAX {
+            found.insert(format!("advance, {name} {value}"));
+        }
+    }
+}
+
+/// What the advances of a label meet and do where its transition or edge is in an accepted step.
+fn add_advances_made(label: &Label, values: &Values, found: &mut Features) {
+    let in_range = |value: i64| i32::try_from(value).is_ok();
+    for advance in label.updates.iter().filter_map(Update::as_advance) {
+        let old = values.variables[advance.remainder];
+        let cases = [
+            ("a negative remainder", old < 0),
+            ("the least remainder", old == i32::MIN),
+            ("a remainder above the denominator", old > i32::from(advance.denominator)),
+            ("a sum that passes the range", !in_range(advance.sum(&values.variables))),
+            ("steps that wrap", !in_range(advance.exact_steps(&values.variables))),
+            ("negative steps", values.variables[advance.steps] < 0),
+        ];
+        let met = cases.into_iter().filter(|(_, holds)| *holds);
+        found.extend(met.map(|(name, _)| format!("advance with {name}")));
     }
 }
 

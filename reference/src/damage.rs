@@ -5,11 +5,14 @@ use std::rc::Rc;
 use crate::chart::{Chart, Kind};
 use crate::chart_machine::ChartConfiguration;
 use crate::expression::Expression;
-use crate::label::{Assignment, Label, Signal};
-use crate::limits::{AUTOMATA, CHART_HEADER, LARGEST, LIST, NETWORK_HEADER, STATES};
+use crate::label::{Label, Signal};
+use crate::limits::{ADVANCE_BYTES, AUTOMATA, CHART_HEADER, LARGEST, LIST, NETWORK_HEADER, STATES};
+use crate::network::Network;
 use crate::network_machine::NetworkConfiguration;
 use crate::random::Random;
+use crate::update::{Advance, Update};
 use crate::values::Values;
+use crate::version::Version;
 
 /// The two forms of files.
 #[derive(Clone, Copy, PartialEq, Eq, Debug)]
@@ -32,6 +35,25 @@ impl Form {
             Form::Chart => 3,
             Form::Network => 5,
         }
+    }
+
+    /// How many variables the header of an undamaged file declares.
+    fn variables(self, file: &[u8]) -> u8 {
+        match self {
+            Form::Chart => file[5],
+            Form::Network => file[10],
+        }
+    }
+
+    /// The labels of an undamaged file.
+    fn labels(self, file: &[u8]) -> Vec<Rc<Label>> {
+        match self {
+            Form::Chart => Chart::read(file)
+                .map(|chart| chart.transitions.into_iter().map(|one| one.label).collect()),
+            Form::Network => Network::read(file)
+                .map(|network| network.edges.into_iter().map(|one| one.label).collect()),
+        }
+        .expect("an undamaged file")
     }
 
     /// Makes the header's length right for the file.
@@ -74,11 +96,64 @@ pub fn length_fields(form: Form, file: &[u8]) -> Vec<LengthField> {
     fields
 }
 
+/// The places of the first bytes of all advances of an undamaged file. Updates stand at the end of
+/// their record, so they are found from there.
+pub fn advance_places(form: Form, file: &[u8]) -> Vec<usize> {
+    let mut places = Vec::new();
+    let records = length_fields(form, file).into_iter().filter(|field| field.bytes == 2);
+    for (field, label) in records.zip(form.labels(file)) {
+        let length = u16::from_be_bytes([file[field.place], file[field.place + 1]]);
+        let mut place = field.place + 2 + usize::from(length);
+        for update in label.updates.iter().rev() {
+            let mut bytes = Vec::new();
+            update.write(&mut bytes);
+            place -= bytes.len();
+            if update.as_advance().is_some() {
+                places.push(place);
+            }
+        }
+    }
+    places
+}
+
 /// The file with one byte changed.
 pub fn change_byte(file: &[u8], random: &mut Random) -> Vec<u8> {
     let mut damaged = file.to_vec();
     let place = random.below(file.len());
     damaged[place] = another_byte(damaged[place], random);
+    damaged
+}
+
+/// The file with another version, one that there is or one that there is not.
+pub fn change_version(file: &[u8], random: &mut Random) -> Vec<u8> {
+    let mut damaged = file.to_vec();
+    let others: Vec<u8> =
+        (0..=Version::ALL.len() as u8 + 1).filter(|&one| one != file[0]).collect();
+    damaged[0] = random.pick(&others);
+    damaged
+}
+
+/// The file with one field of an advance changed, often to what is out of range; if it has no
+/// advance, with any byte changed.
+pub fn change_advance(form: Form, file: &[u8], random: &mut Random) -> Vec<u8> {
+    let places = advance_places(form, file);
+    if places.is_empty() {
+        return change_byte(file, random);
+    }
+    let place = random.pick(&places);
+    let mut damaged = file.to_vec();
+    match random.below(6) {
+        // The first variable that is not declared.
+        0 => damaged[place + random.between(1, 2)] = form.variables(file),
+        // One variable for both.
+        1 => damaged[place + 2] = damaged[place + 1],
+        // No denominator.
+        2 => damaged[place + 5..place + ADVANCE_BYTES].fill(0),
+        _ => {
+            let byte = &mut damaged[place + random.below(ADVANCE_BYTES)];
+            *byte = another_byte(*byte, random);
+        }
+    }
     damaged
 }
 
@@ -138,12 +213,14 @@ pub fn change_record_length(form: Form, file: &[u8], random: &mut Random) -> Vec
 
 /// One of the kinds of damage above.
 pub fn damage_file(form: Form, file: &[u8], random: &mut Random) -> Vec<u8> {
-    match random.below(8) {
+    match random.below(10) {
         0..=2 => change_byte(file, random),
         3 => change_count(form, file, random),
         4 => cut_off(form, file, random.chance(70), random),
         5 => add_bytes(form, file, random),
         6 => shift_bytes(form, file, random),
+        7 => change_version(file, random),
+        8 => change_advance(form, file, random),
         _ => change_record_length(form, file, random),
     }
 }
@@ -183,10 +260,10 @@ pub fn damage_chart(chart: &Chart, random: &mut Random) -> Chart {
             2 => one.exit = one_or_none(chart.exits, random),
             3 => one.entry = one_or_none(chart.entries, random),
             4 => one.label = Rc::new(with_signal(&one.label, chart, random)),
-            _ => one.label = Rc::new(with_assignment(&one.label, chart, random)),
+            _ => one.label = Rc::new(with_update(&one.label, chart, random)),
         }
     }
-    Chart::new(chart.declared, chart.entries, chart.exits, states, transitions)
+    Chart::new(chart.version, chart.declared, chart.entries, chart.exits, states, transitions)
 }
 
 fn one_or_none(count: usize, random: &mut Random) -> Option<usize> {
@@ -203,11 +280,18 @@ fn with_signal(label: &Label, chart: &Chart, random: &mut Random) -> Label {
     label
 }
 
-fn with_assignment(label: &Label, chart: &Chart, random: &mut Random) -> Label {
+/// With an assignment more, or an advance whose two variables may be one.
+fn with_update(label: &Label, chart: &Chart, random: &mut Random) -> Label {
     let mut label = label.clone();
     if chart.declared.variables > 0 {
         let variable = random.below(chart.declared.variables);
-        label.assignments.push(Assignment { variable, expression: Expression::Constant(1) });
+        label.updates.push(if chart.version.has_advances() && random.chance(60) {
+            let remainder = random.below(chart.declared.variables);
+            let advance = Advance { steps: variable, remainder, numerator: 3, denominator: 2 };
+            Update::Advance(advance)
+        } else {
+            Update::assignment(variable, Expression::Constant(1))
+        });
     }
     label
 }
@@ -244,6 +328,22 @@ pub fn damage_network_configuration(
         _ => damaged.values = damage_values(&damaged.values, random),
     }
     damaged
+}
+
+/// The values with declared variables that are negative, large or near a limit.
+pub fn wild_values(values: &Values, variables: usize, random: &mut Random) -> Values {
+    let mut wild = *values;
+    for variable in &mut wild.variables[..variables] {
+        *variable = match random.below(6) {
+            0 => i32::MIN,
+            1 => i32::MAX,
+            2 => random.bits() as i32,
+            3 => -(random.between(1, 70_000) as i32),
+            4 => random.between(0, 70_000) as i32,
+            _ => *variable,
+        };
+    }
+    wild
 }
 
 fn damage_values(values: &Values, random: &mut Random) -> Values {

@@ -28,6 +28,7 @@ pub fn network_of(chart: &Chart) -> Result<Network, Refusal> {
     let layout = Layout::of(chart);
     let edges = all_edges(chart, &layout)?;
     Ok(Network {
+        version: chart.version,
         declared: Declared {
             broadcast: chart.declared.broadcast
                 + layout.enter_channel.len()

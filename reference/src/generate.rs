@@ -4,15 +4,18 @@ use std::rc::Rc;
 
 use crate::chart::{Chart, Kind, State, Transition, MAIN_ENTRY};
 use crate::expression::Expression;
+use crate::generate_updates::Writable;
 use crate::guard::{Guard, Relation};
-use crate::label::{Assignment, Declared, Label, Signal};
-use crate::limits::{AUTOMATA, LEVELS, NONE, STATES, TRANSITIONS};
+use crate::label::{Declared, Label, Signal};
+use crate::limits::{AUTOMATA, NONE, STATES, TRANSITIONS};
 use crate::random::Random;
 use crate::values::Bounds;
+use crate::version::Version;
 
 /// What kind of chart is wanted. Percentages are chances.
 #[derive(Clone, Copy, Debug)]
 pub struct Wish {
+    pub version: Version,
     /// If not 0, a parallel root with this many sequential children, each with two sequential
     /// children and a basic one; otherwise a random tree.
     pub regions: usize,
@@ -45,6 +48,10 @@ pub struct Wish {
     pub guards: usize,
     /// That a transition without receiver assigns.
     pub assignments: usize,
+    /// Where there are advances: that a transition that assigns has them.
+    pub advances: usize,
+    /// Where there are advances: most pairs of variables that one advance alone writes.
+    pub take_ups: usize,
     /// That a transition leads back to its source.
     pub self_loops: usize,
     /// That an end of a transition is composite where it can be.
@@ -54,6 +61,7 @@ pub struct Wish {
 impl Wish {
     /// A wish of middle size.
     pub const ORDINARY: Wish = Wish {
+        version: Version::One,
         regions: 0,
         states: 20,
         sequential: 8,
@@ -74,11 +82,14 @@ impl Wish {
         bounds: 15,
         guards: 30,
         assignments: 40,
+        advances: 60,
+        take_ups: 1,
         self_loops: 15,
         composite_ends: 50,
     };
 
-    /// The wish that belongs to a seed: seeds run through all kinds of charts in turn.
+    /// The wish that belongs to a seed: seeds run through all kinds of charts in turn, first in one
+    /// version, then in the next.
     pub fn from_seed(seed: u64) -> Wish {
         let mut random = Random::new(seed ^ 0x5741_4E54);
         let ordinary = Wish::ORDINARY;
@@ -189,7 +200,18 @@ impl Wish {
                 ..ordinary
             },
         };
-        Wish { transitions: wish.transitions.min(TRANSITIONS), ..wish }
+        let version = Version::ALL[(seed / 8) as usize % Version::ALL.len()];
+        let wish = Wish { transitions: wish.transitions.min(TRANSITIONS), version, ..wish };
+        wish.with_more_updates(&mut random)
+    }
+
+    /// Where there are advances, more transitions assign, so that runs make many advances.
+    fn with_more_updates(self, random: &mut Random) -> Wish {
+        if !self.version.has_advances() {
+            return self;
+        }
+        let take_ups = random.between(0, 2);
+        Wish { assignments: self.assignments.max(60), take_ups, ..self }
     }
 }
 
@@ -214,8 +236,10 @@ pub fn chart_from_wish(wish: &Wish, seed: u64) -> Chart {
     mark_entries(wish, &mut random, &mut states);
     mark_exits(wish, &mut random, &mut states);
     set_bounds(wish, &mut random, &mut states);
-    let mut chart = Chart::new(declared, wish.entries, wish.exits, states, Vec::new());
-    add_transitions(wish, &mut random, &mut chart);
+    let mut chart =
+        Chart::new(wish.version, declared, wish.entries, wish.exits, states, Vec::new());
+    let writable = Writable::of(wish, &mut random);
+    add_transitions(wish, &writable, &mut random, &mut chart);
     chart
 }
 
@@ -378,19 +402,21 @@ fn small_bound(random: &mut Random) -> u32 {
     }
 }
 
-fn add_transitions(wish: &Wish, random: &mut Random, chart: &mut Chart) {
+fn add_transitions(wish: &Wish, writable: &Writable, random: &mut Random, chart: &mut Chart) {
     let sequential: Vec<usize> = (0..chart.states.len())
         .filter(|&state| chart.states[state].kind == Kind::Sequential)
         .collect();
     for _ in 0..wish.transitions {
         // Some choices do not fit; a few trials are enough.
-        let transition = (0..8).find_map(|_| one_transition(wish, random, chart, &sequential));
+        let transition =
+            (0..8).find_map(|_| one_transition(wish, writable, random, chart, &sequential));
         chart.transitions.extend(transition);
     }
 }
 
 fn one_transition(
     wish: &Wish,
+    writable: &Writable,
     random: &mut Random,
     chart: &Chart,
     sequential: &[usize],
@@ -429,7 +455,7 @@ fn one_transition(
     let chance = if exit.or(entry).is_some() { wish.signals } else { wish.basic_signals };
     let signal =
         if random.chance(chance) { one_signal(wish, random, chart, parent) } else { Signal::None };
-    let label = Rc::new(one_label(wish, random, signal));
+    let label = Rc::new(one_label(wish, writable, random, signal));
     Some(Transition { source, destination, exit, entry, label })
 }
 
@@ -453,7 +479,7 @@ fn one_signal(wish: &Wish, random: &mut Random, chart: &Chart, parent: usize) ->
     }
 }
 
-fn one_label(wish: &Wish, random: &mut Random, signal: Signal) -> Label {
+fn one_label(wish: &Wish, writable: &Writable, random: &mut Random, signal: Signal) -> Label {
     let mut label = Label::of_signal(signal);
     for clock in 0..wish.clocks {
         if random.chance(20) {
@@ -470,7 +496,7 @@ fn one_label(wish: &Wish, random: &mut Random, signal: Signal) -> Label {
         && !matches!(signal, Signal::Receive(_))
         && random.chance(wish.assignments);
     if assigns {
-        label.assignments = assignments(wish, random);
+        label.updates = writable.updates(wish, random);
     }
     label
 }
@@ -499,28 +525,8 @@ fn one_guard(wish: &Wish, random: &mut Random) -> Option<Guard> {
     }
 }
 
-fn assignments(wish: &Wish, random: &mut Random) -> Vec<Assignment> {
-    let first = random.below(wish.variables);
-    let second = random.below(wish.variables);
-    if first != second && random.chance(40) {
-        // A swap: each reads the old value of the other.
-        return vec![
-            Assignment { variable: first, expression: Expression::Variable(second) },
-            Assignment { variable: second, expression: Expression::Variable(first) },
-        ];
-    }
-    let levels = if random.chance(10) { LEVELS } else { 4 };
-    let mut list =
-        vec![Assignment { variable: first, expression: one_expression(wish, random, levels) }];
-    if first != second {
-        let expression = one_expression(wish, random, 3);
-        list.push(Assignment { variable: second, expression });
-    }
-    list
-}
-
 /// An expression of at most this many levels.
-fn one_expression(wish: &Wish, random: &mut Random, levels: usize) -> Expression {
+pub fn one_expression(wish: &Wish, random: &mut Random, levels: usize) -> Expression {
     if levels <= 1 || random.chance(25) {
         return if wish.variables > 0 && random.chance(60) {
             Expression::Variable(random.below(wish.variables))

@@ -1,10 +1,11 @@
-//! What transitions and edges have in common: signal, resets, guards and assignments.
+//! What transitions and edges have in common: signal, resets, guards and updates.
 
-use crate::expression::Expression;
 use crate::guard::Guard;
-use crate::limits::{lowest_bits, LEVELS, NONE};
+use crate::limits::{lowest_bits, NONE};
 use crate::reader::{in_range, Fault, Reader};
+use crate::update::Update;
 use crate::values::Values;
+use crate::version::Version;
 
 /// The numbers of clocks, variables and channels that a chart or network declares.
 #[derive(Clone, Copy, PartialEq, Eq, Debug, Default)]
@@ -58,12 +59,6 @@ impl Signal {
     }
 }
 
-#[derive(Clone, PartialEq, Eq, Debug)]
-pub struct Assignment {
-    pub variable: usize,
-    pub expression: Expression,
-}
-
 /// The part of a transition or edge record from the signal on.
 #[derive(Clone, PartialEq, Eq, Debug)]
 pub struct Label {
@@ -71,44 +66,45 @@ pub struct Label {
     /// Bit i is set when clock i is reset.
     pub resets: u8,
     pub guards: Vec<Guard>,
-    pub assignments: Vec<Assignment>,
+    /// The assignments and advances, which are counted together.
+    pub updates: Vec<Update>,
 }
 
 impl Label {
     /// A label that has a signal only.
     pub fn of_signal(signal: Signal) -> Label {
-        Label { signal, resets: 0, guards: Vec::new(), assignments: Vec::new() }
+        Label { signal, resets: 0, guards: Vec::new(), updates: Vec::new() }
     }
 
-    pub fn read(reader: &mut Reader, declared: &Declared) -> Result<Label, Fault> {
+    pub fn read(
+        reader: &mut Reader,
+        version: Version,
+        declared: &Declared,
+    ) -> Result<Label, Fault> {
         let signal = Signal::read(reader, declared.channels())?;
         let resets = reader.byte()?;
         in_range(u32::from(resets) & !lowest_bits(declared.clocks) == 0)?;
         let guard_count = reader.byte()?;
-        let assignment_count = reader.byte()?;
+        let update_count = reader.byte()?;
         let mut guards = Vec::new();
         for _ in 0..guard_count {
             guards.push(Guard::read(reader, declared)?);
         }
-        let mut assignments = Vec::new();
-        for _ in 0..assignment_count {
-            assignments.push(Assignment {
-                variable: reader.byte_below(declared.variables)?,
-                expression: Expression::read(reader, declared.variables, LEVELS)?,
-            });
+        let mut updates = Vec::new();
+        for _ in 0..update_count {
+            updates.push(Update::read(reader, version, declared.variables)?);
         }
-        Ok(Label { signal, resets, guards, assignments })
+        Ok(Label { signal, resets, guards, updates })
     }
 
     pub fn write(&self, bytes: &mut Vec<u8>) {
         self.signal.write(bytes);
-        bytes.extend([self.resets, self.guards.len() as u8, self.assignments.len() as u8]);
+        bytes.extend([self.resets, self.guards.len() as u8, self.updates.len() as u8]);
         for guard in &self.guards {
             guard.write(bytes);
         }
-        for assignment in &self.assignments {
-            bytes.push(assignment.variable as u8);
-            assignment.expression.write(bytes);
+        for update in &self.updates {
+            update.write(bytes);
         }
     }
 
@@ -116,14 +112,15 @@ impl Label {
         self.guards.iter().all(|guard| guard.holds(values))
     }
 
-    /// Rule 13: a receiver assigns nothing, and no variable is assigned twice.
+    /// Rule 13: a receiver assigns nothing, and no variable is assigned twice. Both variables of
+    /// an advance count as assigned.
     pub fn assigns_properly(&self) -> bool {
         if matches!(self.signal, Signal::Receive(_)) {
-            return self.assignments.is_empty();
+            return self.updates.is_empty();
         }
         let mut assigned = 0u32;
-        for assignment in &self.assignments {
-            let bit = 1 << assignment.variable;
+        for variable in self.updates.iter().flat_map(Update::written) {
+            let bit = 1 << variable;
             if assigned & bit != 0 {
                 return false;
             }
@@ -132,10 +129,10 @@ impl Label {
         true
     }
 
-    /// Writes this label's resets and assignments into `new`. All expressions read `old`.
+    /// Writes this label's resets and updates into `new`. All updates read `old`.
     pub fn apply(&self, old: &Values, new: &mut Values) {
-        for assignment in &self.assignments {
-            new.variables[assignment.variable] = assignment.expression.value(&old.variables);
+        for update in &self.updates {
+            update.apply(&old.variables, &mut new.variables);
         }
         for (clock, value) in new.clocks.iter_mut().enumerate() {
             if self.resets & (1 << clock) != 0 {

@@ -42,8 +42,10 @@ pub const LARGEST: u32 = 2_147_483_647;
 pub const NO_BOUND: u32 = 0xFFFF_FFFF;
 /// The byte that stands for no parent, exit, entry, channel, transition or tested exit.
 pub const NONE: u8 = 255;
-/// The version of both file forms.
-pub const VERSION: u8 = 1;
+/// The byte that stands for an advance where the variable of an assignment may stand.
+pub const ADVANCE: u8 = 255;
+/// Bytes of an advance, that one included.
+pub const ADVANCE_BYTES: usize = 7;
 
 /// The lowest `count` bits of a set of marks.
 pub fn lowest_bits(count: usize) -> u32 {

@@ -5,11 +5,12 @@ use std::rc::Rc;
 use crate::label::{Declared, Label};
 use crate::limits::{
     lowest_bits, AUTOMATA, CLOCKS, EDGES, EXITS, LOCATIONS, NETWORK_BROADCAST, NETWORK_HEADER,
-    NETWORK_RENDEZVOUS, NONE, TRANSITIONS, VARIABLES, VERSION,
+    NETWORK_RENDEZVOUS, NONE, TRANSITIONS, VARIABLES,
 };
 use crate::reader::{in_range, Fault, Reader};
 use crate::refusal::Refusal;
 use crate::values::Bounds;
+use crate::version::Version;
 
 #[derive(Clone, PartialEq, Eq, Debug)]
 pub struct Location {
@@ -54,6 +55,7 @@ impl Edge {
 
 #[derive(Clone, PartialEq, Eq, Debug)]
 pub struct Network {
+    pub version: Version,
     pub declared: Declared,
     pub automata: usize,
     pub locations: Vec<Location>,
@@ -77,9 +79,8 @@ impl Network {
     /// Every fault of the header is one of length.
     fn read_file(file: &[u8]) -> Result<Network, Fault> {
         let mut reader = Reader::new(file);
-        let version = reader.byte()?;
-        let length = reader.four_bytes()?;
-        let header_fits = version == VERSION && length as usize == file.len() - 5;
+        let version = Version::of_number(reader.byte()?).ok_or(Fault::Length)?;
+        let length_fits = reader.four_bytes()? as usize == file.len() - 5;
         let automata = usize::from(reader.byte()?);
         let location_count = usize::from(reader.byte()?);
         let edge_count = usize::from(reader.two_bytes()?);
@@ -96,7 +97,7 @@ impl Network {
             && declared.variables <= VARIABLES
             && declared.rendezvous <= NETWORK_RENDEZVOUS
             && declared.broadcast <= NETWORK_BROADCAST;
-        if !header_fits || !counts_fit {
+        if !length_fits || !counts_fit {
             return Err(Fault::Length);
         }
         let mut locations = Vec::with_capacity(location_count);
@@ -108,11 +109,11 @@ impl Network {
         let mut edges = Vec::with_capacity(edge_count);
         for _ in 0..edge_count {
             let mut record = reader.long_record()?;
-            edges.push(Edge::read(&mut record, automata, location_count, &declared)?);
+            edges.push(Edge::read(&mut record, version, automata, location_count, &declared)?);
             record.end()?;
         }
         reader.end()?;
-        Ok(Network { declared, automata, locations, edges })
+        Ok(Network { version, declared, automata, locations, edges })
     }
 
     /// The rest of 25: one initial location for each automaton, edges within one automaton,
@@ -134,7 +135,7 @@ impl Network {
     /// The file of this network.
     pub fn write(&self) -> Vec<u8> {
         let mut bytes = Vec::with_capacity(NETWORK_HEADER + 8 * self.locations.len());
-        bytes.push(VERSION);
+        bytes.push(self.version.number());
         bytes.extend([0; 4]);
         bytes.extend([self.automata as u8, self.locations.len() as u8]);
         bytes.extend((self.edges.len() as u16).to_be_bytes());
@@ -176,6 +177,7 @@ impl Location {
 impl Edge {
     fn read(
         record: &mut Reader,
+        version: Version,
         automata: usize,
         locations: usize,
         declared: &Declared,
@@ -192,7 +194,7 @@ impl Edge {
         let exits_written = record.byte()?;
         let values_written = record.byte()?;
         in_range(values_written & !exits_written == 0)?;
-        let label = Rc::new(Label::read(record, declared)?);
+        let label = Rc::new(Label::read(record, version, declared)?);
         Ok(Edge {
             source,
             target,

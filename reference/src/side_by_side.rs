@@ -16,6 +16,8 @@ use crate::network_machine::{self, NetworkConfiguration};
 use crate::picture::picture;
 use crate::random::Random;
 use crate::refusal::Refusal;
+use crate::take_up::{sole_advances, TakeUps};
+use crate::update::Advance;
 
 /// How many sets with one broadcast sender are tried at a time.
 const MOST_BROADCAST_SETS: usize = 4;
@@ -25,13 +27,24 @@ pub struct Machines {
     pub chart: Chart,
     pub layout: Layout,
     pub network: Network,
+    /// The advances that alone write their variables, in the chart and in the network.
+    pub chart_advances: Vec<Advance>,
+    pub network_advances: Vec<Advance>,
 }
 
 impl Machines {
     /// The network is the one that flattening gives, if it accepts the chart.
     pub fn of(chart: Chart) -> Result<Machines, Refusal> {
         let network = network_of(&chart)?;
-        Ok(Machines { layout: Layout::of(&chart), chart, network })
+        let chart_labels = chart.transitions.iter().map(|transition| &*transition.label);
+        let network_labels = network.edges.iter().map(|edge| &*edge.label);
+        Ok(Machines {
+            layout: Layout::of(&chart),
+            chart_advances: sole_advances(chart_labels),
+            network_advances: sole_advances(network_labels),
+            chart,
+            network,
+        })
     }
 
     /// The transition numbers on the edges of a move, in the order of the edges and without 255.
@@ -69,6 +82,11 @@ pub struct Tally {
     pub network_refusals: [u64; 28],
     /// The most urgent moves owed at one time.
     pub most_owed: usize,
+    /// Pairs of variables, of the chart and of the network, that one advance alone writes, where
+    /// the run made that advance.
+    pub take_ups: u64,
+    /// The most times that such an advance was made in one run.
+    pub most_advances: u64,
 }
 
 impl Tally {
@@ -85,6 +103,8 @@ impl Tally {
             self.network_refusals[number] += other.network_refusals[number];
         }
         self.most_owed = self.most_owed.max(other.most_owed);
+        self.take_ups += other.take_ups;
+        self.most_advances = self.most_advances.max(other.most_advances);
     }
 }
 
@@ -102,6 +122,8 @@ pub struct Moment<'a> {
     pub owed: usize,
     /// The chart list so far.
     pub chart_list: Vec<Call>,
+    chart_take_ups: TakeUps,
+    network_take_ups: TakeUps,
     tally: Tally,
 }
 
@@ -162,7 +184,7 @@ fn run_list(
         moment.test(random).map_err(|failure| format!("{failure}, after {call:?}"))?;
     }
     moment.replay_chart_list()?;
-    Ok(moment.tally)
+    Ok(moment.into_tally())
 }
 
 impl<'a> Moment<'a> {
@@ -175,7 +197,19 @@ impl<'a> Moment<'a> {
             active_edges: active_edges(&machines.network, &network),
             owed: 0,
             chart_list: Vec::new(),
+            chart_take_ups: TakeUps::none_made(&machines.chart_advances),
+            network_take_ups: TakeUps::none_made(&machines.network_advances),
             tally: Tally { runs: 1, ..Tally::default() },
+        }
+    }
+
+    /// What the run did.
+    fn into_tally(self) -> Tally {
+        let (chart, network) = (self.chart_take_ups, self.network_take_ups);
+        Tally {
+            take_ups: chart.used() + network.used(),
+            most_advances: chart.most_made().max(network.most_made()),
+            ..self.tally
         }
     }
 
@@ -203,7 +237,13 @@ impl<'a> Moment<'a> {
                 self.tally.waits += 1;
                 self.add_to_chart_list(call.clone())?;
             }
-            Call::Step(list) => self.account_for_move(list)?,
+            Call::Step(list) => {
+                self.account_for_move(list)?;
+                for &number in list {
+                    let edge = &self.machines.network.edges[usize::from(number)];
+                    self.network_take_ups.count(&edge.label);
+                }
+            }
         }
         self.network = new;
         self.active_edges = active_edges(&self.machines.network, &new);
@@ -240,6 +280,12 @@ impl<'a> Moment<'a> {
             Ok(new) => self.chart = new,
             Err(refusal) => {
                 return Err(format!("the chart refuses {call:?} with {}", refusal.number()))
+            }
+        }
+        if let Call::Step(list) = &call {
+            for &number in list {
+                let transition = &self.machines.chart.transitions[usize::from(number)];
+                self.chart_take_ups.count(&transition.label);
             }
         }
         self.chart_list.push(call);
@@ -292,12 +338,25 @@ impl<'a> Moment<'a> {
 
     // The tests.
 
+    /// Tests what a weaver relies on, of each machine by itself.
+    fn test_take_ups(&self) -> Result<(), Failure> {
+        demand(
+            self.chart_take_ups.hold(&self.chart.values.variables),
+            "the take-up of the chart is not that of so many advances",
+        )?;
+        demand(
+            self.network_take_ups.hold(&self.network.values.variables),
+            "the take-up of the network is not that of so many advances",
+        )
+    }
+
     /// Tests every clause that can be tested between two calls.
     fn test(&mut self, random: &mut Random) -> Result<(), Failure> {
         demand(
             self.network.values == self.chart.values,
             "the variables or clocks of the two machines differ",
         )?;
+        self.test_take_ups()?;
         let moves = self.allowed_network_moves(random);
         if self.owed > 0 {
             return self.test_while_owed(&moves, random);

@@ -5,9 +5,11 @@ use std::rc::Rc;
 use crate::chart::{Chart, Kind, State, Transition};
 use crate::expression::Expression;
 use crate::guard::{Guard, Relation};
-use crate::label::{Assignment, Declared, Label, Signal};
+use crate::label::{Declared, Label, Signal};
 use crate::limits::{AUTOMATA, CHART_BYTES, LEVELS, NONE, STATES, TRANSITIONS};
+use crate::update::{Advance, Update};
 use crate::values::Bounds;
+use crate::version::Version;
 
 /// A state without bounds.
 pub fn state(parent: u8, kind: Kind, entry_marks: u16, exit_marks: u8) -> State {
@@ -25,6 +27,41 @@ pub fn transition(
     Transition { source, destination, exit, entry, label: Rc::new(Label::of_signal(signal)) }
 }
 
+/// A sequential state with one basic child, which has a transition to itself.
+pub fn one_loop(version: Version, declared: Declared, label: Label) -> Chart {
+    let states = vec![state(NONE, Kind::Sequential, 1, 0), state(0, Kind::Basic, 1, 0)];
+    let label = Rc::new(label);
+    let one = Transition { source: 1, destination: 1, exit: None, entry: None, label };
+    Chart::new(version, declared, 1, 0, states, vec![one])
+}
+
+/// A loop of version 2 with three variables and these updates.
+pub fn one_pick(updates: Vec<Update>) -> Chart {
+    let declared = Declared { variables: 3, ..Declared::default() };
+    one_loop(Version::Two, declared, Label { updates, ..Label::of_signal(Signal::None) })
+}
+
+/// As many transitions as there may be, each with eight advances on all 16 variables: eight basic
+/// states of which each leads to each.
+pub fn most_advances() -> Chart {
+    let mut states = vec![state(NONE, Kind::Sequential, 1, 0)];
+    states.extend((0..8).map(|number| state(0, Kind::Basic, u16::from(number == 0), 0)));
+    let advance = |pair: usize, number: usize| Advance {
+        steps: 2 * pair,
+        remainder: 2 * pair + 1,
+        numerator: (1_000 * pair + 7 * number) as u16,
+        denominator: (1 + 500 * pair + 3 * number) as u16,
+    };
+    let transitions = (0..TRANSITIONS).map(|number| {
+        let updates = (0..8).map(|pair| Update::Advance(advance(pair, number))).collect();
+        let label = Rc::new(Label { updates, ..Label::of_signal(Signal::None) });
+        let (source, destination) = (1 + number / 8, 1 + number % 8);
+        Transition { source, destination, exit: None, entry: None, label }
+    });
+    let declared = Declared { variables: 16, ..Declared::default() };
+    Chart::new(Version::Two, declared, 1, 0, states, transitions.collect())
+}
+
 /// Sample S1: two basic states and a transition between them.
 pub fn sample_1() -> Chart {
     let states = vec![
@@ -33,7 +70,7 @@ pub fn sample_1() -> Chart {
         state(0, Kind::Basic, 0, 0),
     ];
     let transitions = vec![transition(1, 2, None, None, Signal::None)];
-    Chart::new(Declared::default(), 1, 0, states, transitions)
+    Chart::new(Version::One, Declared::default(), 1, 0, states, transitions)
 }
 
 /// Sample S3: a composite state that is entered and left.
@@ -48,7 +85,7 @@ pub fn sample_3() -> Chart {
         transition(1, 2, None, Some(1), Signal::None),
         transition(2, 1, Some(0), None, Signal::None),
     ];
-    Chart::new(Declared::default(), 2, 1, states, transitions)
+    Chart::new(Version::One, Declared::default(), 2, 1, states, transitions)
 }
 
 /// A parallel root with eight children. Each has a composite child that leaves and enters itself
@@ -65,7 +102,14 @@ pub fn broadcast_of_self_loops() -> Chart {
         let signal = if number == 0 { Signal::Send(0) } else { Signal::Receive(0) };
         transitions.push(transition(composite, composite, Some(0), Some(0), signal));
     }
-    Chart::new(Declared { broadcast: 1, ..Declared::default() }, 1, 1, states, transitions)
+    Chart::new(
+        Version::One,
+        Declared { broadcast: 1, ..Declared::default() },
+        1,
+        1,
+        states,
+        transitions,
+    )
 }
 
 /// A sequential root with a basic state and, entered first, a parallel state without children.
@@ -100,14 +144,14 @@ pub fn chart_with_edges(edges: usize) -> Chart {
     let mut transitions = vec![transition(2, 1, Some(0), None, Signal::None); 4];
     let others = edges.saturating_sub(4 * (243 + 1) + 25).min(TRANSITIONS - 4);
     transitions.extend(vec![transition(1, 1, None, None, Signal::None); others]);
-    Chart::new(Declared::default(), 1, 1, states_with_243_alternatives(), transitions)
+    Chart::new(Version::One, Declared::default(), 1, 1, states_with_243_alternatives(), transitions)
 }
 
 /// As many transitions as there may be, each with 243 alternatives: over 15,000 edges, which is
 /// refused.
 pub fn most_alternatives() -> Chart {
     let transitions = vec![transition(2, 1, Some(0), None, Signal::None); TRANSITIONS];
-    Chart::new(Declared::default(), 1, 1, states_with_243_alternatives(), transitions)
+    Chart::new(Version::One, Declared::default(), 1, 1, states_with_243_alternatives(), transitions)
 }
 
 /// A chart with a network of some 16 million bytes: nearly all of its 65,536 bytes are labels of
@@ -130,7 +174,7 @@ pub fn many_equal_choices() -> Chart {
         states.push(state(region, Kind::Basic, 0, 1));
     }
     let transitions = vec![transition(2, 1, Some(0), None, Signal::None)];
-    Chart::new(Declared::default(), 1, 1, states, transitions)
+    Chart::new(Version::One, Declared::default(), 1, 1, states, transitions)
 }
 
 /// A sequential root with a basic child and this many sequential ones: with 16 of them there are
@@ -142,7 +186,7 @@ pub fn chart_with_sequential_children(count: usize) -> Chart {
         states.push(state(0, Kind::Sequential, 0, 0));
         states.push(state(number, Kind::Basic, 0, 0));
     }
-    Chart::new(Declared::default(), 1, 0, states, Vec::new())
+    Chart::new(Version::One, Declared::default(), 1, 0, states, Vec::new())
 }
 
 /// Two nested sequential states with a transition each on one channel: rule 14 refuses it.
@@ -156,7 +200,14 @@ pub fn nested_channel() -> Chart {
         transition(2, 2, None, None, Signal::Send(0)),
         transition(1, 1, Some(0), Some(0), Signal::Receive(0)),
     ];
-    Chart::new(Declared { rendezvous: 1, ..Declared::default() }, 1, 1, states, transitions)
+    Chart::new(
+        Version::One,
+        Declared { rendezvous: 1, ..Declared::default() },
+        1,
+        1,
+        states,
+        transitions,
+    )
 }
 
 /// A parallel root with two sequential children. One sends on a rendezvous channel by a guarded
@@ -170,17 +221,16 @@ pub fn rendezvous_with_swap(guard: Guard) -> Chart {
         state(3, Kind::Basic, 1, 0),
     ];
     let swap = vec![
-        Assignment { variable: 0, expression: Expression::Variable(1) },
-        Assignment { variable: 1, expression: Expression::Variable(0) },
+        Update::assignment(0, Expression::Variable(1)),
+        Update::assignment(1, Expression::Variable(0)),
     ];
-    let label =
-        Label { signal: Signal::Send(0), resets: 1, guards: vec![guard], assignments: swap };
+    let label = Label { signal: Signal::Send(0), resets: 1, guards: vec![guard], updates: swap };
     let transitions = vec![
         Transition { source: 2, destination: 2, exit: None, entry: None, label: Rc::new(label) },
         transition(4, 4, None, None, Signal::Receive(0)),
     ];
     let declared = Declared { clocks: 2, variables: 2, rendezvous: 1, broadcast: 0 };
-    Chart::new(declared, 1, 0, states, transitions)
+    Chart::new(Version::One, declared, 1, 0, states, transitions)
 }
 
 /// A chart at every limit that fits together: 48 states, 16 of them sequential, a network of 1,024
@@ -201,7 +251,7 @@ pub fn largest() -> Chart {
     for &number in &plain {
         transitions[number].label = Rc::new(long_label());
     }
-    let mut chart = Chart::new(chart.declared, 1, 1, states, transitions);
+    let mut chart = Chart::new(Version::One, chart.declared, 1, 1, states, transitions);
     let sequential = chart.states.iter().filter(|state| state.kind == Kind::Sequential).count();
     assert_eq!(sequential, AUTOMATA);
     fill_with_guards(&mut chart, &plain);
@@ -221,10 +271,10 @@ fn fill_with_guards(chart: &mut Chart, numbers: &[usize]) {
 }
 
 fn long_label() -> Label {
-    let assignments = (0..8)
-        .map(|variable| Assignment { variable, expression: Expression::Variable(15 - variable) })
+    let updates = (0..8)
+        .map(|variable| Update::assignment(variable, Expression::Variable(15 - variable)))
         .collect();
-    Label { signal: Signal::None, resets: 0xFF, guards: vec![long_guard()], assignments }
+    Label { signal: Signal::None, resets: 0xFF, guards: vec![long_guard()], updates }
 }
 
 /// A guard that holds while all variables are 0, with a sum of the most levels on one side.
@@ -266,13 +316,13 @@ pub fn dense() -> Chart {
             Guard::Clock { clock: 0, relation: Relation::AtMost, constant: 9 },
             Guard::Difference { first: 0, second: 0, relation: Relation::AtMost, constant: 3 },
         ],
-        assignments: vec![Assignment {
-            variable: 0,
-            expression: Expression::Quotient(Box::new(Expression::Variable(0)), 2),
-        }],
+        updates: vec![Update::assignment(
+            0,
+            Expression::Quotient(Box::new(Expression::Variable(0)), 2),
+        )],
     });
     let mut states = chart.states;
     states[2].bounds.0[0] = 7;
     let declared = Declared { clocks: 1, variables: 1, rendezvous: 0, broadcast: 1 };
-    Chart::new(declared, 2, 1, states, transitions)
+    Chart::new(Version::One, declared, 2, 1, states, transitions)
 }

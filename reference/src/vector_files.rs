@@ -5,19 +5,21 @@ use crate::chart::Chart;
 use crate::chart_machine::{self, ChartConfiguration};
 use crate::check::check;
 use crate::coverage::{features, run_features, Counts, Features};
-use crate::damage::{damage_chart, damage_file, Form};
+use crate::damage::{advance_places, damage_chart, damage_file, Form};
 use crate::expression::Expression;
+use crate::faulty::{self, all_faulty, Faulty};
 use crate::flatten::network_of;
 use crate::generate::{chart_from_wish, Wish};
 use crate::guard::{Guard, Relation};
 use crate::layout::Layout;
-use crate::limits::LIST;
+use crate::limits::{ADVANCE_BYTES, LIST};
 use crate::network_machine::{self, NetworkConfiguration};
 use crate::random::Random;
 use crate::request::Request;
 use crate::run_request::RunRequest;
 use crate::side_by_side::{random_network_list, Call, Machines};
 use crate::special;
+use crate::update::{Advance, Update};
 use crate::values::Values;
 use crate::walk::{chart_requests, network_requests};
 
@@ -103,44 +105,61 @@ impl Candidate {
     }
 }
 
+/// The requests that may be chosen, by the part that they belong to.
+#[derive(Default)]
+struct Candidates {
+    chart: Vec<Candidate>,
+    flatten: Vec<Candidate>,
+    network: Vec<Candidate>,
+    runs: Vec<Candidate>,
+}
+
 /// The vector file. It is the same at every call.
 pub fn vector_file() -> VectorFile {
-    let mut network = Vec::new();
-    let mut chart = Vec::new();
-    let mut flatten = Vec::new();
     let mut random = Random::new(0x5645_4354);
+    let candidates = all_candidates(&mut random);
+    let mut charts = changed_bytes(&special::dense().write(), 200, &mut random);
+    let dense_network = network_of(&special::dense()).map(|network| network.write());
+    let mut networks = changed_bytes(&dense_network.unwrap_or_default(), 100, &mut random);
+    let advance = special::one_pick(vec![Update::Advance(faulty::ADVANCE)]);
+    charts.extend(changed_advance(Form::Chart, &advance.write()));
+    let advance_network = network_of(&advance).map(|network| network.write());
+    networks.extend(changed_advance(Form::Network, &advance_network.unwrap_or_default()));
+    let checks = charts.iter().cloned().map(Request::Check).collect();
+    let flattens = charts.into_iter().map(|file| Request::Flatten(file, 65_536)).collect();
+    let starts = networks.into_iter().map(Request::NetworkStart).collect();
+    VectorFile {
+        parts: vec![
+            choose("chart", checks, candidates.chart),
+            choose("flatten", flattens, candidates.flatten),
+            longest(),
+            choose("network", starts, candidates.network),
+            choose("side by side", Vec::new(), candidates.runs),
+        ],
+    }
+}
+
+fn all_candidates(random: &mut Random) -> Candidates {
+    let mut all = Candidates::default();
     let mut charts = special_charts();
     charts.extend((0..CHARTS).map(|seed| chart_from_wish(&small_wish(seed), seed)));
     for one in &charts {
-        add_chart_candidates(one, &mut chart, &mut random);
-        add_flatten_candidates(one, &mut flatten, &mut random);
-        add_network_candidates(one, &mut network, &mut random);
+        add_chart_candidates(one, &mut all.chart, random);
+        add_flatten_candidates(one, &mut all.flatten, random);
+        add_network_candidates(one, &mut all.network, random);
     }
-    let mut runs = Vec::new();
     let mut run_random = Random::new(0x5349_4445);
     for one in &charts {
-        add_run_candidates(one, &mut runs, &mut run_random);
+        add_run_candidates(one, &mut all.runs, &mut run_random);
     }
     for guard in all_guards() {
-        add_guard_candidates(guard, &mut chart, &mut network);
+        add_guard_candidates(guard, &mut all.chart, &mut all.network);
     }
-    let changed_charts = changed_bytes(&special::dense().write(), 200, &mut random);
-    let checks = changed_charts.iter().cloned().map(Request::Check).collect();
-    let flattens = changed_charts.into_iter().map(|file| Request::Flatten(file, 65_536)).collect();
-    let dense_network = network_of(&special::dense()).map(|network| network.write());
-    let starts = changed_bytes(&dense_network.unwrap_or_default(), 100, &mut random)
-        .into_iter()
-        .map(Request::NetworkStart)
-        .collect();
-    VectorFile {
-        parts: vec![
-            choose("chart", checks, chart),
-            choose("flatten", flattens, flatten),
-            longest(),
-            choose("network", starts, network),
-            choose("side by side", Vec::new(), runs),
-        ],
+    add_advance_candidates(&mut all);
+    for one in all_faulty() {
+        add_faulty_candidates(&one, &mut all);
     }
+    all
 }
 
 /// A chart of nearly as many bytes as there can be. It stands so that the end of what a program
@@ -169,13 +188,15 @@ fn special_charts() -> Vec<Chart> {
 /// Wishes for charts that are small enough for many requests to fit.
 fn small_wish(seed: u64) -> Wish {
     let wish = Wish::from_seed(seed);
+    // Two advances in one label need four variables.
+    let variables = if wish.version.has_advances() { 4 } else { 3 };
     Wish {
         states: wish.states.min(14),
         transitions: wish.transitions.min(8),
         entries: wish.entries.min(3),
         exits: wish.exits.min(2),
         clocks: wish.clocks.min(2),
-        variables: wish.variables.min(3),
+        variables: wish.variables.min(variables),
         rendezvous: wish.rendezvous.min(1),
         broadcast: wish.broadcast.min(1),
         ..wish
@@ -302,6 +323,60 @@ fn add_guard_candidates(guard: Guard, charts: &mut Vec<Candidate>, networks: &mu
     }
 }
 
+/// An advance with ratios at the ends of their ranges, on both machines, with steps and remainders
+/// at the ends of theirs.
+fn add_advance_candidates(all: &mut Candidates) {
+    let ratios = [(0, 1), (0, 7), (1, 1), (7, 3), (1, 65_535), (65_535, 1), (65_535, 65_535)];
+    let pairs = [(0, 0), (5, -1), (-9, 2), (2, 70_000), (i32::MAX, i32::MAX), (i32::MIN, i32::MIN)];
+    for (numerator, denominator) in ratios {
+        let advance = Advance { numerator, denominator, ..faulty::ADVANCE };
+        let before = Update::assignment(2, Expression::Variable(advance.steps));
+        let chart = special::one_pick(vec![before, Update::Advance(advance)]);
+        let Ok(network) = network_of(&chart) else {
+            continue;
+        };
+        for (steps, remainder) in pairs {
+            let mut values = Values::default();
+            values.variables[..2].copy_from_slice(&[steps, remainder]);
+            let given = ChartConfiguration { values, ..chart_machine::start(&chart) };
+            let request = Request::ChartStep(chart.write(), given, vec![0]);
+            all.chart.push(Candidate::new(request));
+            let given = NetworkConfiguration { values, ..network_machine::start(&network) };
+            let request = Request::NetworkStep(network.write(), given, vec![0]);
+            all.network.push(Candidate::new(request));
+        }
+    }
+}
+
+/// A fault of an advance or of the version, met by every operation. What the fault is, is a
+/// feature too.
+fn add_faulty_candidates(faulty: &Faulty, all: &mut Candidates) {
+    let named = |mut candidate: Candidate| {
+        let features = candidate.features.iter().map(|one| format!("{one} by {}", faulty.name));
+        let features: Vec<String> = features.collect();
+        candidate.features.extend(features);
+        candidate
+    };
+    let file = &faulty.chart;
+    all.chart.push(named(Candidate::new(Request::Check(file.clone()))));
+    all.chart.push(named(Candidate::new(Request::ChartStart(file.clone()))));
+    all.flatten.push(named(Candidate::new(Request::Flatten(file.clone(), 65_536))));
+    all.runs.push(named(Candidate::of_run(file.clone(), Vec::new())));
+    let file = &faulty.network;
+    all.network.push(named(Candidate::new(Request::NetworkStart(file.clone()))));
+}
+
+/// Copies of a file with one advance, each with one of its bytes changed.
+fn changed_advance(form: Form, file: &[u8]) -> Vec<Vec<u8>> {
+    let place = advance_places(form, file)[0];
+    let changed = (place..place + ADVANCE_BYTES).map(|place| {
+        let mut damaged = file.to_vec();
+        damaged[place] ^= 0xFF;
+        damaged
+    });
+    changed.collect()
+}
+
 /// Copies of a file, each with one byte changed: at every place of it, or at `most` places spread
 /// over it.
 fn changed_bytes(file: &[u8], most: usize, random: &mut Random) -> Vec<Vec<u8>> {
@@ -320,14 +395,14 @@ fn changed_bytes(file: &[u8], most: usize, random: &mut Random) -> Vec<Vec<u8>> 
         .collect()
 }
 
-/// Takes the fixed requests, and of the candidates, shortest first, those that have a feature of
-/// which not enough were taken yet: first one of each, then more.
+/// Takes the fixed requests, and of the candidates, those first that are shortest together with
+/// their answer, those that have a feature of which not enough were taken yet: first one of each, then more.
 fn choose(name: &'static str, fixed: Vec<Request>, mut candidates: Vec<Candidate>) -> Part {
     let mut part = Part::new(name);
     for request in fixed {
         part.take(&mut Candidate::new(request));
     }
-    candidates.sort_by_key(|candidate| candidate.input.len());
+    candidates.sort_by_key(|candidate| candidate.input.len() + candidate.output.len());
     for enough in 1..=WANTED_OF_EACH {
         for candidate in candidates.iter_mut().filter(|candidate| !candidate.taken) {
             let too_few = |feature| part.counts.get(feature).is_none_or(|&count| count < enough);

@@ -2,18 +2,40 @@
 
 use crate::candidates::candidates;
 use crate::chart::Chart;
-use crate::chart_machine;
+use crate::chart_machine::{self, ChartConfiguration};
 use crate::damage::{
     damage_chart_configuration, damage_list, damage_network_configuration, random_ticks,
+    wild_values,
 };
 use crate::moves::Member;
 use crate::network::Network;
-use crate::network_machine;
+use crate::network_machine::{self, NetworkConfiguration};
 use crate::random::Random;
 use crate::request::{Request, Success};
+use crate::version::Version;
 
 /// How many sets with one broadcast sender are looked at.
 const MOST_BROADCAST_SETS: usize = 4;
+
+/// Which configuration a request is given.
+enum Given {
+    /// One that was met in the run.
+    Met,
+    /// One that is valid, with values that an advance may find.
+    Wild,
+    /// One that may not be valid.
+    Damaged,
+}
+
+impl Given {
+    fn draw(version: Version, random: &mut Random) -> Given {
+        match random.below(100) {
+            90.. => Given::Damaged,
+            0..20 if version.has_advances() => Given::Wild,
+            _ => Given::Met,
+        }
+    }
+}
 
 /// Requests to a chart's machine. Accepted ones lead on to the next configuration.
 pub fn chart_requests(chart: &Chart, count: usize, random: &mut Random) -> Vec<Request> {
@@ -21,10 +43,14 @@ pub fn chart_requests(chart: &Chart, count: usize, random: &mut Random) -> Vec<R
     let mut configuration = chart_machine::start(chart);
     let mut requests = vec![Request::ChartStart(file.clone())];
     while requests.len() < count {
-        let given = if random.chance(90) {
-            configuration
-        } else {
-            damage_chart_configuration(&configuration, random)
+        let given = match Given::draw(chart.version, random) {
+            Given::Met => configuration,
+            Given::Wild => {
+                let variables = chart.declared.variables;
+                let values = wild_values(&configuration.values, variables, random);
+                ChartConfiguration { values, ..configuration }
+            }
+            Given::Damaged => damage_chart_configuration(&configuration, random),
         };
         let request = if random.chance(30) {
             Request::ChartWait(file.clone(), given, random_ticks(8, random))
@@ -51,10 +77,14 @@ pub fn network_requests(network: &Network, count: usize, random: &mut Random) ->
     let mut configuration = network_machine::start(network);
     let mut requests = vec![Request::NetworkStart(file.clone())];
     while requests.len() < count {
-        let given = if random.chance(90) {
-            configuration
-        } else {
-            damage_network_configuration(&configuration, random)
+        let given = match Given::draw(network.version, random) {
+            Given::Met => configuration,
+            Given::Wild => {
+                let variables = network.declared.variables;
+                let values = wild_values(&configuration.values, variables, random);
+                NetworkConfiguration { values, ..configuration }
+            }
+            Given::Damaged => damage_network_configuration(&configuration, random),
         };
         let request = if random.chance(30) {
             Request::NetworkWait(file.clone(), given, random_ticks(8, random))

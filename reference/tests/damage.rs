@@ -6,17 +6,22 @@ use std::collections::BTreeMap;
 use reference::chart_machine;
 use reference::check::check;
 use reference::damage::{
-    add_bytes, change_record_length, cut_off, damage_chart, damage_file, Form,
+    add_bytes, advance_places, change_advance, change_record_length, change_version, cut_off,
+    damage_chart, damage_file, Form,
 };
+use reference::expression::Expression;
+use reference::faulty;
 use reference::flatten::{flatten, network_of};
 use reference::generate::{chart_from_seed, chart_from_wish, Wish};
-use reference::limits::{CHART_HEADER, NETWORK_HEADER};
+use reference::limits::{ADVANCE_BYTES, CHART_HEADER, NETWORK_HEADER};
 use reference::network::Network;
 use reference::network_machine;
 use reference::random::Random;
 use reference::refusal::Refusal;
 use reference::request::{Request, Success};
 use reference::special;
+use reference::update::Update;
+use reference::version::Version;
 use reference::walk::{chart_requests, network_requests};
 
 /// How often each answer was given, 0 standing for acceptance.
@@ -70,7 +75,7 @@ fn damaged_chart_files() {
         }
     }
     println!("damaged chart files: {numbers:?}");
-    for number in [0, 1, 2, 3, 4, 5, 7, 8, 9, 10, 11, 12] {
+    for number in [0, 1, 2, 3, 4, 5, 7, 8, 9, 10, 11, 12, 13] {
         assert!(numbers.contains_key(&number), "{number}");
     }
 }
@@ -120,9 +125,18 @@ fn damage_that_decides_the_number_of_a_network() {
         for damaged in damaged_files {
             assert_eq!(refusal(&damaged), Refusal::NetworkLength, "seed {seed}");
         }
-        for (place, wrong) in
-            [(0, 2), (5, 0), (5, 17), (6, 193), (7, 5), (9, 9), (10, 17), (11, 17), (12, 145)]
-        {
+        for (place, wrong) in [
+            (0, 0),
+            (0, 3),
+            (5, 0),
+            (5, 17),
+            (6, 193),
+            (7, 5),
+            (9, 9),
+            (10, 17),
+            (11, 17),
+            (12, 145),
+        ] {
             let mut changed = file.clone();
             changed[place] = wrong;
             assert_eq!(refusal(&changed), Refusal::NetworkLength);
@@ -131,6 +145,84 @@ fn damage_that_decides_the_number_of_a_network() {
         let mut changed = file.clone();
         changed[NETWORK_HEADER + 1] = 16;
         assert_eq!(refusal(&changed), Refusal::NetworkField);
+    }
+}
+
+/// How a chart is judged whose only advance has these bytes. It has three variables, and v2 is
+/// assigned beside the advance.
+fn judged(advance: &[u8]) -> Result<(), Refusal> {
+    let (steps, remainder) = (advance[1], advance[2]);
+    if steps > 2 || remainder > 2 || advance[5..] == [0, 0] {
+        return Err(Refusal::ChartField);
+    }
+    if steps == remainder || steps == 2 || remainder == 2 {
+        return Err(Refusal::Assignments);
+    }
+    Ok(())
+}
+
+/// Every byte of an advance but the first, changed to every other value. Without the first it is
+/// an assignment, and no expression goes with its bytes.
+#[test]
+fn every_byte_of_an_advance() {
+    let before = Update::assignment(2, Expression::Variable(0));
+    let chart = special::one_pick(vec![before, Update::Advance(faulty::ADVANCE)]);
+    let (file, network) = (chart.write(), network_of(&chart).unwrap().write());
+    let place = advance_places(Form::Chart, &file)[0];
+    let network_place = advance_places(Form::Network, &network)[0];
+    for (offset, value) in (0..ADVANCE_BYTES).flat_map(|one| (0..=255).map(move |byte| (one, byte)))
+    {
+        let (mut changed, mut changed_network) = (file.clone(), network.clone());
+        changed[place + offset] = value;
+        changed_network[network_place + offset] = value;
+        let answer = check(&changed).map(|_| ());
+        let network_answer = Network::read(&changed_network).map(|_| ());
+        if offset == 0 && value != 255 {
+            assert!(answer.is_err() && network_answer.is_err(), "{value}");
+            continue;
+        }
+        let wanted = judged(&changed[place..place + ADVANCE_BYTES]);
+        assert_eq!(answer, wanted, "byte {offset} is {value}");
+        let wanted = wanted.map_err(|_| Refusal::NetworkField);
+        assert_eq!(network_answer, wanted, "byte {offset} is {value}");
+    }
+}
+
+#[test]
+fn damaged_advances_and_versions() {
+    let (mut charts, mut networks) = (Numbers::new(), Numbers::new());
+    for seed in (0..1_000).filter(|&seed| chart_from_seed(seed).version == Version::Two) {
+        let mut random = Random::new(seed);
+        let chart = chart_from_seed(seed);
+        let network = network_of(&chart).unwrap().write();
+        let has_advances = !advance_places(Form::Chart, &chart.write()).is_empty();
+        for _ in 0..10 {
+            let damaged = change_version(&chart.write(), &mut random);
+            let number = count(&mut charts, &check(&damaged));
+            // Version 1 has no advances, and there are no versions but 1 and 2.
+            let wanted = match damaged[0] {
+                1 if has_advances => 4,
+                1 => 0,
+                _ => 1,
+            };
+            assert_eq!(number, wanted, "seed {seed}");
+            if has_advances {
+                let damaged = change_advance(Form::Chart, &chart.write(), &mut random);
+                let number = count(&mut charts, &check(&damaged));
+                assert!([0, 3, 4, 13].contains(&number), "seed {seed}: {number}");
+            }
+            if !advance_places(Form::Network, &network).is_empty() {
+                let damaged = change_advance(Form::Network, &network, &mut random);
+                count(&mut networks, &Network::read(&damaged));
+            }
+        }
+    }
+    println!("damaged advances: charts {charts:?}, networks {networks:?}");
+    for number in [0, 1, 3, 4, 13] {
+        assert!(charts.contains_key(&number), "{number}");
+    }
+    for number in [0, 24, 25] {
+        assert!(networks.contains_key(&number), "{number}");
     }
 }
 
@@ -238,7 +330,7 @@ fn random_bytes() {
         let _ = Network::read(&file);
         // With a right header more is read.
         if file.len() >= NETWORK_HEADER {
-            file[0] = 1;
+            file[0] = random.between(1, 2) as u8;
             let form = if random.chance(50) { Form::Chart } else { Form::Network };
             form.correct_length(&mut file);
             if form == Form::Chart {

@@ -7,7 +7,9 @@ use reference::description::{assemble, disassemble};
 use reference::flatten::network_of;
 use reference::generate::chart_from_seed;
 use reference::network::Network;
+use reference::refusal::Refusal;
 use reference::text_form::request_from_text;
+use reference::version::Version;
 
 const REQUESTS: &str = include_str!("../vectors/text.requests");
 
@@ -43,7 +45,7 @@ fn generated_charts_and_their_networks_come_back() {
 
 #[test]
 fn the_samples_are_what_their_texts_say_and_pass() {
-    let samples: [(&str, &[u8]); 4] = [
+    let samples: [(&str, &[u8]); 5] = [
         (
             include_str!("../../samples/one_step.txt"),
             include_bytes!("../../samples/one_step.chart"),
@@ -51,6 +53,10 @@ fn the_samples_are_what_their_texts_say_and_pass() {
         (include_str!("../../samples/nested.txt"), include_bytes!("../../samples/nested.chart")),
         (include_str!("../../samples/take_up.txt"), include_bytes!("../../samples/take_up.chart")),
         (include_str!("../../samples/regions.txt"), include_bytes!("../../samples/regions.chart")),
+        (
+            include_str!("../../samples/fractional.txt"),
+            include_bytes!("../../samples/fractional.chart"),
+        ),
     ];
     for (text, file) in samples {
         assert_eq!(assemble(text).as_deref(), Ok(file), "{text}");
@@ -87,6 +93,13 @@ fn a_mistake_is_named_with_its_line() {
         ("transition 0 from 0 to 1 do v0 := 1 2", "line 2: '2' is not expected"),
         ("transition 0 from 0 to", "line 2: a word is missing"),
         ("transition 0 from +0 to 1", "line 2: '+0' is not a number from 0 to 254"),
+        (
+            "transition 0 from 0 to 1 do advance v0 rest v1 by 7/3",
+            "line 2: version 1 has no advance",
+        ),
+        ("chart version 3 clocks 0", "line 1: there is no version 3"),
+        ("network version 0 clocks 0", "line 1: there is no version 0"),
+        ("chart version 256 clocks 0", "line 1: '256' is not a number from 0 to 255"),
     ];
     for (text, mistake) in cases {
         let starts = text.starts_with("state") || text.starts_with("transition");
@@ -94,6 +107,59 @@ fn a_mistake_is_named_with_its_line() {
         let found = assemble(&whole).expect_err("a mistake").to_string();
         assert_eq!(found, mistake, "{text}");
     }
+}
+
+#[test]
+fn mistakes_in_an_advance_are_named() {
+    let first = "chart version 2 clocks 0 variables 2 rendezvous 0 broadcast 0 entries 1 exits 0\n";
+    let cases = [
+        ("advance", "a word is missing"),
+        ("advance v16 rest v1 by 7/3", "'v16' is not a number from 0 to 15"),
+        ("advance v0 by 7/3", "'rest' is expected, not 'by'"),
+        ("advance v0 rest v1 7/3", "'by' is expected, not '7'"),
+        ("advance v0 rest v1 by 7", "'/' is expected, not the end of the line"),
+        ("advance v0 rest v1 by 65536/3", "'65536' is not a number from 0 to 65535"),
+        ("advance v0 rest v1 by 7/65536", "'65536' is not a number from 0 to 65535"),
+        ("advance v0 rest v1 by 7/-3", "'-3' is not a number from 0 to 65535"),
+        ("advance v0 rest v1 by 7/3 v1 := 2", "'v1' is not expected"),
+    ];
+    for (words, mistake) in cases {
+        let text = format!("{first}transition 0 from 0 to 1 do {words}");
+        let found = assemble(&text).expect_err("a mistake").to_string();
+        assert_eq!(found, format!("line 2: {mistake}"), "{words}");
+    }
+}
+
+/// What the check judges is no mistake of the text: a denominator of 0, one variable for both.
+#[test]
+fn texts_of_version_2() {
+    let text = |version: &str, words: &str| {
+        format!(
+            "chart{version} clocks 0 variables 3 rendezvous 0 broadcast 0 entries 1 exits 0\n\
+             state 0 sequential in none entries 0\n\
+             state 1 basic in 0 entries 0\n\
+             transition 0 from 1 to 1{words}\n"
+        )
+    };
+    let judged = |version: &str, words: &str| {
+        check(&assemble(&text(version, words)).expect("a file")).map(|chart| chart.version)
+    };
+    let advance = " do advance v0 rest v1 by 7/3 ; v2 := (v2 + 1)";
+    assert_eq!(judged(" version 2", advance), Ok(Version::Two));
+    assert_eq!(judged(" version 2", &advance.replace("7/3", "7 / 3")), Ok(Version::Two));
+    assert_eq!(judged(" version 2", ""), Ok(Version::Two));
+    assert_eq!(judged(" version 1", ""), Ok(Version::One));
+    assert_eq!(judged("", ""), Ok(Version::One));
+    assert_eq!(judged(" version 2", &advance.replace("7/3", "7/0")), Err(Refusal::ChartField));
+    assert_eq!(judged(" version 2", &advance.replace("v1", "v0")), Err(Refusal::Assignments));
+    assert_eq!(judged(" version 2", &advance.replace("v1", "v3")), Err(Refusal::ChartField));
+    // The version is written where it is not 1.
+    for version in ["", " version 2"] {
+        let whole = text(version, if version.is_empty() { "" } else { advance });
+        assert_eq!(disassemble(&assemble(&whole).unwrap()), Some(whole));
+    }
+    let named = text(" version 1", "");
+    assert_eq!(disassemble(&assemble(&named).unwrap()), Some(text("", "")));
 }
 
 #[test]

@@ -1,13 +1,18 @@
 //! The seeded charts pass the check and have the features that are promised.
 
+use std::collections::BTreeMap;
+
 use reference::chart::{Chart, Kind};
 use reference::check::check;
 use reference::expression::Expression;
 use reference::flatten::network_of;
-use reference::generate::chart_from_seed;
+use reference::generate::{chart_from_seed, chart_from_wish, Wish};
 use reference::label::Signal;
 use reference::limits::{CLOCKS, STATES, VARIABLES};
 use reference::network::Network;
+use reference::take_up::sole_advances;
+use reference::update::{Advance, Update};
+use reference::version::Version;
 
 const CHARTS: u64 = 4_000;
 
@@ -46,8 +51,8 @@ fn has_composite_self_loop(chart: &Chart) -> bool {
 }
 
 fn has_swap(chart: &Chart) -> bool {
-    chart.transitions.iter().any(|one| match &one.label.assignments[..] {
-        [first, second] => {
+    chart.transitions.iter().any(|one| match &one.label.updates[..] {
+        [Update::Assignment(first), Update::Assignment(second)] => {
             first.expression == Expression::Variable(second.variable)
                 && second.expression == Expression::Variable(first.variable)
         }
@@ -62,8 +67,8 @@ fn has_division(chart: &Chart) -> bool {
     chart
         .transitions
         .iter()
-        .flat_map(|one| &one.label.assignments)
-        .any(|assignment| divides(&assignment.expression))
+        .flat_map(|one| &one.label.updates)
+        .any(|update| matches!(update, Update::Assignment(one) if divides(&one.expression)))
 }
 
 fn most_alternatives(chart: &Chart, network: &Network) -> usize {
@@ -142,6 +147,72 @@ fn seeded_charts_pass_and_have_the_promised_features() {
     assert!(parallel_in_parallel > 200 && parallel_roots > 200);
     assert!(composite_self_loops > 500 && swaps > 500 && divisions > 500);
     assert!(bounds_on_every_level > 50);
+}
+
+/// The advances of a chart, and whether an assignment stands beside one and reads its pair.
+fn advances(chart: &Chart) -> Vec<(Advance, bool)> {
+    let labels = chart.transitions.iter().map(|one| &one.label);
+    labels
+        .flat_map(|label| {
+            let read_beside = |advance: &Advance| {
+                label.updates.iter().any(|update| match update {
+                    Update::Assignment(one) => [advance.steps, advance.remainder]
+                        .iter()
+                        .any(|&variable| one.expression == Expression::Variable(variable)),
+                    Update::Advance(_) => false,
+                })
+            };
+            let advances = label.updates.iter().filter_map(Update::as_advance);
+            advances.map(|&advance| (advance, read_beside(&advance))).collect::<Vec<_>>()
+        })
+        .collect()
+}
+
+#[test]
+fn half_of_the_charts_have_version_2_and_advances_of_every_kind() {
+    let (mut version_2, mut without, mut with_take_up, mut read_beside) = (0, 0, 0, 0);
+    let (mut numerators, mut denominators) = (BTreeMap::new(), BTreeMap::new());
+    for seed in 0..CHARTS {
+        let chart = chart_from_seed(seed);
+        let found = advances(&chart);
+        if chart.version == Version::One {
+            assert!(found.is_empty(), "seed {seed}");
+            continue;
+        }
+        version_2 += 1;
+        without += u64::from(found.is_empty());
+        let labels = chart.transitions.iter().map(|one| &*one.label);
+        with_take_up += u64::from(!sole_advances(labels).is_empty());
+        for (advance, reads) in found {
+            *numerators.entry(advance.numerator).or_insert(0) += 1;
+            *denominators.entry(advance.denominator).or_insert(0) += 1;
+            read_beside += u64::from(reads);
+        }
+    }
+    println!("{version_2} of version 2, {without} without advance, {with_take_up} with take-up");
+    println!("{read_beside} advances beside an assignment that reads their pair");
+    assert_eq!(version_2, CHARTS / 2);
+    assert!(without > 50 && with_take_up > 800 && read_beside > 1_000);
+    for numerator in [0, 1, 2, u16::MAX] {
+        assert!(numerators[&numerator] > 100, "{numerator}");
+    }
+    for denominator in [1, 2, 3, u16::MAX] {
+        assert!(denominators[&denominator] > 100, "{denominator}");
+    }
+    assert!(numerators.len() > 500 && denominators.len() > 500);
+}
+
+/// The ordinary input of the benchmark is one of these, and its times are compared across changes: a
+/// wish of version 1 gives the charts that it gave before there were other versions.
+#[test]
+fn the_charts_of_version_1_stay_as_they_were() {
+    let mut hash = 0xCBF2_9CE4_8422_2325u64;
+    for seed in 0..200 {
+        for byte in chart_from_wish(&Wish::ORDINARY, seed).write() {
+            hash = (hash ^ u64::from(byte)).wrapping_mul(0x0100_0000_01B3);
+        }
+    }
+    assert_eq!(hash, 0x1241_A43F_BED3_1E9B);
 }
 
 #[test]

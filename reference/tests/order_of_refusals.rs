@@ -5,6 +5,9 @@ use std::rc::Rc;
 use reference::chart::{Chart, Kind, Transition};
 use reference::chart_machine::{self, ChartConfiguration};
 use reference::check::check;
+use reference::damage::{advance_places, Form};
+use reference::expression::Expression;
+use reference::faulty::{all_faulty, ADVANCE};
 use reference::flatten::network_of;
 use reference::guard::{Guard, Relation};
 use reference::label::{Declared, Label, Signal};
@@ -12,7 +15,9 @@ use reference::limits::{LARGEST, NONE};
 use reference::network::Network;
 use reference::network_machine::{self, NetworkConfiguration};
 use reference::refusal::Refusal;
-use reference::special::{dense, nested_channel, state, transition};
+use reference::special::{dense, nested_channel, one_pick, state, transition};
+use reference::update::Update;
+use reference::version::Version;
 
 /// Two sequential states in parallel. The first enters a composite state; the second has a
 /// transition to itself that resets the clock, one that does not and is guarded, and two with
@@ -44,7 +49,7 @@ fn chart() -> Chart {
         labelled(Label::of_signal(Signal::Receive(0))),
     ];
     let declared = Declared { clocks: 1, rendezvous: 1, ..Declared::default() };
-    let chart = Chart::new(declared, 2, 0, states, transitions);
+    let chart = Chart::new(Version::One, declared, 2, 0, states, transitions);
     check(&chart.write()).expect("the chart passes")
 }
 
@@ -189,4 +194,96 @@ fn records_are_read_from_left_to_right() {
     assert_eq!(refusal(&chart.write()), Refusal::EntryMarks);
     chart.states[2].parent = 2;
     assert_eq!(refusal(&chart.write()), Refusal::Parent);
+}
+
+#[test]
+fn every_fault_of_an_advance_has_its_number() {
+    for one in all_faulty() {
+        assert_eq!(check(&one.chart).map(|_| ()), Err(one.chart_refusal), "{}", one.name);
+        let answer = Network::read(&one.network).map(|_| ());
+        assert_eq!(answer, Err(one.network_refusal), "{}", one.name);
+    }
+}
+
+#[test]
+fn an_advance_is_read_from_left_to_right() {
+    let good = one_pick(vec![Update::Advance(ADVANCE)]);
+    let file = good.write();
+    let place = advance_places(Form::Chart, &file)[0];
+    let refusal = |file: &[u8]| check(file).map(|_| ()).unwrap_err();
+    // The record one byte shorter: the file ends where the denominator is cut.
+    let mut short = file[..file.len() - 1].to_vec();
+    Form::Chart.correct_length(&mut short);
+    short[place - 10] -= 1;
+    assert_eq!(refusal(&short), Refusal::ChartLength);
+    // A variable out of range comes before the denominator that is cut.
+    for variable in [1, 2] {
+        let mut both = short.clone();
+        both[place + variable] = 3;
+        assert_eq!(refusal(&both), Refusal::ChartField);
+    }
+    // A denominator of 0 comes before the end of the record, which is too long.
+    let mut long = file.clone();
+    long.push(0);
+    Form::Chart.correct_length(&mut long);
+    long[place - 10] += 1;
+    assert_eq!(refusal(&long), Refusal::ChartLength);
+    long[place + 6] = 0;
+    assert_eq!(refusal(&long), Refusal::ChartField);
+    // The version comes before the counts, and both before the advance.
+    let mut early = file.clone();
+    early[place + 6] = 0;
+    early[3] = 1;
+    assert_eq!(refusal(&early), Refusal::ChartCount);
+    early[0] = 3;
+    assert_eq!(refusal(&early), Refusal::ChartHeader);
+}
+
+#[test]
+fn a_network_bears_the_version_of_its_chart() {
+    for version in Version::ALL {
+        let chart = Chart { version, ..chart() };
+        let file = chart.write();
+        assert_eq!(file[0], version.number());
+        let network = network_of(&check(&file).unwrap()).unwrap();
+        assert_eq!(network.version, version);
+        let mut bytes = network.write();
+        assert_eq!(bytes[0], version.number());
+        // Nothing else depends on it where there is no advance.
+        let other = network_of(&Chart { version: Version::One, ..chart }).unwrap();
+        bytes[0] = 1;
+        assert_eq!(bytes, other.write());
+    }
+}
+
+/// An advance reads the old pair, and what stands beside it reads the old values too.
+#[test]
+fn all_updates_of_a_step_read_the_old_values() {
+    let beside = [
+        vec![Update::assignment(2, Expression::Variable(0)), Update::Advance(ADVANCE)],
+        vec![Update::Advance(ADVANCE), Update::assignment(2, Expression::Variable(0))],
+    ];
+    // Steps and remainder before and after an advance by 7/3.
+    let cases = [
+        ((0, 0), (2, 1)),
+        ((10, 2), (13, 0)),
+        ((10, -8), (9, 2)),
+        ((i32::MAX, 2), (i32::MIN + 2, 0)),
+        ((0, i32::MIN), (-715_827_881, 2)),
+        ((0, i32::MAX), (715_827_884, 2)),
+    ];
+    for updates in beside {
+        let chart = one_pick(updates);
+        let network = network_of(&chart).unwrap();
+        for (old, new) in cases {
+            let mut given = chart_machine::start(&chart);
+            given.values.variables[..2].copy_from_slice(&[old.0, old.1]);
+            let after = chart_machine::step(&chart, &given, &[0]).unwrap();
+            assert_eq!(after.values.variables[..3], [new.0, new.1, old.0]);
+            let start = network_machine::start(&network);
+            let given = NetworkConfiguration { values: given.values, ..start };
+            let stepped = network_machine::step(&network, &given, &[0]).unwrap();
+            assert_eq!(stepped.values, after.values);
+        }
+    }
 }

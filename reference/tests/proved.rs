@@ -43,6 +43,7 @@ fn charts_at_the_limits_agree() {
         special::chart_with_edges(1024),
         special::chart_with_edges(1025),
         special::most_alternatives(),
+        special::most_advances(),
     ];
     for chart in charts {
         agreed.compare_chart(&chart, 40, &mut random);

@@ -1,21 +1,21 @@
 //! The samples S1 to S10 of the paper, and the sizes that it names.
 
-use std::rc::Rc;
-
-use reference::chart::{Chart, Kind, Transition};
+use reference::chart::{Chart, Kind};
 use reference::chart_machine;
 use reference::check::check;
 use reference::expression::Expression;
 use reference::flatten::{flatten, network_of};
 use reference::guard::{Guard, Relation};
-use reference::label::{Assignment, Declared, Label, Signal};
-use reference::limits::{NONE, VARIABLES};
+use reference::label::{Declared, Label, Signal};
+use reference::limits::VARIABLES;
 use reference::network_machine;
 use reference::refusal::Refusal;
 use reference::special::{
-    broadcast_of_self_loops, chart_with_edges, chart_with_sequential_children, largest,
+    self, broadcast_of_self_loops, chart_with_edges, chart_with_sequential_children, largest,
     longest_network, many_equal_choices, most_alternatives, sample_1, sample_3, state, transition,
 };
+use reference::update::Update;
+use reference::version::Version;
 
 const S1_CHART: [u8; 40] = [
     0x01, 0x00, 0x25, 0x03, 0x00, 0x00, 0x00, 0x00, 0x01, 0x00, 0x01, //
@@ -34,17 +34,9 @@ const S1_NETWORK: [u8; 42] = [
     0x00,
 ];
 
-/// A chart of one sequential state with one basic child, which has a transition to itself.
+/// A loop of version 1.
 fn one_loop(declared: Declared, label: Label) -> Chart {
-    let states = vec![state(NONE, Kind::Sequential, 1, 0), state(0, Kind::Basic, 1, 0)];
-    let transitions = vec![Transition {
-        source: 1,
-        destination: 1,
-        exit: None,
-        entry: None,
-        label: Rc::new(label),
-    }];
-    Chart::new(declared, 1, 0, states, transitions)
+    special::one_loop(Version::One, declared, label)
 }
 
 #[test]
@@ -98,12 +90,12 @@ fn s4_and_s5() {
 
 #[test]
 fn s6() {
-    let assignments = vec![
-        Assignment { variable: 0, expression: Expression::Variable(1) },
-        Assignment { variable: 1, expression: Expression::Variable(0) },
+    let updates = vec![
+        Update::assignment(0, Expression::Variable(1)),
+        Update::assignment(1, Expression::Variable(0)),
     ];
     let declared = Declared { variables: 2, ..Declared::default() };
-    let chart = one_loop(declared, Label { assignments, ..Label::of_signal(Signal::None) });
+    let chart = one_loop(declared, Label { updates, ..Label::of_signal(Signal::None) });
     let mut configuration = chart_machine::start(&chart);
     configuration.values.variables[..2].copy_from_slice(&[5, -8]);
     let new = chart_machine::step(&chart, &configuration, &[0]).unwrap();
@@ -180,7 +172,7 @@ fn branches_that_cannot_complete_are_left_out() {
         chart.states[state].exit_marks = 0;
     }
     let transitions = vec![transition(2, 1, Some(0), None, Signal::None); 60];
-    let chart = Chart::new(chart.declared, 1, 1, chart.states, transitions);
+    let chart = Chart::new(Version::One, chart.declared, 1, 1, chart.states, transitions);
     let network = network_of(&chart).unwrap();
     // One edge from each post, and 20 that hear the exit.
     assert_eq!(network.edges.len(), 60 + 20);
@@ -208,4 +200,32 @@ fn a_long_network() {
     assert_eq!(flatten(&file, &mut buffer[..length - 1]), Err(Refusal::BufferLength));
     // The length in the header is that of the file.
     assert_eq!(buffer[1..5], ((length - 5) as u32).to_be_bytes());
+}
+
+/// The file `samples/fractional.chart`: each pick advances the motor by 7/3 of a step.
+#[test]
+fn the_fractional_sample() {
+    let chart = check(include_bytes!("../../samples/fractional.chart")).unwrap();
+    let network = network_of(&chart).unwrap();
+    assert_eq!((chart.version, network.version), (Version::Two, Version::Two));
+    assert_eq!((network.automata, network.locations.len(), network.edges.len()), (2, 8, 8));
+    let mut configuration = chart_machine::step(&chart, &chart_machine::start(&chart), &[0]);
+    let mut before = 0;
+    for pick in 1..=9 {
+        let list = [if pick % 2 == 1 { 1 } else { 2 }];
+        configuration = chart_machine::step(&chart, &configuration.unwrap(), &list);
+        let whole = 7 * pick / 3;
+        let expected = [whole, 7 * pick % 3, before];
+        assert_eq!(configuration.as_ref().unwrap().values.variables[..3], expected);
+        before = whole;
+        // It stops in the first shed alone.
+        let stop = chart_machine::step(&chart, configuration.as_ref().unwrap(), &[3]);
+        assert_eq!(stop.is_ok(), pick % 2 == 0);
+    }
+    // On the network: start and its urgent move, then a pick in each shed.
+    let mut on_network = network_machine::start(&network);
+    for list in [&[0][..], &[2, 4], &[6], &[7], &[6]] {
+        on_network = network_machine::step(&network, &on_network, list).unwrap();
+    }
+    assert_eq!(on_network.values.variables[..3], [7, 0, 4]);
 }

@@ -1,17 +1,23 @@
 //! Random runs of charts and their networks side by side.
 
+use std::collections::BTreeMap;
 use std::rc::Rc;
 
 use reference::chart::{Chart, Kind};
+use reference::chart_machine;
 use reference::check::check;
 use reference::damage::damage_chart;
+use reference::flatten::network_of;
 use reference::generate::chart_from_seed;
-use reference::label::Signal;
+use reference::label::{Label, Signal};
 use reference::layout::Place;
 use reference::limits::NONE;
+use reference::network_machine;
 use reference::random::Random;
 use reference::side_by_side::{run_chart_list, run_network_list, Failure, Machines, Tally};
 use reference::special;
+use reference::update::{Advance, Update};
+use reference::version::Version;
 
 const CHARTS: u64 = 2_000;
 const CALLS: usize = 40;
@@ -31,14 +37,20 @@ fn run(machines: &Machines, seed: u64, calls: usize) -> Result<Tally, Failure> {
 #[test]
 fn every_clause_holds_on_random_runs() {
     let mut tally = Tally::default();
+    let mut of_version = BTreeMap::new();
     for seed in 0..CHARTS {
-        match run(&machines(chart_from_seed(seed)), seed, CALLS) {
+        let chart = chart_from_seed(seed);
+        *of_version.entry(chart.version.number()).or_insert(0) += 1;
+        match run(&machines(chart), seed, CALLS) {
             Ok(one) => tally.add(&one),
             Err(failure) => panic!("seed {seed}: {failure}"),
         }
     }
+    println!("charts of each version: {of_version:?}");
     println!("{tally:#?}");
     assert_eq!(tally.runs, 2 * CHARTS);
+    assert_eq!(of_version, BTreeMap::from([(1, CHARTS / 2), (2, CHARTS / 2)]));
+    assert!(tally.take_ups > 1_000 && tally.most_advances >= 10);
     assert!(tally.moves > 10_000 && tally.urgent_moves > 5_000 && tally.waits > 5_000);
     assert!(tally.broadcasts_with_several_receivers > 1_000);
     for number in [18, 19, 20, 21, 22] {
@@ -59,6 +71,7 @@ fn every_clause_holds_on_special_charts() {
         special::chart_with_edges(1024),
         special::many_equal_choices(),
         special::chart_with_sequential_children(15),
+        special::most_advances(),
     ];
     let mut most_owed = 0;
     for chart in charts {
@@ -96,6 +109,82 @@ fn seeds_that_show(put_fault: impl Fn(&mut Machines)) -> usize {
         run(&machines, seed, CALLS).is_err()
     };
     (0..120).filter(shows).count()
+}
+
+/// Puts the same change into the labels of a chart and of its network, so that the two still agree.
+fn change_updates(machines: &mut Machines, change: impl Fn(&mut Update)) {
+    let changed = |label: &mut Rc<Label>| Rc::make_mut(label).updates.iter_mut().for_each(&change);
+    machines.chart.transitions.iter_mut().for_each(|one| changed(&mut one.label));
+    machines.network.edges.iter_mut().for_each(|one| changed(&mut one.label));
+}
+
+/// How many seeds show a fault that both machines have, each by the take-up.
+fn seeds_whose_take_up_shows(change: impl Fn(&mut Update)) -> usize {
+    let shows = |&seed: &u64| {
+        let mut machines = machines(chart_from_seed(seed));
+        change_updates(&mut machines, &change);
+        let failure = run(&machines, seed, CALLS).err();
+        failure.is_some_and(|text| text.starts_with("the take-up of the "))
+    };
+    (0..240).filter(shows).count()
+}
+
+#[test]
+fn another_numerator_is_noticed() {
+    let shown = seeds_whose_take_up_shows(|update| {
+        if let Update::Advance(advance) = update {
+            advance.numerator ^= 1;
+        }
+    });
+    assert!(shown > 20, "{shown}");
+}
+
+#[test]
+fn exchanged_variables_are_noticed() {
+    let shown = seeds_whose_take_up_shows(|update| {
+        if let Update::Advance(advance) = update {
+            std::mem::swap(&mut advance.steps, &mut advance.remainder);
+        }
+    });
+    // The pair in the other order is not counted, so its variables would have to stay 0.
+    assert!(shown > 20, "{shown}");
+}
+
+#[test]
+fn a_second_writer_is_noticed() {
+    let shown = seeds_whose_take_up_shows(|update| {
+        if let Update::Assignment(assignment) = update {
+            assignment.variable = (assignment.variable + 1) % 2;
+        }
+    });
+    assert!(shown > 5, "{shown}");
+}
+
+/// From zero, n advances by p/q leave the whole part of np/q as long as it is below 2^31. The first
+/// that passes it wraps.
+#[test]
+fn take_up_holds_up_to_the_limit_of_the_steps() {
+    for (numerator, denominator) in [(65_535, 1), (65_534, 1), (65_535, 2), (62_501, 3)] {
+        let advance = Advance { steps: 2, remainder: 0, numerator, denominator };
+        let chart = special::one_pick(vec![Update::Advance(advance)]);
+        let network = network_of(&chart).unwrap();
+        let mut on_chart = chart_machine::start(&chart);
+        let mut on_network = network_machine::start(&network);
+        let (mut picks, mut wrapped) = (0u64, false);
+        while !wrapped {
+            on_chart = chart_machine::step(&chart, &on_chart, &[0]).unwrap();
+            on_network = network_machine::step(&network, &on_network, &[0]).unwrap();
+            picks += 1;
+            let parts = picks * u64::from(numerator);
+            let whole = parts / u64::from(denominator);
+            wrapped = whole >= 1 << 31;
+            let steps = if wrapped { whole as i64 - (1 << 32) } else { whole as i64 };
+            let rest = (parts % u64::from(denominator)) as i32;
+            assert_eq!(on_chart.values.variables[..3], [rest, 0, steps as i32], "{picks}");
+            assert_eq!(on_network.values, on_chart.values);
+        }
+        assert!(picks > 32_000, "{picks}");
+    }
 }
 
 #[test]
@@ -187,7 +276,7 @@ fn entering_before_exiting_is_noticed() {
         special::state(1, Kind::Basic, 1, 1),
     ];
     let transitions = vec![special::transition(1, 1, Some(0), Some(0), Signal::None)];
-    let chart = Chart::new(Default::default(), 1, 1, states, transitions);
+    let chart = Chart::new(Version::One, Default::default(), 1, 1, states, transitions);
     let mut machines = machines(chart);
     assert!(run(&machines, 1, CALLS).is_ok());
     // Let post send "enter" and pre send "exit".

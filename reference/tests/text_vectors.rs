@@ -2,7 +2,10 @@
 
 use std::collections::BTreeSet;
 
+use reference::coverage::operation_name;
+use reference::faulty::all_faulty;
 use reference::refusal::Refusal;
+use reference::request::Request;
 use reference::text_form::{answer_line, request_from_text, request_to_text, MALFORMED};
 
 const REQUESTS: &str = include_str!("../vectors/text.requests");
@@ -27,6 +30,31 @@ fn every_operation_and_refusal_is_there() {
     for refusal in Refusal::ALL {
         assert!(answers.contains(refusal.number().to_string().as_str()), "{refusal:?}");
     }
+}
+
+#[test]
+fn both_versions_and_every_fault_of_an_advance_are_there() {
+    let answer = |request: &Request| {
+        let line = request_to_text(request);
+        let found = REQUESTS.lines().zip(ANSWERS.lines()).find(|(other, _)| *other == line);
+        found.unwrap_or_else(|| panic!("{line}")).1
+    };
+    for one in all_faulty() {
+        let number = one.chart_refusal.number().to_string();
+        assert_eq!(answer(&Request::Check(one.chart)), number, "{}", one.name);
+        let number = one.network_refusal.number().to_string();
+        assert_eq!(answer(&Request::NetworkStart(one.network)), number, "{}", one.name);
+    }
+    let accepted = REQUESTS
+        .lines()
+        .zip(ANSWERS.lines())
+        .filter(|(_, answer)| answer.starts_with("ok") || *answer == "0");
+    let kinds: BTreeSet<(String, u8)> = accepted
+        .map(|(line, _)| request_from_text(line).expect("a request"))
+        .map(|request| (operation_name(&request).to_string(), request.file()[0]))
+        .collect();
+    // Eight operations in two versions.
+    assert_eq!(kinds.len(), 8 * 2, "{kinds:?}");
 }
 
 #[test]

@@ -1,5 +1,6 @@
 //! The vector file for programs: what is in the repository is what is written, and it covers every
-//! refusal and every kind of guard, relation, signal and place.
+//! refusal, every kind of guard, relation, signal and place, and both versions with every kind of
+//! advance and every fault of one.
 
 use std::fs;
 use std::path::Path;
@@ -9,6 +10,8 @@ use reference::binary_form::{
     answer_to_lines, any_request_to_bytes, requests_from_bytes, AnyRequest,
 };
 use reference::coverage::Counts;
+use reference::faulty::{all_faulty, Faulty};
+use reference::refusal::Refusal;
 use reference::vector_files::{
     vector_file, Part, VectorFile, MOST_INPUT_BYTES, MOST_OUTPUT_BYTES, WINDOW,
 };
@@ -75,6 +78,36 @@ const LABEL_PARTS: [&str; 12] = [
     "resets",
 ];
 
+const ADVANCES: [&str; 10] = [
+    "advance",
+    "advance, numerator 0",
+    "advance, numerator 1",
+    "advance, numerator 65535",
+    "advance, denominator 1",
+    "advance, denominator 2",
+    "advance, denominator 65535",
+    "assignment before advance",
+    "advance before assignment",
+    "several advances",
+];
+
+/// What an advance meets and does in an accepted step.
+const ADVANCES_MADE: [&str; 6] = [
+    "advance with a negative remainder",
+    "advance with the least remainder",
+    "advance with a remainder above the denominator",
+    "advance with a sum that passes the range",
+    "advance with steps that wrap",
+    "advance with negative steps",
+];
+
+/// Every fault of an advance or of the version, with the number that it gets.
+fn faults(operation: &str, number: impl Fn(&Faulty) -> Refusal) -> Vec<String> {
+    let name =
+        |one: &Faulty| format!("{operation}: refusal {} by {}", number(one).number(), one.name);
+    all_faulty().iter().map(name).collect()
+}
+
 const SETS: [&str; 6] = [
     "set without signal",
     "set on a rendezvous channel",
@@ -131,6 +164,14 @@ fn the_chart_requests_cover_everything() {
     assert_covered(counts, parts("check", &["ok"]));
     assert_covered(counts, parts("check", &LABEL_PARTS));
     assert_covered(counts, parts("chart start", &["ok"]));
+    for operation in ["check", "chart start", "chart step", "chart wait"] {
+        assert_covered(counts, parts(operation, &["version 1", "version 2"]));
+    }
+    assert_covered(counts, parts("check", &ADVANCES));
+    assert_covered(counts, parts("chart step", &ADVANCES));
+    assert_covered(counts, parts("chart step", &ADVANCES_MADE));
+    assert_covered(counts, faults("check", |one| one.chart_refusal));
+    assert_covered(counts, faults("chart start", |one| one.chart_refusal));
     assert_covered(counts, refusals("chart step", 17..=21));
     assert_covered(counts, guards_both_ways("chart step"));
     assert_covered(counts, parts("chart step", &LABEL_PARTS));
@@ -148,6 +189,9 @@ fn the_flatten_requests_cover_everything() {
     let counts = &part("flatten").counts;
     assert_covered(counts, refusals("flatten", 1..=16));
     assert_covered(counts, parts("flatten", &LABEL_PARTS));
+    assert_covered(counts, parts("flatten", &["version 1", "version 2"]));
+    assert_covered(counts, parts("flatten", &ADVANCES));
+    assert_covered(counts, faults("flatten", |one| one.chart_refusal));
     assert_covered(counts, guards().iter().map(|guard| format!("flatten: guard {guard}")));
     assert_covered(counts, parts("flatten", &["has idle", "has child", "has pre", "has post"]));
     let alternatives = [
@@ -173,8 +217,11 @@ fn the_network_requests_cover_everything() {
     let counts = &part("network").counts;
     for operation in ["network start", "network step", "network wait"] {
         assert_covered(counts, refusals(operation, [24, 25]));
-        assert_covered(counts, parts(operation, &["ok"]));
+        assert_covered(counts, parts(operation, &["ok", "version 1", "version 2"]));
     }
+    assert_covered(counts, parts("network step", &ADVANCES));
+    assert_covered(counts, parts("network step", &ADVANCES_MADE));
+    assert_covered(counts, faults("network start", |one| one.network_refusal));
     assert_covered(counts, refusals("network step", [18, 19, 20, 21, 26, 27]));
     assert_covered(counts, refusals("network wait", [21, 22, 26, 27]));
     assert_covered(counts, guards_both_ways("network step"));
@@ -199,6 +246,9 @@ fn the_network_requests_cover_everything() {
 fn the_runs_cover_everything() {
     let counts = &part("side by side").counts;
     assert_covered(counts, refusals("side by side", 1..=15));
+    assert_covered(counts, parts("side by side", &["version 1", "version 2"]));
+    assert_covered(counts, parts("side by side", &["move with an advance"]));
+    assert_covered(counts, faults("side by side", |one| one.chart_refusal));
     let refused = |call, numbers: &[u8]| -> Vec<String> {
         numbers.iter().map(|number| format!("side by side: {call} refused {number}")).collect()
     };

@@ -1,5 +1,5 @@
-//! Times every operation on a small, an ordinary and the largest input, and flattening on more,
-//! and prints two tables.
+//! Times every operation on a small, an ordinary and the largest input and on one with many advances,
+//! and flattening on more, and prints two tables.
 //!
 //! Each operation reads its file anew, as its description says. Implementations are compared in
 //! one run over the same inputs: the first of the list is this one; with the feature `proved` the
@@ -42,8 +42,12 @@ const LEAST_TIME: Duration = Duration::from_millis(1);
 const ROUNDS: usize = 200;
 
 fn main() {
-    let charts =
-        [("small", special::sample_3()), ("ordinary", ordinary()), ("largest", special::largest())];
+    let charts = [
+        ("small", special::sample_3()),
+        ("ordinary", ordinary()),
+        ("largest", special::largest()),
+        ("advances", special::most_advances()),
+    ];
     time_operations(&charts);
     println!();
     time_flattening(charts.into_iter().chain([

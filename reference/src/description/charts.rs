@@ -8,6 +8,7 @@ use super::Mistake;
 use crate::chart::{Chart, Kind, State, Transition};
 use crate::label::Declared;
 use crate::limits::NONE;
+use crate::version::Version;
 
 const KINDS: [&str; 3] = ["basic", "sequential", "parallel"];
 const LAST_NUMBER: u32 = NONE as u32 - 1;
@@ -19,7 +20,8 @@ const MOST_BYTES: usize = 65_535 + 3;
 pub fn to_text(chart: &Chart) -> String {
     let declared = &chart.declared;
     let mut text = format!(
-        "chart clocks {} variables {} rendezvous {} broadcast {} entries {} exits {}\n",
+        "chart{} clocks {} variables {} rendezvous {} broadcast {} entries {} exits {}\n",
+        version_to_text(chart.version),
         declared.clocks,
         declared.variables,
         declared.rendezvous,
@@ -64,6 +66,7 @@ fn transition_to_text(transition: &Transition) -> String {
 
 /// The chart of a text whose first line is read up to `chart`.
 pub fn from_lines(mut first: Line, mut lines: Lines) -> Result<Chart, Mistake> {
+    let version = version_from_line(&mut first)?;
     let declared = declared_from_line(&mut first)?;
     first.expect("entries")?;
     let entries = first.number(u32::from(NONE))? as usize;
@@ -80,12 +83,29 @@ pub fn from_lines(mut first: Line, mut lines: Lines) -> Result<Chart, Mistake> {
             line.expect("transition")?;
             line.place(transitions.len())?;
             line.at_most(transitions.len() + 1, MOST_RECORDS, "transitions")?;
-            transitions.push(transition_from_line(&mut line)?);
+            transitions.push(transition_from_line(&mut line, version)?);
         }
     }
-    let chart = Chart::new(declared, entries, exits, states, transitions);
+    let chart = Chart::new(version, declared, entries, exits, states, transitions);
     lines.at_most(chart.write().len(), MOST_BYTES, "bytes in a chart")?;
     Ok(chart)
+}
+
+/// ` version 2`, which charts and networks share; nothing for the first version.
+pub fn version_to_text(version: Version) -> String {
+    if version == Version::default() {
+        return String::new();
+    }
+    format!(" version {}", version.number())
+}
+
+/// The first version where none is written.
+pub fn version_from_line(line: &mut Line) -> Result<Version, Mistake> {
+    if !line.takes("version") {
+        return Ok(Version::default());
+    }
+    let number = line.number(u32::from(u8::MAX))? as u8;
+    Version::of_number(number).ok_or_else(|| line.mistake(format!("there is no version {number}")))
 }
 
 /// `clocks 1 variables 2 rendezvous 0 broadcast 1`, which charts and networks share.
@@ -113,14 +133,14 @@ fn state_from_line(line: &mut Line) -> Result<State, Mistake> {
     Ok(State { parent, kind: Kind::ALL[kind], entry_marks, exit_marks, bounds })
 }
 
-fn transition_from_line(line: &mut Line) -> Result<Transition, Mistake> {
+fn transition_from_line(line: &mut Line, version: Version) -> Result<Transition, Mistake> {
     line.expect("from")?;
     let source = line.number(LAST_NUMBER)? as usize;
     line.expect("to")?;
     let destination = line.number(LAST_NUMBER)? as usize;
     let exit = optional(line, "exit")?;
     let entry = optional(line, "entry")?;
-    let label = Rc::new(labels::from_line(line)?);
+    let label = Rc::new(labels::from_line(line, version)?);
     Ok(Transition { source, destination, exit, entry, label })
 }
 

@@ -1,15 +1,19 @@
 //! Labels, guards and bounds as text:
-//! `send 3 reset c0,c1 when v0 < 3 and c0 <= 5 and c0 - c1 >= 2 do v0 := v1 ; v1 := v0`.
+//! `send 3 reset c0,c1 when v0 < 3 and c0 <= 5 and c0 - c1 >= 2 do v0 := v1 ; v1 := v0`, and from
+//! version 2 on `do advance v0 rest v1 by 7/3 ; v2 := v0`.
 
 use super::expressions;
 use super::lines::Line;
 use super::Mistake;
 use crate::guard::{Guard, Relation};
-use crate::label::{Assignment, Label, Signal};
+use crate::label::{Label, Signal};
 use crate::limits::{CLOCKS, LARGEST, NONE, NO_BOUND, VARIABLES};
+use crate::update::{Advance, Update};
 use crate::values::Bounds;
+use crate::version::Version;
 
 const LAST_CLOCK: u32 = CLOCKS as u32 - 1;
+const LAST_VARIABLE: u32 = VARIABLES as u32 - 1;
 /// Guards and assignments are counted by a byte.
 const MOST_PARTS: usize = 255;
 /// The length of an edge's record has two bytes, and ten bytes stand before its label.
@@ -34,15 +38,22 @@ pub fn to_text(label: &Label) -> String {
         text += if number == 0 { " when " } else { " and " };
         text += &guard_to_text(guard);
     }
-    for (number, assignment) in label.assignments.iter().enumerate() {
+    for (number, update) in label.updates.iter().enumerate() {
         text += if number == 0 { " do " } else { " ; " };
-        text += &format!(
-            "v{} := {}",
-            assignment.variable,
-            expressions::to_text(&assignment.expression)
-        );
+        text += &update_to_text(update);
     }
     text
+}
+
+fn update_to_text(update: &Update) -> String {
+    match update {
+        Update::Assignment(assignment) => {
+            format!("v{} := {}", assignment.variable, expressions::to_text(&assignment.expression))
+        }
+        Update::Advance(Advance { steps, remainder, numerator, denominator }) => {
+            format!("advance v{steps} rest v{remainder} by {numerator}/{denominator}")
+        }
+    }
 }
 
 fn guard_to_text(guard: &Guard) -> String {
@@ -65,8 +76,8 @@ fn guard_to_text(guard: &Guard) -> String {
     }
 }
 
-/// The rest of a line.
-pub fn from_line(line: &mut Line) -> Result<Label, Mistake> {
+/// The rest of a line in a text of this version.
+pub fn from_line(line: &mut Line, version: Version) -> Result<Label, Mistake> {
     let mut label = Label::of_signal(signal(line)?);
     if line.takes("reset") {
         loop {
@@ -83,14 +94,14 @@ pub fn from_line(line: &mut Line) -> Result<Label, Mistake> {
         }
     }
     if line.takes("do") {
-        label.assignments.push(assignment(line)?);
+        label.updates.push(update(line, version)?);
         while line.takes(";") {
-            label.assignments.push(assignment(line)?);
+            label.updates.push(update(line, version)?);
         }
     }
     line.end()?;
     line.at_most(label.guards.len(), MOST_PARTS, "guards")?;
-    line.at_most(label.assignments.len(), MOST_PARTS, "assignments")?;
+    line.at_most(label.updates.len(), MOST_PARTS, "assignments")?;
     let mut bytes = Vec::new();
     label.write(&mut bytes);
     line.at_most(bytes.len(), MOST_BYTES, "bytes in a label")?;
@@ -137,10 +148,29 @@ fn relation(line: &mut Line) -> Result<Relation, Mistake> {
     }
 }
 
-fn assignment(line: &mut Line) -> Result<Assignment, Mistake> {
-    let variable = line.lettered('v', VARIABLES as u32 - 1)? as usize;
+fn update(line: &mut Line, version: Version) -> Result<Update, Mistake> {
+    if line.takes("advance") {
+        if !version.has_advances() {
+            let number = version.number();
+            return Err(line.mistake(format!("version {number} has no advance")));
+        }
+        return Ok(Update::Advance(advance(line)?));
+    }
+    let variable = line.lettered('v', LAST_VARIABLE)? as usize;
     line.expect(":=")?;
-    Ok(Assignment { variable, expression: expressions::from_line(line)? })
+    Ok(Update::assignment(variable, expressions::from_line(line)?))
+}
+
+/// What follows `advance`: `v0 rest v1 by 7/3`. The check judges a denominator of 0.
+fn advance(line: &mut Line) -> Result<Advance, Mistake> {
+    let steps = line.lettered('v', LAST_VARIABLE)? as usize;
+    line.expect("rest")?;
+    let remainder = line.lettered('v', LAST_VARIABLE)? as usize;
+    line.expect("by")?;
+    let numerator = line.number(u32::from(u16::MAX))? as u16;
+    line.expect("/")?;
+    let denominator = line.number(u32::from(u16::MAX))? as u16;
+    Ok(Advance { steps, remainder, numerator, denominator })
 }
 
 /// `bounds c0 <= 3 , c2 <= 7`, with a space before it; nothing where no clock is bounded.

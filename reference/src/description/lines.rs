@@ -45,12 +45,12 @@ fn at_most(line: usize, count: usize, most: usize, what: &str) -> Result<(), Mis
     Err(Mistake { line, message: format!("more than {most} {what}") })
 }
 
-/// Words are parted by spaces; each of `( ) , ; :=` is a word of its own.
+/// Words are parted by spaces; each of `( ) , ; /` is a word of its own.
 fn words(line: &str) -> Vec<&str> {
     let mut words = Vec::new();
     let mut rest = line.trim_start();
     while !rest.is_empty() {
-        let is_mark = |character: char| "(),;".contains(character);
+        let is_mark = |character: char| "(),;/".contains(character);
         let length = if rest.starts_with(is_mark) {
             1
         } else {

@@ -2,12 +2,13 @@
 
 use std::rc::Rc;
 
-use super::charts::{declared_from_line, optional};
+use super::charts::{declared_from_line, optional, version_from_line, version_to_text};
 use super::labels;
 use super::lines::{marks_to_text, Line, Lines};
 use super::Mistake;
 use crate::limits::NONE;
 use crate::network::{Edge, Location, Network};
+use crate::version::Version;
 
 const LAST_NUMBER: u32 = NONE as u32 - 1;
 /// Locations are counted by a byte, edges by two.
@@ -17,7 +18,8 @@ const MOST_EDGES: usize = 65_535;
 pub fn to_text(network: &Network) -> String {
     let declared = &network.declared;
     let mut text = format!(
-        "network clocks {} variables {} rendezvous {} broadcast {} automata {}\n",
+        "network{} clocks {} variables {} rendezvous {} broadcast {} automata {}\n",
+        version_to_text(network.version),
         declared.clocks,
         declared.variables,
         declared.rendezvous,
@@ -66,6 +68,7 @@ fn edge_to_text(edge: &Edge) -> String {
 
 /// The network of a text whose first line is read up to `network`.
 pub fn from_lines(mut first: Line, mut lines: Lines) -> Result<Network, Mistake> {
+    let version = version_from_line(&mut first)?;
     let declared = declared_from_line(&mut first)?;
     first.expect("automata")?;
     let automata = first.number(u32::from(NONE))? as usize;
@@ -80,10 +83,10 @@ pub fn from_lines(mut first: Line, mut lines: Lines) -> Result<Network, Mistake>
             line.expect("edge")?;
             line.place(edges.len())?;
             line.at_most(edges.len() + 1, MOST_EDGES, "edges")?;
-            edges.push(edge_from_line(&mut line)?);
+            edges.push(edge_from_line(&mut line, version)?);
         }
     }
-    Ok(Network { declared, automata, locations, edges })
+    Ok(Network { version, declared, automata, locations, edges })
 }
 
 fn location_from_line(line: &mut Line) -> Result<Location, Mistake> {
@@ -96,7 +99,7 @@ fn location_from_line(line: &mut Line) -> Result<Location, Mistake> {
     Ok(Location { automaton, urgent, initial, bounds })
 }
 
-fn edge_from_line(line: &mut Line) -> Result<Edge, Mistake> {
+fn edge_from_line(line: &mut Line, version: Version) -> Result<Edge, Mistake> {
     line.expect("from")?;
     let source = line.number(LAST_NUMBER)? as usize;
     line.expect("to")?;
@@ -107,7 +110,7 @@ fn edge_from_line(line: &mut Line) -> Result<Edge, Mistake> {
     let values_needed = named_marks(line, "needs", 16)?;
     let exits_written = named_marks(line, "writes", 8)? as u8;
     let values_written = named_marks(line, "values", 8)? as u8;
-    let label = Rc::new(labels::from_line(line)?);
+    let label = Rc::new(labels::from_line(line, version)?);
     Ok(Edge {
         source,
         target,

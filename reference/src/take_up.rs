@@ -1,0 +1,72 @@
+//! What a weaver relies on of fractional take-up: from the start, while nothing else writes the pair
+//! of an advance by p/q, n of them leave the whole part of np/q in the steps as long as that is
+//! below 2,147,483,648, and np mod q in the remainder.
+
+use crate::label::Label;
+use crate::limits::{LARGEST, VARIABLES};
+use crate::update::{Advance, Update};
+
+/// The advances that alone write their two variables: every update in these labels that writes one
+/// of the two is that advance in the same terms.
+pub fn sole_advances<'a>(labels: impl Iterator<Item = &'a Label>) -> Vec<Advance> {
+    let updates: Vec<&Update> = labels.flat_map(|label| &label.updates).collect();
+    let mut advances: Vec<Advance> =
+        updates.iter().filter_map(|update| update.as_advance().copied()).collect();
+    advances.sort();
+    advances.dedup();
+    let leaves_alone = |update: &Update, advance: &Advance| {
+        update.written().all(|variable| !advance.writes(variable))
+    };
+    advances.retain(|advance| {
+        let sole = |update: &&Update| {
+            update.as_advance() == Some(advance) || leaves_alone(update, advance)
+        };
+        updates.iter().all(sole)
+    });
+    advances
+}
+
+/// How often each of some advances was made since the start.
+#[derive(Clone, Debug)]
+pub struct TakeUps {
+    made: Vec<(Advance, u64)>,
+}
+
+impl TakeUps {
+    pub fn none_made(advances: &[Advance]) -> TakeUps {
+        TakeUps { made: advances.iter().map(|&advance| (advance, 0)).collect() }
+    }
+
+    /// Counts the advances of a label whose transition or edge was in an accepted step. They are
+    /// known by their variables, so that one in other terms would show.
+    pub fn count(&mut self, label: &Label) {
+        for advance in label.updates.iter().filter_map(Update::as_advance) {
+            for (sole, times) in &mut self.made {
+                let same_pair = (sole.steps, sole.remainder) == (advance.steps, advance.remainder);
+                *times += u64::from(same_pair);
+            }
+        }
+    }
+
+    /// Whether the variables are as they have to be after so many advances.
+    pub fn hold(&self, variables: &[i32; VARIABLES]) -> bool {
+        self.made.iter().all(|(advance, times)| {
+            let parts = times * u64::from(advance.numerator);
+            let denominator = u64::from(advance.denominator);
+            let whole = parts / denominator;
+            let steps_hold =
+                whole > u64::from(LARGEST) || i64::from(variables[advance.steps]) == whole as i64;
+            steps_hold && i64::from(variables[advance.remainder]) == (parts % denominator) as i64
+        })
+    }
+
+    /// How many of the advances were made at all.
+    pub fn used(&self) -> u64 {
+        self.made.iter().filter(|(_, times)| *times > 0).count() as u64
+    }
+
+    /// How often the one that was made most often was made.
+    pub fn most_made(&self) -> u64 {
+        self.made.iter().map(|(_, times)| *times).max().unwrap_or(0)
+    }
+}
