@@ -1,4 +1,4 @@
--- The proof of demand 3; docs/AGREEMENT.md says what each file shows.
+-- The proof of demand 3, and of the take-up over runs; docs/AGREEMENT.md says what each file shows.
 pub mod Relation
 pub mod Claims
 pub mod Standing
@@ -17,3 +17,4 @@ pub mod Owed
 pub mod Borne
 pub mod Runs
 pub mod Demand
+pub mod TakeUp

@@ -1,12 +1,12 @@
 -- What the reading of a file says of the chart: counts and fields are in range.
 use mathlib.Core.Path.{_≡_, sym, ap, _∙_, subst}
-use mathlib.Core.Bool.{true, _||_}
-use mathlib.Core.Logic.{_⊎_, inl, inr, ⊎-elim}
+use mathlib.Core.Bool.{Bool, true, _&&_, _||_}
+use mathlib.Core.Logic.{_≢_, _⊎_, inl, inr, ⊎-elim}
 use mathlib.Core.List.{List, [], List·Memᴰ as Mem}
-use Prim.Native.Nat.{ℕ, _+_, _^_, _≤_, _<_}
+use Prim.Native.Nat.{ℕ, _+_, _*_, _-_, _^_, _≤_, _<_}
 use native.Mathlib.Omega.{arith}
 use borrow.Author.Tests.{eqb-true, ltb-true, leb-true, le-leb}
-use lib.Dec.{ltb, eqb}
+use lib.Dec.{leb, ltb, eqb}
 use lib.ListN.{getD, length, drop, length-drop}
 use Rattle.reading.specs.Answer.{done}
 use Rattle.reading.specs.Reading.{Read, got, fault, length-fault, range-fault, byte, byte2, recorded}
@@ -16,6 +16,7 @@ use Rattle.lists.proofs.Bools.{parts, both, or-cases}
 use Rattle.lists.proofs.Lists.{getD-mem}
 use Rattle.reading.proofs.Answer.{unless-at, then-at as then-at-answer}
 use Rattle.reading.proofs.Reading.{bind-at, then-at, yield-at, yield-rest, such-at, many-at, recorded-at}
+use Rattle.reading.proofs.Versions.{only-first}
 use Rattle.reading.proofs.Lengths.{byte-consumes, byte2-consumes, recorded-all, recorded-shrinks, many-within}
 use Rattle.clocks.proofs.Ranges.{Row, row-at}
 use Rattle.labels.proofs.LabelRanges.{LabelRange, label-at}
@@ -184,6 +185,12 @@ headed-version file h e =
     let v : isVersion (getD file 0 0) ≡ true = search parts in
     ap (λ (n : Counts). isVersion (n .version)) e ∙ v
 
+-- a file that does not begin with 2 has a header just where it had one before there was a second version
+pub first-headed : (file : List ℕ) → getD file 0 0 ≢ 2 → headed file ≡
+    (leb 11 (length file) && (leb (length file) 65536 && (eqb (getD file 0 0) 1 && eqb (256 * getD file 1 0 + getD file 2 0) (length file - 3))))
+unfolding headed
+first-headed file n = ap (λ (b : Bool). leb 11 (length file) && (leb (length file) 65536 && (b && eqb (256 * getD file 1 0 + getD file 2 0) (length file - 3)))) (only-first (getD file 0 0) n)
+
 -- what the counts of a file that has a header are
 pub counts-of-at : (file : List ℕ) {n : Counts} → countsOf file ≡ done n → (headed file ≡ true) × (inRange n ≡ true) × (n ≡ countsAt file)
 unfolding countsOf
@@ -203,6 +210,23 @@ read-range file h =
     let w = numbered-at _ (r .2) in
     let k = counts-of-at file (r .1) in
     records-range (r .0) (drop 11 file) (headed-version file (k .0) (k .2)) (counts-range (r .0) (k .1)) (omega (arith, length-drop 11 file, headed-short file (k .0))) (w .1)
+
+-- the version of a chart is the first byte of its file
+read-version : (file : List ℕ) {c : Chart} → readChart file ≡ done c → c .version ≡ getD file 0 0
+unfolding readChart records countsAt
+read-version file h =
+    let r = then-at-answer (countsOf file) _ h in
+    let w = numbered-at _ (r .2) in
+    let a = bind-at _ _ (drop 11 file) (w .1) in
+    let b = bind-at _ _ (a .1) (a .3) in
+    let z = then-at _ _ (b .1) (b .3) in
+    sym (ap (λ (c : Chart). c .version) (yield-at (z .1) (z .3))) ∙ ap (λ (n : Counts). n .version) (counts-of-at file (r .1) .2)
+
+pub chart-version : (file : List ℕ) {c : Chart} → chartOf file ≡ done c → c .version ≡ getD file 0 0
+unfolding chartOf
+chart-version file h =
+    let r = then-at-answer (readChart file) keepsRules h in
+    ap (λ (c : Chart). c .version) (sym (passed-at (r .0) (r .2) .1)) ∙ read-version file (r .1)
 
 -- a chart that is not refused keeps the rules, and is in range
 pub chart-at : (file : List ℕ) {c : Chart} → chartOf file ≡ done c → Passed c × Ranges c

@@ -6,7 +6,9 @@ use crate::print::text;
 // Refusals 1 to 9: a chart file and its states.
 fn of_states(k: u8) {
     match k {
-        1 => text(b"the chart has under 11 or over 65,536 bytes, or a wrong version or length"),
+        1 => text(
+            b"the chart has under 11 or over 65,536 bytes, a version other than 1 and 2, or a wrong length",
+        ),
         2 => text(b"a count is outside its range"),
         3 => text(b"a record's length disagrees with its content or the file"),
         4 => text(b"a field is out of range"),
@@ -42,7 +44,7 @@ fn of_calls(k: u8) {
         20 => text(b"the set is not allowed"),
         21 => text(b"the new configuration breaks a bound"),
         22 => text(b"there is no tick, or a clock passes its limit"),
-        24 => text(b"the network's header, a count or a length is wrong"),
+        24 => text(b"the network's version is neither 1 nor 2, or a count or a length is wrong"),
         25 => text(b"a field is out of range, or the network is not sound"),
         26 => text(b"this is not a configuration of the network, or bounds are broken"),
         27 => text(b"an urgent location is occupied and has to be left first"),

@@ -129,7 +129,7 @@ module _ (w : Width) (z : ℤ) (f : SFits w z) where
   not-negative-read e = toZ-ofZ w z f ∙ not-negative z (rw (toZ-ofZ w z f) at e)
 
 -- a number that fits is what its low 32 bits mean
-wrap-small : (z : ℤ) → mag z < 2 ^ 31 → wrap z ≡ z
+pub wrap-small : (z : ℤ) → mag z < 2 ^ 31 → wrap z ≡ z
 unfolding wrap residue
 wrap-small (pos n) h = rw (mod-eq-of-lt {n = n} {m = 2 ^ 32} (omega arith)) (signed-low n h)
 wrap-small (negsuc n) h = rw (mod-eq-of-lt {n = n} {m = 2 ^ 32} (omega arith)) (signed-high (2 ^ 32 - suc n) (omega arith) ∙ ap negsuc (omega arith))

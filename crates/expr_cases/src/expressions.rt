@@ -1,9 +1,10 @@
-// Expressions, guards, assignments and labels, from the bytes of a file.
+// Expressions, guards, updates and labels, from the bytes of a file.
 use crate::show::fault;
 use crate::show::number;
 use crate::show::signed_number;
 use crate::show::truth;
 use expr::expression;
+use expr::signed;
 use labels::guard;
 use labels::label;
 use labels::label::LabelRead;
@@ -62,17 +63,30 @@ pub fn show_guard(s: &[u8]) {
     }
 }
 
-// The first two variables after the assignments of a label's body, from 3 and 8.
+// The first two variables after the updates of a label's body, from 3 and 8, in a file of version 2.
 pub fn show_assigned(s: &[u8]) {
     let values = variables(3, 8);
-    let after = label::assigned(s, 0, 0, 16, values, values);
+    let after = label::assigned(s, 0, 2, 0, 16, values, values);
     signed_number(after[0]);
     signed_number(after[1]);
 }
 
-// A label with one clock, two variables and three channels: where its body stands, and rule 13.
+// An advance of steps and a remainder, in two's complement, by a ratio.
+pub fn show_advance(steps: u32, remainder: u32, numerator: u32, denominator: u32) {
+    let x = signed::signed(steps);
+    let y = signed::signed(remainder);
+    let p = (numerator % 65536) as u16;
+    let q = (denominator % 65536) as u16;
+    signed_number(signed::steps_after(x, y, p, q));
+    signed_number(signed::remainder_after(y, p, q));
+}
+
+// A label of a file's version, with one clock, two variables and three channels: where its body stands, and rule 13.
 pub fn show_label(s: &[u8]) {
-    let l = label::read_label(s, 0, 1, 2, 3);
+    if s.len() == 0 {
+        return;
+    }
+    let l = label::read_label(&s[1..], 0, s[0], 1, 2, 3);
     match l {
         LabelRead::Label(k, next) => {
             number(k.body as u64);

@@ -1,4 +1,4 @@
-// Worked cases of expressions, guards, assignments, labels, clocks and sets of moves, a line each: a name, the operation
+// Worked cases of expressions, guards, updates, labels, clocks and sets of moves, a line each: a name, the operation
 // and its numbers. The answer has the name and what the operation gives. S4 to S10 are the samples of the paper that
 // these functions decide.
 mod case;
@@ -14,8 +14,9 @@ fn show_operation(code: u8, s: &[u8], list: &[u16], words: [u32; 32]) {
         b'v' => expressions::show_value(s),
         b'e' => expressions::show_expression(s),
         b'g' => expressions::show_guard(s),
-        b'a' => expressions::show_assigned(s),
+        b'a' => expressions::show_assigned(s), // the updates of a label
         b'l' => expressions::show_label(s),
+        b'p' => expressions::show_advance(words[0], words[1], words[2], words[3]),
         b'w' => moves::show_wait(words[0], words[1], words[2]),
         b'j' => moves::show_joined(words[0], words[1]),
         b'r' => moves::show_reset(words[0]),

@@ -7,7 +7,7 @@ use Prim.Native.Nat.{ℕ, _+_, _^_, _≤_, _<_}
 use native.Mathlib.Omega.{arith}
 use borrow.Author.Tests.{lt-ltb, leb-true, ne-eqb}
 use lib.Dec.{ltb, eqb}
-use lib.ListN.{length}
+use lib.ListN.{length, getD}
 use lib.Pow.{pow-pos}
 use Rattle.lists.specs.Lists.{has, subset}
 use Rattle.reading.specs.Answer.{done}
@@ -28,7 +28,7 @@ use Rattle.chart_records.specs.Tree.{sequentials}
 use Rattle.chart_records.specs.Rules.{chartOf}
 use Rattle.chart_records.proofs.Tree.{size}
 use Rattle.chart_records.proofs.Rules.{Passed, kinds-left}
-use Rattle.chart_records.proofs.Ranges.{Ranges, kinds-of, chart-at}
+use Rattle.chart_records.proofs.Ranges.{Ranges, kinds-of, chart-at, chart-version}
 use Rattle.chart_rules.proofs.TransitionRules.{transition-mem}
 use Rattle.flattening.specs.Flatten.{Place, idle, child, pre, post, samePlace, hasExit, own, boundsOf, atExit, initialPlace, flagAt, writtenBy, valuesBy, placeHome, allPlaces, alternatives, onValues, signalling, edge, ownEdge, departure, urgentPlace, locationOf, flatten}
 use Rattle.flattening.specs.File.{edgeBytes, out2, networkBytes, flattenOf, fitted}
@@ -216,3 +216,10 @@ flattened-at file room {s} h =
       file-is = sym e;
       network-is = ap networkOf (sym e) ∙ network-of-flattened file (a .1) few;
     }
+
+-- the network of a chart begins with the byte that the chart begins with, its version
+pub version-handed-on : (file : List ℕ) (room : ℕ) {s : List ℕ} → flattenOf file room ≡ done s → getD s 0 0 ≡ getD file 0 0
+unfolding networkBytes flatten
+version-handed-on file room h =
+    let F = flattened-at file room h in
+    ap (λ (x : List ℕ). getD x 0 0) (F .file-is) ∙ chart-version file (F .chart-is)

@@ -11,6 +11,9 @@
  * things given to one call may share memory where one of them is written. A pointer is never null and is aligned; where the
  * number of elements is 0, any such pointer will do. A bool is 0 or 1.
  *
+ * Charts and networks have versions 1 and 2, told by the first byte of the file; version 2 has advances. Every function takes
+ * both, and the network of a chart has the version of the chart.
+ *
  * Each function answers 0, or the number of the first refusal that applies; no call is forbidden. A refused call changes
  * nothing that it was lent, not one byte.
  */
@@ -43,7 +46,7 @@ enum {
 
 /*
  * Refusals of a chart file, all functions of charts, in order:
- *    1      under 11 or over 65,536 bytes, or a wrong version or length
+ *    1      under 11 or over 65,536 bytes, a version other than 1 and 2, or a wrong length
  *    2      a count outside its range
  *    3, 4   by place: a record's length that disagrees with its content or the file; a field out of range
  *    5..14  a rule of charts is broken, the rule of the smallest number
@@ -88,7 +91,7 @@ uint8_t figrummy_wait_chart(const uint8_t *file, size_t file_length, bool active
 /*
  * A network's configuration: the location of each automaton, its eight flags (bit i for exit i), the variables, the clocks.
  * Refusals of the next three functions, in order:
- *   24  version, a count or a length of the file is wrong
+ *   24  the version of the file is neither 1 nor 2, or a count or a length is wrong
  *   25  a field of the file is out of range; of 24 and 25 the first from left to right. Then also: the file breaks a rule
  *   26  the configuration is not one of this network, or breaks a bound (step, wait)
  *   18  the list is not 1 to 16 numbers of edges, strictly ascending (step)

@@ -44,6 +44,15 @@ pub or-else : (a b : Bool) → (a || b) ≡ true → a ≡ false → b ≡ true
 or-else true b h e = clash refl e
 or-else false b h e = h
 
+-- neither of two tests holds
+pub neither-l : (a b : Bool) → (a || b) ≡ false → a ≡ false
+neither-l true b h = h
+neither-l false b h = refl
+
+pub neither-r : (a b : Bool) → (a || b) ≡ false → b ≡ false
+neither-r true b h = clash refl h
+neither-r false b h = h
+
 pub not-yes : {a : Bool} → a ≡ false → not a ≡ true
 not-yes p = rw p
 

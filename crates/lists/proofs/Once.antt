@@ -3,7 +3,7 @@ use mathlib.Core.Path.{_≡_, refl, sym, ap, _∙_, subst}
 use mathlib.Core.Bool.{Bool, true, false, cond, _&&_, _||_, not}
 use mathlib.Core.Logic.{_⊎_, inl, inr, ⊎-elim}
 use mathlib.Core.List.{List, [], _∷_, _++_, map, List·Memᴰ as Mem, List·Memᴰ·head as here, List·Memᴰ·tail as there}
-use mathlib.Core.List.{List·Memᴰ·not-nil as not-nil, Memᴰ·cast as cast, List·Memᴰ·cases-cons as cases-cons}
+use mathlib.Core.List.{List·Memᴰ·not-nil as not-nil, Memᴰ·cast as cast, Memᴰ·append-left as append-left, List·Memᴰ·cases-cons as cases-cons}
 use Prim.Native.Nat.{ℕ, zero, suc, _+_, _≤_}
 use native.Mathlib.Omega.{arith}
 use borrow.Author.Tests.{eqb-true, eq-eqb, not-true}
@@ -19,6 +19,15 @@ use Rattle.lists.proofs.Below.{range-at}
 abbrev pub Once : {A : Type 0} → List A → Type 0
 Once [] = Unit {0}
 Once (x ∷ xs) = (Mem x xs → ⊥) × Once xs
+
+-- of lists one after the other that have no element twice, neither has
+pub once-first : {A : Type 0} (xs ys : List A) → Once (xs ++ ys) → Once xs
+once-first [] ys o = tt
+once-first (x ∷ xs) ys o = (λ m. o .0 (append-left ys m), once-first xs ys (o .1))
+
+pub once-second : {A : Type 0} (xs ys : List A) → Once (xs ++ ys) → Once ys
+once-second [] ys o = o
+once-second (x ∷ xs) ys o = once-second xs ys (o .1)
 
 pub once-keep : {A : Type 0} (p : A → Bool) (xs : List A) → Once xs → Once (keep p xs)
 unfolding keep

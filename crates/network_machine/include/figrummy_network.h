@@ -4,6 +4,8 @@
  * Link with libnetwork_machine.a (x86-64 Linux), which `rt staticlib network_machine` writes to target/staticlib. It
  * needs no other library, keeps nothing between calls, allocates nothing, and calls nothing back.
  *
+ * Networks have versions 1 and 2, told by the first byte of the file; version 2 has advances. Every function takes both.
+ *
  * A network file passes as its first byte and its length. It is read, never written, and every call checks it from its
  * first byte to its last. The file, the configuration and the list are the caller's before, during and after a call. During
  * a call nobody else may write any of them, and nobody else may read the configuration. No two of them may share memory.
@@ -39,7 +41,7 @@ struct figrummy_configuration {
 /*
  * Each function answers 0 if the configuration was moved on, and otherwise the number of the refusal. On a refusal the
  * configuration is as it was, each byte of it. Refusals of the file come first, then in the order in which they stand here:
- *   24  version, a count or a length of the file is wrong
+ *   24  the version of the file is neither 1 nor 2, or a count or a length is wrong
  *   25  a field of the file is out of range; of 24 and 25 the first from left to right. Then also: the file breaks a rule
  *   26  the configuration is not one of this network, or breaks a bound (step and wait)
  *   18  the list is not 1 to 16 numbers of edges, strictly ascending (step)

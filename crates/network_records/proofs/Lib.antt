@@ -2,4 +2,5 @@
 pub mod Edges
 pub mod Fields
 pub mod Headers
+pub mod Ranges
 pub mod Records

@@ -99,7 +99,7 @@ module _ (rest : List ℕ) (k : Counts) (r : inRange k ≡ true) (n : Network) w
       located (ap (λ (m : Network). m .automata) (sym e)) (ap (λ (m : Network). m .clocks) (sym e)) (ap (λ (m : Network). m .variables) (sym e)) (ap (λ (m : Network). m .rendezvous) (sym e)) (a .1) (a .2 ∙ ap (λ (m : Network). got (m .locations) (a .1)) e)
 
 -- the same of a file that is accepted: its bytes after version and length have the locations
-numbered-at : {A : Type 0} (q : Read A) {a : A} → numbered q ≡ done a → (t : List ℕ) × (q ≡ got a t)
+pub numbered-at : {A : Type 0} (q : Read A) {a : A} → numbered q ≡ done a → (t : List ℕ) × (q ≡ got a t)
 unfolding numbered
 numbered-at (got b t) h = (t, cc)
 numbered-at (fault length-fault) h = refused-not h

@@ -10,3 +10,4 @@ pub mod Reading
 pub mod Sizes
 pub mod Skips
 pub mod Verdicts
+pub mod Versions

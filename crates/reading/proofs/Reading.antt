@@ -6,7 +6,7 @@ use mathlib.Core.List.{List, List·Memᴰ as Mem, List·Memᴰ·not-nil as not-n
 use Prim.Native.Nat.{ℕ, zero, suc}
 use native.Mathlib.Omega.{arith}
 use lib.ListN.{length}
-use Rattle.reading.specs.Reading.{Fault, Read, got, fault, Reader, yield, next, _>>=_, _>>_, such, many, end, framed, whole, recorded, mapped, skipped}
+use Rattle.reading.specs.Reading.{Fault, range-fault, Read, got, fault, Reader, yield, next, _>>=_, _>>_, such, many, end, framed, whole, recorded, mapped, skipped}
 
 -- a fault is no answer
 pub no-answer : {A X : Type 0} {f : Fault} {a : A} {t : List ℕ} → fault f ≡ got a t → X
@@ -121,3 +121,26 @@ mapped-yield f g r s = go (r s)
     go : (q : Read _) → mapped f (next q (λ a. yield (g a))) ≡ mapped (λ a. f (g a)) q
     go (got a t) = refl
     go (fault e) = refl
+
+-- readers whose parts give the same of all bytes
+pub bind-same : {A B : Type 0} (r q : Reader A) (k j : A → Reader B) → ((s : List ℕ) → r s ≡ q s) → ((a : A) (s : List ℕ) → k a s ≡ j a s)
+    → (s : List ℕ) → (r >>= k) s ≡ (q >>= j) s
+unfolding _>>=_ next
+bind-same r q k j h i s = ap (λ x. next x k) (h s) ∙ go (q s)
+  where
+    go : (x : Read _) → next x k ≡ next x j
+    go (got a t) = i a t
+    go (fault f) = refl
+
+pub such-same : (r : Reader ℕ) (p q : ℕ → Bool) → ((v : ℕ) → p v ≡ q v) → (s : List ℕ) → such r p s ≡ such r q s
+unfolding such _>>=_ next
+such-same r p q h s = go (r s)
+  where
+    go : (a : Read ℕ) → next a (λ x t. cond (p x) (got x t) (fault range-fault)) ≡ next a (λ x t. cond (q x) (got x t) (fault range-fault))
+    go (got x t) = ap (λ (b : Bool). cond b (got x t) (fault range-fault)) (h x)
+    go (fault f) = refl
+
+pub many-same : {A : Type 0} (r q : Reader A) → ((s : List ℕ) → r s ≡ q s) → (n : ℕ) (s : List ℕ) → many n r s ≡ many n q s
+unfolding many
+many-same r q h zero s = refl
+many-same r q h (suc n) s = bind-same r q _ _ h (λ x t. bind-same (many n r) (many n q) _ _ (many-same r q h n) (λ xs u. refl) t) s
