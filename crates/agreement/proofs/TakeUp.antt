@@ -11,10 +11,11 @@ use lib.ListN.{length, getD, replicate}
 use Rattle.lists.specs.Lists.{any}
 use Rattle.reading.specs.Answer.{Answer, done, refused}
 use Rattle.reading.specs.Answer as answer
-use Rattle.labels.specs.Update.{Update, formOf, writes, advance}
+use Rattle.updates.specs.Update.{Update, formOf, writes, advance}
 use Rattle.labels.specs.Label.{Label, assignsOnce}
-use Rattle.labels.specs.TakeUp.{OnlyBy, makes, TakenUp}
-use Rattle.labels.specs.declared.update.Advance.{Advance}
+use Rattle.updates.specs.TakeUp.{TakenUp}
+use Rattle.labels.specs.TakeUp.{OnlyBy, makes}
+use Rattle.updates.specs.declared.update.Advance.{Advance}
 use Rattle.steps.specs.Moves.{variablesAfter}
 use Rattle.chart_records.specs.Chart.{Chart, Transition, transitionAt}
 use Rattle.chart_records.specs.Rules.{chartOf}
@@ -25,7 +26,8 @@ use Rattle.agreement.specs.Agreement.{ChartConfiguration, NetworkConfigu
 use Rattle.agreement.specs.TakeUp.{chartCall, networkCall, afterCalls, madeBy, advancesMade, TakesUp, TakeUpOfCharts, TakeUpOfNetworks}
 use Rattle.lists.proofs.Lists.{all-at, any-at, any-map, getD-mem, map-at, map-by}
 use Rattle.reading.proofs.Answer.{unless-at, done-injective}
-use Rattle.labels.proofs.Advances.{Apart, taken-up-none, assign-length, updatesOf, made-by, labels-take-up, two-variables}
+use Rattle.updates.proofs.Advances.{Apart, taken-up-none, assign-length}
+use Rattle.labels.proofs.TakeUp.{updatesOf, made-by, labels-take-up, two-variables}
 use Rattle.labels.proofs.LabelRanges.{updates-known}
 use Rattle.chart_records.proofs.Ranges.{chart-at}
 use Rattle.chart_moves.proofs.Step.{Stepped, step-at}

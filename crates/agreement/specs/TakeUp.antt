@@ -7,8 +7,9 @@ use lib.IntN.{ℤ}
 use Rattle.lists.specs.Lists.{any}
 use Rattle.reading.specs.Answer.{Answer, done, refused}
 use Rattle.labels.specs.Label.{Label}
-use Rattle.labels.specs.TakeUp.{OnlyBy, makes, TakenUp}
-use Rattle.labels.specs.declared.update.Advance.{Advance}
+use Rattle.updates.specs.TakeUp.{TakenUp}
+use Rattle.labels.specs.TakeUp.{OnlyBy, makes}
+use Rattle.updates.specs.declared.update.Advance.{Advance}
 use Rattle.chart_records.specs.Chart.{Chart, transitionAt}
 use Rattle.chart_records.specs.Rules.{chartOf}
 use Rattle.chart_moves.specs.Machine as chart

@@ -8,7 +8,7 @@ use Prim.Native.Nat.{ℕ, _+_, _<_}
 use borrow.Author.Tests.{lt-ltb, not-true}
 use lib.Dec.{ltb}
 use Rattle.lists.specs.Lists.{all}
-use Rattle.labels.specs.Update.{Update, formOf, writes}
+use Rattle.updates.specs.Update.{Update, formOf, writes}
 use Rattle.labels.specs.Label.{limits, Label}
 use Rattle.clocks.specs.Clocks.{inLimit, zeroPast, zerosPast}
 use Rattle.lists.proofs.Bools.{parts, clash, fails, and-l, and-r, both, or-l, or-cases, same, not-yes}

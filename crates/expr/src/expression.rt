@@ -25,6 +25,9 @@ use reading::field::read_below;
 use reading::field::read_word;
 use reading::field::word_fault;
 
+// How deep an expression may nest, a constant or a variable being one level.
+pub const LEVELS: u8 = 8;
+
 fn byte_reached(b: ByteRead) -> Reached
     ensures { λ r. ⌜ r ≡ byteReached b ⌝ }
 {
@@ -197,4 +200,32 @@ pub fn evaluate(s: &[u8], levels: u8, variables: u8, values: &[i32; 16]) -> Valu
         }
         _ => ValueRead::Fault(Fault::Range),
     }
+}
+
+// The expression at a place.
+pub fn expression_at(s: &[u8], at: usize, variables: u8) -> Reached
+    ensures { λ r. ⌜ reached (now (s .entry)) tt r ≡ skipped (expression variables 8 (onward (now (s .entry)) at)) ⌝ }
+{
+    if s.len() < at {
+        return Reached::Fault(Fault::Length);
+    }
+    let q = read_expression(&s[at..], LEVELS, variables);
+    let Reached::At(n) = q else {
+        return q;
+    };
+    Reached::At(at + n)
+}
+
+// The value of the expression at a place.
+pub fn value_at(s: &[u8], at: usize, variables: u8, values: &[i32; 16]) -> ValueRead
+    ensures { λ r. ⌜ valueOf (now (s .entry)) r ≡ mapped (value (now (values .entry))) (expression variables 8 (onward (now (s .entry)) at)) ⌝ }
+{
+    if s.len() < at {
+        return ValueRead::Fault(Fault::Length);
+    }
+    let v = evaluate(&s[at..], LEVELS, variables, values);
+    let ValueRead::Value(z, n) = v else {
+        return v;
+    };
+    ValueRead::Value(z, at + n)
 }

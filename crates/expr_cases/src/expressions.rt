@@ -31,7 +31,7 @@ fn clocks(x: u32, y: u32) -> [u32; 8] {
 // The value of an expression where a is -7 and b is 8, and how many bytes it takes.
 pub fn show_value(s: &[u8]) {
     let values = variables(-7, 8);
-    let v = expression::evaluate(s, guard::LEVELS, 16, &values);
+    let v = expression::evaluate(s, expression::LEVELS, 16, &values);
     match v {
         ValueRead::Value(z, n) => {
             signed_number(z);
@@ -43,7 +43,7 @@ pub fn show_value(s: &[u8]) {
 
 // How many bytes an expression takes, as a file is checked.
 pub fn show_expression(s: &[u8]) {
-    let q = expression::read_expression(s, guard::LEVELS, 16);
+    let q = expression::read_expression(s, expression::LEVELS, 16);
     match q {
         Reached::At(n) => number(n as u64),
         Reached::Fault(f) => fault(f),

@@ -9,7 +9,7 @@ use Rattle.labels.specs.Guard as Guard
 use Rattle.expr.specs.Integer as Integer
 use Rattle.expr.specs.Relation as Relation
 use Rattle.labels.specs.Label as Label
-use Rattle.labels.specs.Update as Update
+use Rattle.updates.specs.Update as Update
 use Rattle.lists.specs.Lists as Lists
 use Rattle.steps.specs.Moves as Moves
 use Rattle.reading.specs.Places as Places

@@ -10,13 +10,13 @@ use lib.IntN.{ℤ}
 use lib.ListN.{set}
 use Rattle.lists.specs.Lists.{concat}
 use Rattle.reading.specs.Reading.{Read, got, fault, Reader, yield, _>>=_, byte, such, many}
-use Rattle.expr.specs.Expression.{Expr, expression, value}
-use Rattle.labels.specs.Guard.{levels, guard}
-use Rattle.labels.specs.Update.{Update, assignment, opens, ofForm, update, targets, updated, assign}
+use Rattle.expr.specs.Expression.{Expr, expression, levels, value}
+use Rattle.labels.specs.Guard.{guard}
+use Rattle.updates.specs.Update.{Update, assignment, opens, ofForm, update, targets, updated, assign}
 use Rattle.labels.specs.Label.{limits, Body, body}
 use Rattle.reading.proofs.Places.{bind-got, bind-fault}
 use Rattle.reading.proofs.Reading.{such-at, such-same, bind-same, many-same}
-use Rattle.labels.proofs.Updates.{form-assignment, form-fault}
+use Rattle.updates.proofs.Updates.{form-assignment, form-fault}
 
 -- the reader of assignments alone, and of a body with them
 unfoldable pub assignmentIn : ℕ → Reader Update

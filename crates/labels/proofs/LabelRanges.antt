@@ -9,13 +9,13 @@ use lib.Dec.{ltb, eqb}
 use lib.ListN.{length}
 use Rattle.reading.specs.Reading.{got, yield, next, byte, many}
 use Rattle.labels.specs.Guard.{guard}
-use Rattle.labels.specs.Update.{Update, update, formOf, writes}
+use Rattle.updates.specs.Update.{Update, update, formOf, writes}
 use Rattle.labels.specs.Label.{Limits, Label, body, channelFits, label, Body}
 use Rattle.reading.proofs.Places.{bind-got}
 use Rattle.reading.proofs.Reading.{next-at, bind-at, yield-at, yield-rest, such-at, many-at}
 use Rattle.reading.proofs.Lengths.{byte-consumes}
 use Rattle.reading.proofs.Printed.{such-front}
-use Rattle.labels.proofs.Updates.{update-known}
+use Rattle.updates.proofs.Updates.{update-known}
 
 -- the fields of a label, and its body, which is all of its bytes
 pub record LabelRange (l : Limits) (channels : ℕ) (x : Label) : Type 0 where

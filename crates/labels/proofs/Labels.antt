@@ -13,7 +13,7 @@ use Rattle.reading.specs.Reading.{got, byte, many}
 use Rattle.reading.specs.Places.{onward}
 use Rattle.expr.specs.Expression.{value}
 use Rattle.labels.specs.Guard.{guard}
-use Rattle.labels.specs.Update.{Update, update, targets}
+use Rattle.updates.specs.Update.{Update, update, targets}
 use Rattle.labels.specs.Label.{Limits, Label, Body, body, label, bodyOnce, assignsOnce, sends, receives}
 use Rattle.lists.proofs.Bools.{parts, or-else, not-no, both}
 use Rattle.lists.proofs.Once.{distinct-more}
@@ -22,7 +22,7 @@ use Rattle.reading.proofs.Places.{bind-got}
 use Rattle.reading.proofs.InFront.{InFront, yield-front, bind-front, many-front, byte-front}
 use Rattle.reading.proofs.Sizes.{byte-here}
 use Rattle.labels.proofs.Guards.{guard-front}
-use Rattle.labels.proofs.Updates.{update-front}
+use Rattle.updates.proofs.Updates.{update-front}
 use Rattle.reading.proofs.Reading.{bind-at, next-at, such-at, yield-at, yield-rest}
 
 -- rule 13 of a body, by what was counted and seen of its assignments

@@ -1,7 +1,6 @@
 -- Laws of the definitions of this crate.
-pub mod Advances
 pub mod FirstVersion
 pub mod Guards
 pub mod LabelRanges
 pub mod Labels
-pub mod Updates
+pub mod TakeUp

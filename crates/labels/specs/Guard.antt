@@ -6,7 +6,7 @@ use lib.IntN.{ℤ}
 use lib.Dec.{ltb}
 use lib.ListN.{getD}
 use Rattle.reading.specs.Reading.{Reader, yield, _>>=_, byte, byte4, such}
-use Rattle.expr.specs.Expression.{Expr, expression, value}
+use Rattle.expr.specs.Expression.{Expr, expression, levels, value}
 use Rattle.expr.specs.Relation.{lt, Relation, compareℕ, compareℤ, relations}
 
 pub data Guard : Type 0 where
@@ -24,9 +24,6 @@ clock clocks = such byte (λ c. ltb c clocks)
 -- a constant that a clock is compared with
 unfoldable pub ticks : Reader ℕ
 ticks = such byte4 (λ n. ltb n (2 ^ 31))
-
-abbrev pub levels : ℕ
-levels = 8
 
 unfoldable pub dataGuard : ℕ → Reader Guard
 dataGuard variables = do

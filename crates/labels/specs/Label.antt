@@ -8,7 +8,7 @@ use lib.ListN.{length}
 use Rattle.lists.specs.Lists.{all, distinct}
 use Rattle.reading.specs.Reading.{Reader, yield, next, _>>=_, byte, such, many}
 use Rattle.labels.specs.Guard.{Guard, guard, holds}
-use Rattle.labels.specs.Update.{Update, update, targets}
+use Rattle.updates.specs.Update.{Update, update, targets}
 
 -- what the labels of a file may hold: its version, and how many clocks and variables there are
 pub record Limits : Type 0 where

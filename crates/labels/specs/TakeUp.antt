@@ -1,38 +1,17 @@
--- The take-up: what the variables of an advance hold after it was made some times.
-use Prim.Native.Nat.{ℕ, zero, suc, _*_, _/_, _%_, _^_, _<_}
+-- Which labels make an advance, and that nothing else in them writes its variables.
 use mathlib.Core.Path.{_≡_}
-use mathlib.Core.Bool.{Bool, true, false, _&&_, _||_}
+use mathlib.Core.Bool.{Bool, true}
 use mathlib.Core.List.{List, List·Memᴰ as Mem}
-use lib.IntN.{ℤ, pos}
-use lib.Dec.{eqb}
-use lib.ListN.{getD}
-use Rattle.lists.specs.Lists.{any, elem}
-use Rattle.labels.specs.Update.{Update, assignment, advance, formOf, writes, updated}
+use Rattle.lists.specs.Lists.{any}
+use Rattle.updates.specs.Update.{Update, advance}
+use Rattle.updates.specs.TakeUp.{writesEither, isAdvance}
+use Rattle.updates.specs.declared.update.Advance.{Advance}
 use Rattle.labels.specs.Label.{Label}
-use Rattle.labels.specs.declared.update.Advance.{Advance}
 
 -- whatever in some labels writes either variable of the advance is this very advance
 abbrev pub OnlyBy : Advance → List Label → Type 0
-OnlyBy a ls =
-    (l : Label) → Mem l ls → (u : Update) → Mem u (l .body .updates)
-    → (elem (a .steps) (writes (formOf u)) || elem (a .remainder) (writes (formOf u))) ≡ true → u ≡ advance a
-
--- an update is an advance of these two variables
-unfoldable pub isAdvance : Advance → Update → Bool
-isAdvance a (assignment v e) = false
-isAdvance a (advance b) = eqb (a .steps) (b .steps) && eqb (a .remainder) (b .remainder)
+OnlyBy a ls = (l : Label) → Mem l ls → (u : Update) → Mem u (l .body .updates) → writesEither a u ≡ true → u ≡ advance a
 
 -- a label makes the advance
 unfoldable pub makes : Advance → Label → Bool
 makes a l = any (isAdvance a) (l .body .updates)
-
--- the variables after n advances, one after the other: each reads what the one before it has left
-unfoldable pub advancedBy : ℕ → Advance → List ℤ → List ℤ
-advancedBy zero a variables = variables
-advancedBy (suc n) a variables = let vars = advancedBy n a variables in updated vars (advance a) vars
-
--- after k advances of p/q from zero the steps are the whole part of kp/q, while that is below 2,147,483,648, and the
--- remainder is its rest
-pub record TakenUp (a : Advance) (k : ℕ) (variables : List ℤ) : Type 0 where
-  pub whole : k * a .numerator / a .denominator < 2 ^ 31 → getD variables (a .steps) (pos 0) ≡ pos (k * a .numerator / a .denominator)
-  pub rest : getD variables (a .remainder) (pos 0) ≡ pos (k * a .numerator % a .denominator)

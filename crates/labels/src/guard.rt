@@ -16,37 +16,6 @@ use reading::field::TestRead;
 use reading::field::ValueRead;
 use reading::field::WordRead;
 
-// How deep an expression may nest, a constant or a variable being one level.
-pub const LEVELS: u8 = 8;
-
-// The expression at a place.
-pub fn expression_at(s: &[u8], at: usize, variables: u8) -> Reached
-    ensures { λ r. ⌜ reached (now (s .entry)) tt r ≡ skipped (expression variables 8 (onward (now (s .entry)) at)) ⌝ }
-{
-    if s.len() < at {
-        return Reached::Fault(Fault::Length);
-    }
-    let q = expression::read_expression(&s[at..], LEVELS, variables);
-    let Reached::At(n) = q else {
-        return q;
-    };
-    Reached::At(at + n)
-}
-
-// The value of the expression at a place.
-pub fn value_at(s: &[u8], at: usize, variables: u8, values: &[i32; 16]) -> ValueRead
-    ensures { λ r. ⌜ valueOf (now (s .entry)) r ≡ mapped (value (now (values .entry))) (expression variables 8 (onward (now (s .entry)) at)) ⌝ }
-{
-    if s.len() < at {
-        return ValueRead::Fault(Fault::Length);
-    }
-    let v = expression::evaluate(&s[at..], LEVELS, variables, values);
-    let ValueRead::Value(z, n) = v else {
-        return v;
-    };
-    ValueRead::Value(z, at + n)
-}
-
 // A constant that a clock is compared with.
 fn read_ticks(s: &[u8], at: usize) -> WordRead
     ensures { λ r. ⌜ wordOf (now (s .entry)) r ≡ ticks (onward (now (s .entry)) at) ⌝ }
@@ -101,11 +70,11 @@ fn read_data_guard(s: &[u8], at: usize, variables: u8) -> Reached
     let ByteRead::Value(_, at1) = k else {
         return Reached::Fault(field::byte_fault(k));
     };
-    let a = expression_at(s, at1, variables);
+    let a = expression::expression_at(s, at1, variables);
     let Reached::At(at2) = a else {
         return a;
     };
-    expression_at(s, at2, variables)
+    expression::expression_at(s, at2, variables)
 }
 
 // What follows the kind of a guard on one clock.
@@ -168,11 +137,11 @@ fn data_guard_holds(s: &[u8], at: usize, variables: u8, values: &[i32; 16]) -> T
     let ByteRead::Value(relation, at1) = k else {
         return TestRead::Fault(field::byte_fault(k));
     };
-    let v = value_at(s, at1, variables, values);
+    let v = expression::value_at(s, at1, variables, values);
     let ValueRead::Value(x, at2) = v else {
         return TestRead::Fault(field::value_fault(v));
     };
-    let w = value_at(s, at2, variables, values);
+    let w = expression::value_at(s, at2, variables, values);
     let ValueRead::Value(y, at3) = w else {
         return TestRead::Fault(field::value_fault(w));
     };

@@ -5,18 +5,18 @@ ghost use lib.Dec.{eqb};
 ghost use Rattle.lists.specs.Lists.{all, distinct};
 ghost use Rattle.reading.specs.Reading.{got, byte, such, many, mapped, skipped};
 ghost use Rattle.labels.specs.Guard.{guard, holds};
-ghost use Rattle.labels.specs.Update.{update, targets, assign};
+ghost use Rattle.updates.specs.Update.{update, targets, assign};
 ghost use Rattle.labels.specs.Label.{limits, bodyOnce, body, channelFits, label, heading};
 ghost use Rattle.reading.specs.Places.{onward, byteOf, testOf, reached};
 ghost use Rattle.labels.specs.Headings.{labelOf, labelFault};
 use crate::guard;
-use crate::update;
-use crate::update::FormRead;
 use reading::field;
 use reading::field::ByteRead;
 use reading::field::Fault;
 use reading::field::Reached;
 use reading::field::TestRead;
+use updates::update;
+use updates::update::FormRead;
 
 // So many guards from a place on, as a file is checked.
 fn read_guards(s: &[u8], at: usize, count: u8, clocks: u8, variables: u8) -> Reached

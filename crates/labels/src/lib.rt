@@ -1,4 +1,3 @@
-// Guards, updates, and the labels of transitions and edges that hold them.
+// Guards, and the labels of transitions and edges that hold them.
 pub mod guard;
 pub mod label;
-pub mod update;

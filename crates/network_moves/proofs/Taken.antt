@@ -6,8 +6,8 @@ use lib.IntN.{ℤ}
 use lib.ListN.{getD, set}
 use Rattle.lists.specs.Lists.{concat}
 use Rattle.clocks.specs.Clocks.{reset}
-use Rattle.labels.specs.Update.{assign}
-use Rattle.labels.proofs.Updates.{assign-append}
+use Rattle.updates.specs.Update.{assign}
+use Rattle.updates.proofs.Updates.{assign-append}
 use Rattle.steps.specs.Moves.{variablesAfter, clocksAfter}
 use Rattle.network_records.specs.Network.{Edge, Network, ownerOf, locationAt}
 use Rattle.network_moves.specs.Machine.{overwrite, move, write, after}

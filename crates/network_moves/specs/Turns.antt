@@ -5,7 +5,7 @@ use lib.IntN.{ℤ}
 use lib.ListN.{getD, set}
 use Rattle.lists.specs.Lists.{concat}
 use Rattle.clocks.specs.Clocks.{reset}
-use Rattle.labels.specs.Update.{assign}
+use Rattle.updates.specs.Update.{assign}
 use Rattle.steps.specs.Moves.{clocksAfter}
 use Rattle.network_records.specs.Network.{Edge, Network, ownerOf}
 use Rattle.network_moves.specs.Machine.{overwrite, move, write}

@@ -2,7 +2,7 @@
 ghost use mathlib.Core.Path.{_≡_};
 ghost use mathlib.Core.List.{map};
 ghost use lib.ListN.{getD, set};
-ghost use Rattle.labels.specs.Update.{assign};
+ghost use Rattle.updates.specs.Update.{assign};
 ghost use Rattle.network_records.specs.Network.{Network, edgeAt};
 ghost use Rattle.network_moves.specs.Choices.{Known};
 ghost use Rattle.network_moves.specs.Machine.{overwrite, after};

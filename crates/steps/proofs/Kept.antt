@@ -10,7 +10,7 @@ use lib.IntN.{ℤ}
 use lib.ListN.{length, getD, drop, length-drop}
 use lib.Seq.{getD-drop, drop-set-lt}
 use Rattle.lists.specs.Lists.{all, concat}
-use Rattle.labels.specs.Update.{Update, assignment, advance, formOf, writes, updated, assign}
+use Rattle.updates.specs.Update.{Update, assignment, advance, formOf, writes, updated, assign}
 use Rattle.labels.specs.Label.{Label, body}
 use Rattle.clocks.specs.Clocks.{clock-limit, reset, inLimit, zeroPast, keeps, isZero, zerosPast}
 use Rattle.steps.specs.Moves.{variablesAfter, clocksAfter}

@@ -14,7 +14,7 @@ use lib.IntN.{ℤ}
 use lib.ListN.{length, getD}
 use lib.Seq.{ext-getD}
 use Rattle.lists.specs.Lists.{has, any, keep, below, elem, ascending, distinct}
-use Rattle.labels.specs.Update.{Update, assign}
+use Rattle.updates.specs.Update.{Update, assign}
 use Rattle.labels.specs.Label.{Label, sends, receives}
 use Rattle.clocks.specs.Clocks.{reset}
 use Rattle.steps.specs.Moves.{allowed, senders, oneSends, maximal, variablesAfter, clocksAfter}

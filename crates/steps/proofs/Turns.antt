@@ -4,11 +4,11 @@ use mathlib.Core.List.{List, _∷_, map}
 use Prim.Native.Nat.{ℕ}
 use lib.IntN.{ℤ}
 use Rattle.lists.specs.Lists.{concat}
-use Rattle.labels.specs.Update.{assign}
+use Rattle.updates.specs.Update.{assign}
 use Rattle.labels.specs.Label.{Label}
 use Rattle.clocks.specs.Clocks.{reset}
 use Rattle.steps.specs.Moves.{clocksAfter}
-use Rattle.labels.proofs.Updates.{assign-append}
+use Rattle.updates.proofs.Updates.{assign-append}
 
 module _ {l rest : List ℕ} {m : ℕ} (f : ℕ → Label) (e : l ≡ m ∷ rest) where
   pub clocks-next : (cs : List ℕ) → clocksAfter (map f l) cs ≡ clocksAfter (map f rest) (reset (f m .resets) cs)

@@ -7,7 +7,7 @@ use lib.IntN.{ℤ}
 use lib.Dec.{leb, ltb, eqb}
 use lib.ListN.{length}
 use Rattle.lists.specs.Lists.{all, any, elem, below, keep, concat, ascending, distinct}
-use Rattle.labels.specs.Update.{assign}
+use Rattle.updates.specs.Update.{assign}
 use Rattle.labels.specs.Label.{Label, sends, receives}
 use Rattle.clocks.specs.Clocks.{reset}
 

@@ -6,7 +6,7 @@ use native.Mathlib.Omega.{arith}
 use lib.ListN.{length, drop, drop-of-length-le}
 use Rattle.steps.specs.Moves.{known, variablesAfter}
 use Rattle.lists.specs.Lists.{concat}
-use Rattle.labels.specs.Update.{assign}
+use Rattle.updates.specs.Update.{assign}
 use Rattle.lists.proofs.Parts.{drop-next}
 use Rattle.chart_records.specs.Chart.{Chart, transitionAt}
 use Rattle.chart_records.specs.Laid.{Laid}

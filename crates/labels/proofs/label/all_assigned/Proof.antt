@@ -4,11 +4,11 @@ use Prim.Native.Nat.{_-_}
 use lib.IntN.{ℤ}
 use borrow.Author.Needs.{needs}
 use Rattle.reading.specs.Reading.{got}
-use Rattle.labels.specs.Update.{Update, update, updated, assign}
+use Rattle.updates.specs.Update.{Update, update, updated, assign}
 use Rattle.reading.specs.Places.{onward, reached}
 use Rattle.reading.proofs.Places.{answered}
 use Rattle.reading.proofs.Reading.{no-answer, got-value, mapped-at, fault-at}
-use Rattle.labels.proofs.Updates.{assign-more}
+use Rattle.updates.proofs.Updates.{assign-more}
 use Rattle.reading.proofs.Many.{Going, going-none, going-more, going-stop, going-all}
 use Rattle.labels.proofs.label.all_assigned.Statement.{statement}
 use Rattle.labels.proofs.label.all_assigned.Tie as tie

@@ -1,6 +1,6 @@
 use mathlib.Core.Path.{sym, _∙_}
 use Rattle.reading.specs.Reading.{skipped}
-use Rattle.labels.specs.Update.{update}
+use Rattle.updates.specs.Update.{update}
 use Rattle.labels.specs.Label.{body}
 use Rattle.reading.specs.Places.{byteOf, reached}
 use Rattle.reading.proofs.Places.{bind-got, bind-fault, answered}

@@ -1,7 +1,7 @@
 use mathlib.Core.Path.{sym, ap, _∙_}
 use Rattle.reading.specs.Reading.{got, yield, skipped}
 use mathlib.Core.Bool.{Bool}
-use Rattle.labels.specs.Update.{update}
+use Rattle.updates.specs.Update.{update}
 use Rattle.labels.proofs.Labels.{body-once-by}
 use Rattle.labels.specs.Label.{body}
 use Rattle.reading.specs.Places.{onward, byteOf, testOf, reached, byteFault, reachedFault}

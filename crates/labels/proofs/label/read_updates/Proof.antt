@@ -5,13 +5,13 @@ use Prim.Native.Nat.{ℕ, _-_}
 use borrow.Author.Needs.{needs}
 use Rattle.lists.specs.Lists.{concat, elem, distinct}
 use Rattle.reading.specs.Reading.{got}
-use Rattle.labels.specs.Update.{Update, update, targets}
-use Rattle.labels.specs.Forms.{Noted, formRead, formFault}
+use Rattle.updates.specs.Update.{Update, update, targets}
+use Rattle.updates.specs.Forms.{Noted, formRead, formFault}
 use Rattle.reading.specs.Places.{onward}
 use Rattle.reading.proofs.Places.{handed-on, answered}
 use Rattle.reading.proofs.Reading.{mapped-got, mapped-fault, mapped-at, fault-at}
 use Rattle.reading.proofs.Many.{Going, going-none, going-more, going-stop, going-all}
-use Rattle.labels.proofs.Updates.{noted-none, noted-update}
+use Rattle.updates.proofs.Updates.{noted-none, noted-update}
 use Rattle.labels.proofs.label.read_updates.Statement.{statement}
 use Rattle.labels.proofs.label.read_updates.Tie as tie
 

@@ -1,0 +1,53 @@
+use borrow.Author.Needs.{needs}
+use mathlib.Core.Path.{sym, ap, _∙_}
+use Rattle.reading.specs.Places.{byteOf, byteFault}
+use Rattle.reading.proofs.Places.{handed-on, answered}
+use Rattle.updates.proofs.Updates.{form-advance, form-assignment, form-fault}
+use Rattle.updates.proofs.update.read_form.Statement.{statement}
+use Rattle.updates.proofs.update.read_form.Tie as tie
+
+read-first-requires : tie.Need-read-first-requires
+read-first-requires c κs = search needs
+
+enum-known-b : tie.Need-enum-known-b
+enum-known-b c = search needs
+
+enum-told : tie.Need-enum-told
+enum-told c = search needs
+
+byte-fault-requires : tie.Need-byte-fault-requires
+byte-fault-requires c κs = search needs
+
+returns : tie.Need-returns
+returns c =
+    let at-read-first = c .before .before .before in
+    let fails = answered (byteOf _) (at-read-first .read-first .ensures) (c .before .enum-told .given .1) in
+    handed-on byteFault (c .byte-fault .ensures) (c .before .enum-told .given .1) (form-fault _ _ _ fails)
+
+read-advance-requires : tie.Need-read-advance-requires
+read-advance-requires c κs = search needs
+
+returns-2 : tie.Need-returns-2
+returns-2 c =
+    let at-b = c .before .before .before in
+    let read-b = answered (byteOf _) (at-b .before .before .read-first .ensures) (at-b .b .given .1) in
+    c .read-advance .ensures ∙ sym (form-advance _ _ _ read-b (c .before .if1 .taken))
+
+returns-3 : tie.Need-returns-3
+returns-3 c =
+    let at-b = c .before .before in
+    let read-b = answered (byteOf _) (at-b .before .before .read-first .ensures) (at-b .b .given .1) in
+    sym (form-assignment _ _ _ read-b (c .if1 .left))
+
+pub read-form-spec : {M : Type 1} → statement M
+read-form-spec =
+    tie.close
+    (tie.spec
+    read-first-requires
+    enum-known-b
+    enum-told
+    byte-fault-requires
+    returns
+    read-advance-requires
+    returns-2
+    returns-3)

@@ -1,0 +1,123 @@
+use borrow.Author.Needs.{needs}
+use mathlib.Core.Path.{_≡_, sym, ap, _∙_, subst}
+use mathlib.Core.List.{List}
+use lib.IntN.{ℤ}
+use lib.ListN.{set}
+use Rattle.expr.proofs.Integers.{read-back}
+use Prim.Native.Nat.{ℕ}
+use Rattle.reading.specs.Reading.{Read, got}
+use Rattle.reading.specs.Places.{valueOf, valueFault, reached, onward}
+use Rattle.reading.proofs.Places.{handed-on, answered}
+use Rattle.reading.proofs.Reading.{mapped-got, mapped-fault, mapped-at, fault-at, got-by}
+use Rattle.updates.specs.Update.{form, updated}
+use Rattle.updates.specs.declared.update.Form.{Form}
+use Rattle.updates.specs.Forms.{formRead, formFault}
+use Rattle.updates.proofs.Updates.{update-fault, update-advance, update-assignment, assignment-fault, form-known}
+use Rattle.updates.proofs.update.updated_at.Statement.{statement}
+use Rattle.updates.proofs.update.updated_at.Tie as tie
+
+-- the form that was read
+abbrev at-from : tie.After-known-told → List ℕ
+at-from c = onward (c .before .before .before .before .before .args .s .now) (c .before .f .given .0 .1 .0)
+
+form-read : (c : tie.After-known-told) →
+    let a = c .before .before .before .before .before .args in
+    form (a .version) (a .variables) (onward (a .s .now) (a .at)) ≡ got (c .before .f .given .0 .0) (onward (a .s .now) (c .before .f .given .0 .1 .0))
+form-read c = answered (formRead _) (c .before .before .before .read-form .ensures) (c .before .f .given .1)
+
+read-form-requires : tie.Need-read-form-requires
+read-form-requires c κs = search needs
+
+enum-known-f : tie.Need-enum-known-f
+enum-known-f c = search needs
+
+enum-told : tie.Need-enum-told
+enum-told c = search needs
+
+form-fault-requires : tie.Need-form-fault-requires
+form-fault-requires c κs = search needs
+
+not-updated-requires : tie.Need-not-updated-requires
+not-updated-requires c κs = search needs
+
+returns : tie.Need-returns
+returns c =
+    let at-enum = c .before .before in
+    let fails = answered (formRead _) (at-enum .before .before .read-form .ensures) (at-enum .enum-told .given .1) in
+    ap (reached _ _) (c .not-updated .ensures)
+    ∙ handed-on formFault (c .before .form-fault .ensures) (at-enum .enum-told .given .1) (mapped-fault _ (update-fault _ _ _ fails))
+
+enum-known-form : tie.Need-enum-known-form
+enum-known-form c = search needs
+
+after-advance-requires : tie.Need-after-advance-requires
+after-advance-requires c κs = search needs
+
+enum-known-form-2 : tie.Need-enum-known-form-2
+enum-known-form-2 c = search needs
+
+value-from-requires : tie.Need-value-from-requires
+value-from-requires c κs = search needs
+
+enum-known-x : tie.Need-enum-known-x
+enum-known-x c = search needs
+
+enum-told-2 : tie.Need-enum-told-2
+enum-told-2 c = search needs
+
+value-fault-requires : tie.Need-value-fault-requires
+value-fault-requires c κs = search needs
+
+not-updated-requires-2 : tie.Need-not-updated-requires-2
+not-updated-requires-2 c κs = search needs
+
+returns-2 : tie.Need-returns-2
+returns-2 c =
+    let at-enum = c .before .before in
+    let at-value = at-enum .before .before in
+    let at-form = at-value .before .before in
+    let fails = answered (valueOf _) (at-value .value-from .ensures) (at-enum .enum-told2 .given .1) in
+    ap (reached _ _) (c .not-updated2 .ensures)
+    ∙ handed-on valueFault (c .before .value-fault .ensures) (at-enum .enum-told2 .given .1) (mapped-fault _ (assignment-fault _ _ _ (form-read (at-form .before .before)) (at-form .form2 .given .1) (fault-at _ _ fails)))
+
+stored-requires : tie.Need-stored-requires
+stored-requires c κs = search needs
+
+returns-3 : tie.Need-returns-3
+returns-3 c =
+    let at-form = c .before .before in
+    let known = form-known _ _ _ (form-read (at-form .before .before) ∙ ap (λ (f : Form). got f (at-from (at-form .before .before))) (at-form .form .given .1)) in
+    got-by (c .after-advance .ensures (known .2)) (mapped-got _ (update-advance _ _ _ (form-read (at-form .before .before)) (at-form .form .given .1)))
+
+returns-4 : tie.Need-returns-4
+unfolding updated
+returns-4 c =
+    let at-x = c .before .before in
+    let at-value = at-x .before .before in
+    let at-form = at-value .before .before in
+    let m = mapped-at _ _ (answered (valueOf _) (at-value .value-from .ensures) (at-x .x .given .1)) in
+    got-by (c .stored .ensures ∙ ap (λ (z : ℤ). set (at-form .before .before .before .before .before .before .before .args .new) (at-form .form2 .given .0 .0) z) (read-back (at-x .x .given .0 .0) (c .before .known-told4 .given .0 .1) ∙ sym (m .2)))
+    (mapped-got _ (update-assignment _ _ _ (form-read (at-form .before .before)) (at-form .form2 .given .1) (m .1)))
+
+pub updated-at-spec : {M : Type 1} → statement M
+updated-at-spec =
+    tie.close
+    (tie.spec
+    read-form-requires
+    enum-known-f
+    enum-told
+    form-fault-requires
+    not-updated-requires
+    returns
+    enum-known-form
+    after-advance-requires
+    enum-known-form-2
+    value-from-requires
+    enum-known-x
+    enum-told-2
+    value-fault-requires
+    not-updated-requires-2
+    returns-2
+    stored-requires
+    returns-3
+    returns-4)

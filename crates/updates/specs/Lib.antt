@@ -1,0 +1,4 @@
+-- The definitions of this crate.
+pub mod Forms
+pub mod TakeUp
+pub mod Update

@@ -1,0 +1,2 @@
+// Updates, which are assignments and advances.
+pub mod update;
