@@ -1,29 +1,25 @@
 -- Laws of rule 13's test, of the body of a label, and of labels.
 use mathlib.Core.Path.{_≡_, refl, sym, ap, ap₂, _∙_, subst}
-use mathlib.Core.Bool.{Bool, true, false, not, _&&_, _||_}
-use mathlib.Core.List.{List, [], _∷_, _++_, map-append}
-use Prim.Native.Nat.{ℕ, _+_, _<_}
+use mathlib.Core.Bool.{Bool, true, not, _&&_, _||_}
+use mathlib.Core.List.{List, [], _∷_, _++_}
+use Prim.Native.Nat.{ℕ, _+_}
 use native.Mathlib.Omega.{arith}
-use lib.IntN.{ℤ}
 use lib.Dec.{eqb}
-use lib.ListN.{length, getD, set}
-use borrow.Author.Tests.{eqb-true, eq-eqb, ltb-true}
-use Rattle.lists.specs.Lists.{elem, distinct}
+use lib.ListN.{length, getD}
+use borrow.Author.Tests.{eqb-true, eq-eqb}
+use Rattle.lists.specs.Lists.{distinct}
 use Rattle.reading.specs.Reading.{got, byte, many}
 use Rattle.reading.specs.Places.{onward}
-use Rattle.expr.specs.Expression.{value}
 use Rattle.labels.specs.Guard.{guard}
 use Rattle.updates.specs.Update.{Update, update, targets}
 use Rattle.labels.specs.Label.{Limits, Label, Body, body, label, bodyOnce, assignsOnce, sends, receives}
 use Rattle.lists.proofs.Bools.{parts, or-else, not-no, both}
-use Rattle.lists.proofs.Once.{distinct-more}
-use Rattle.lists.proofs.Lists.{seen-more}
 use Rattle.reading.proofs.Places.{bind-got}
 use Rattle.reading.proofs.InFront.{InFront, yield-front, bind-front, many-front, byte-front}
 use Rattle.reading.proofs.Sizes.{byte-here}
 use Rattle.labels.proofs.Guards.{guard-front}
 use Rattle.updates.proofs.Updates.{update-front}
-use Rattle.reading.proofs.Reading.{bind-at, next-at, such-at, yield-at, yield-rest}
+use Rattle.reading.proofs.Reading.{bind-at, next-at, yield-at, yield-rest}
 
 -- rule 13 of a body, by what was counted and seen of its assignments
 pub body-once-by :

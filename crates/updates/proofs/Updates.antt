@@ -5,11 +5,11 @@ use mathlib.Core.Bool.{Bool, true, false, cond, not, _&&_, _||_}
 use mathlib.Core.List.{List, [], _∷_, _++_, append-assoc, List·Memᴰ as Mem, List·Memᴰ·not-nil as not-nil, List·Memᴰ·cases-cons as cases-cons}
 use Prim.Native.Nat.{ℕ, _≤_, _<_}
 use lib.IntN.{ℤ}
-use lib.Dec.{leb, ltb, eqb}
-use lib.ListN.{length, getD, set, replicate, length-set, getD-replicate}
+use lib.Dec.{ltb, eqb}
+use lib.ListN.{getD, set, replicate, length-set, getD-replicate}
 use borrow.Author.Tests.{ltb-true, leb-true, ne-eqb}
 use Rattle.lists.specs.Lists.{elem, distinct}
-use Rattle.reading.specs.Reading.{Fault, got, fault, Reader, yield, byte, byte2, such}
+use Rattle.reading.specs.Reading.{Fault, got, fault, yield, byte, byte2, such}
 use Rattle.reading.specs.Version.{hasAdvances}
 use Rattle.updates.specs.Update.{Update, assignment, advance, opens, advanced, form, ofForm, update, formOf, writes, targets, updated, assign}
 use Rattle.updates.specs.Forms.{Noted}

@@ -1,7 +1,7 @@
 -- The take-up: what the variables of an advance hold after it was made some times.
 use Prim.Native.Nat.{ℕ, zero, suc, _*_, _/_, _%_, _^_, _<_}
 use mathlib.Core.Path.{_≡_}
-use mathlib.Core.Bool.{Bool, true, false, _&&_, _||_}
+use mathlib.Core.Bool.{Bool, false, _&&_, _||_}
 use mathlib.Core.List.{List}
 use lib.IntN.{ℤ, pos}
 use lib.Dec.{eqb}

@@ -4,10 +4,10 @@ use native.Mathlib.Omega.{arith}
 use native.Mathlib.Nat.{div-le-self}
 use Prim.Native.Nat.{_/_, _≤_, _<_, _^_}
 use mathlib.Core.Path.{_≡_, _∙_, sym, ap}
-use lib.IntN.{pos, negsuc}
-use lib.Signed.{mag, ltZ}
+use lib.IntN.{negsuc}
+use lib.Signed.{mag}
 use mir.Syntax.{w64}
-use mir.Val.{toZ, ofZ, SFits}
+use mir.Val.{toZ, ofZ}
 use mir.ValLaws.{toZ-ofZ, toZ-pos}
 use Rattle.expr.proofs.Integers.{complement-pos, floored-negative, floored-not-negative}
 use Rattle.expr.proofs.signed.floored.Statement.{statement}

@@ -1,12 +1,12 @@
 use borrow.Author.Needs.{needs}
 use native.Mathlib.Omega.{arith}
 use Prim.Native.Nat.{_^_}
-use mathlib.Core.Path.{_≡_, _∙_, ap}
+use mathlib.Core.Path.{_∙_, ap}
 use lib.IntN.{ℤ, pos, _+ℤ_}
 use mir.Syntax.{w64}
 use mir.ValLaws.{toZ-ofZ}
 use borrow.Author.Tests.{le-leb, lt-ltb}
-use Rattle.expr.specs.Integer.{isDivisor, floorMod}
+use Rattle.expr.specs.Integer.{floorMod}
 use Rattle.lists.proofs.Bools.{both, cond-yes}
 use Rattle.expr.proofs.Integers.{read-back}
 use Rattle.expr.proofs.signed.remainder_after.Statement.{statement}

@@ -3,7 +3,6 @@ use mathlib.Core.List.{List, []}
 use Prim.Native.Nat.{_-_}
 use lib.IntN.{ℤ}
 use borrow.Author.Needs.{needs}
-use Rattle.reading.specs.Reading.{got}
 use Rattle.updates.specs.Update.{Update, update, updated, assign}
 use Rattle.reading.specs.Places.{onward, reached}
 use Rattle.reading.proofs.Places.{answered}

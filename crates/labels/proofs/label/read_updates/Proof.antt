@@ -1,10 +1,8 @@
-use mathlib.Core.Path.{_≡_, refl, sym, subst}
-use mathlib.Core.Bool.{false}
-use mathlib.Core.List.{List, [], append-nil}
-use Prim.Native.Nat.{ℕ, _-_}
+use mathlib.Core.Path.{sym}
+use mathlib.Core.List.{List, []}
+use Prim.Native.Nat.{_-_}
 use borrow.Author.Needs.{needs}
-use Rattle.lists.specs.Lists.{concat, elem, distinct}
-use Rattle.reading.specs.Reading.{got}
+use Rattle.lists.specs.Lists.{concat}
 use Rattle.updates.specs.Update.{Update, update, targets}
 use Rattle.updates.specs.Forms.{Noted, formRead, formFault}
 use Rattle.reading.specs.Places.{onward}

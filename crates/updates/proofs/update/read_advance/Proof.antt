@@ -1,5 +1,5 @@
 use borrow.Author.Needs.{needs}
-use mathlib.Core.Path.{sym, ap, _∙_}
+use mathlib.Core.Path.{sym, _∙_}
 use Rattle.reading.specs.Reading.{yield}
 use Rattle.reading.specs.Places.{byteOf, byteFault, shortOf, shortFault}
 use Rattle.reading.proofs.Places.{handed-on, bind-got, bind-fault, answered}

@@ -1,5 +1,5 @@
 use borrow.Author.Needs.{needs}
-use mathlib.Core.Path.{sym, ap, _∙_}
+use mathlib.Core.Path.{sym, _∙_}
 use Rattle.reading.specs.Places.{byteOf, byteFault}
 use Rattle.reading.proofs.Places.{handed-on, answered}
 use Rattle.updates.proofs.Updates.{form-advance, form-assignment, form-fault}

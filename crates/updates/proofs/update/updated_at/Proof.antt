@@ -1,11 +1,11 @@
 use borrow.Author.Needs.{needs}
-use mathlib.Core.Path.{_≡_, sym, ap, _∙_, subst}
+use mathlib.Core.Path.{_≡_, sym, ap, _∙_}
 use mathlib.Core.List.{List}
 use lib.IntN.{ℤ}
 use lib.ListN.{set}
 use Rattle.expr.proofs.Integers.{read-back}
 use Prim.Native.Nat.{ℕ}
-use Rattle.reading.specs.Reading.{Read, got}
+use Rattle.reading.specs.Reading.{got}
 use Rattle.reading.specs.Places.{valueOf, valueFault, reached, onward}
 use Rattle.reading.proofs.Places.{handed-on, answered}
 use Rattle.reading.proofs.Reading.{mapped-got, mapped-fault, mapped-at, fault-at, got-by}
