@@ -6,6 +6,7 @@ ghost use mathlib.Core.Bool.{cond, _&&_};
 ghost use Prim.Native.Nat.{_≤_, _<_, _^_};
 ghost use lib.IntN.{pos, negsuc, natAbs, _+ℤ_, _-ℤ_, _*ℤ_};
 ghost use lib.Signed.{mag, ltZ, leZ};
+ghost use lib.Dec.{leb};
 ghost use lib.ListN.{getD};
 ghost use Rattle.expr.specs.Integer.{signed, wrap, isDivisor, floorDiv, floorMod};
 ghost use Rattle.expr.specs.Relation.{lt, relations, compareℕ, compareℤ};
@@ -156,7 +157,7 @@ fn floored(z: i64, d: u16) -> i64
 
 // The steps after an advance: the whole part is added, and the sum wraps. By a denominator of 0 they stay.
 pub fn steps_after(steps: i32, remainder: i32, numerator: u16, denominator: u16) -> i32
-    ensures { λ r. ⌜ (1 ≤ denominator → r ≡ wrap (steps +ℤ floorDiv (remainder +ℤ pos numerator) denominator)) ⌝ }
+    ensures { λ r. ⌜ r ≡ cond (leb 1 denominator) (wrap (steps +ℤ floorDiv (remainder +ℤ pos numerator) denominator)) steps ⌝ }
 {
     if denominator == 0 {
         return steps;
@@ -166,7 +167,7 @@ pub fn steps_after(steps: i32, remainder: i32, numerator: u16, denominator: u16)
 
 // The remainder after an advance: what the whole part leaves. By a denominator of 0 it is 0.
 pub fn remainder_after(remainder: i32, numerator: u16, denominator: u16) -> i32
-    ensures { λ r. ⌜ (1 ≤ denominator → r ≡ floorMod (remainder +ℤ pos numerator) denominator) ⌝ }
+    ensures { λ r. ⌜ r ≡ cond (leb 1 denominator) (floorMod (remainder +ℤ pos numerator) denominator) (pos 0) ⌝ }
 {
     rest(total(remainder, numerator), denominator as u32)
 }

@@ -2,7 +2,9 @@
 use borrow.Author.Needs.{needs}
 use native.Mathlib.Omega.{arith}
 use Prim.Native.Nat.{_<_, _^_}
-use mathlib.Core.Path.{_≡_, _∙_, ap}
+use mathlib.Core.Path.{_≡_, _∙_, sym, ap}
+use borrow.Author.Tests.{le-leb, lt-leb}
+use Rattle.lists.proofs.Bools.{cond-yes, cond-no}
 use lib.IntN.{ℤ, pos, _+ℤ_}
 use lib.Signed.{mag}
 use mir.Syntax.{w64}
@@ -14,7 +16,7 @@ use Rattle.expr.proofs.signed.steps_after.Statement.{statement}
 use Rattle.expr.proofs.signed.steps_after.Tie as tie
 
 returns : tie.Need-returns
-returns c h = absurd (omega (arith, c .if1 .taken))
+returns c = read-back _ (c .before .fits .steps .sfits) ∙ sym (cond-no _ _ (lt-leb 1 (c .before .args .denominator) (omega (arith, c .if1 .taken))))
 
 cast-wrap : tie.Need-cast-wrap
 cast-wrap c = cast-fits _ (c .before .fits .steps)
@@ -52,12 +54,13 @@ wrap-requires : tie.Need-wrap-requires
 wrap-requires c κs = search needs
 
 returns-2 : tie.Need-returns-2
-returns-2 c h =
+returns-2 c =
     let f = c .before in
     let start = f .before .before .before in
     read-back _ (c .wrap .ok) ∙ c .wrap .ensures
     ∙ rw (read-wide (start .args .steps) (start .fits .steps))
     (ap wrap (toZ-ofZ w64 _ (step-fits _ _ (start .fits .steps) (small f)) ∙ ap (λ (z : ℤ). start .args .steps +ℤ z) (whole f)))
+    ∙ sym (cond-yes _ _ (le-leb 1 (start .args .denominator) (omega (arith, f .before .before .if1 .left))))
 
 pub steps-after-spec : {M : Type 1} → statement M
 steps-after-spec =

@@ -1,5 +1,6 @@
 use borrow.Author.Needs.{needs}
-use native.Mathlib.Omega.{arith}
+use borrow.Author.Tests.{le-leb}
+use Rattle.lists.proofs.Bools.{cond-yes}
 use mathlib.Core.Path.{_≡_, ap, ap₂, _∙_}
 use mathlib.Core.List.{List}
 use lib.IntN.{ℤ, pos, _+ℤ_}
@@ -23,7 +24,8 @@ stepped c h =
     let x = c .before .before .value-of in
     let y = c .before .value-of2 in
     read-back _ (c .steps-after .ok)
-    ∙ c .steps-after .ensures h
+    ∙ c .steps-after .ensures
+    ∙ cond-yes _ _ (le-leb 1 (a .a .denominator) h)
     ∙ ap₂ (λ (x y : ℤ). wrap (x +ℤ floorDiv (y +ℤ pos (a .a .numerator)) (a .a .denominator)))
     (read-back _ (x .ok) ∙ x .ensures) (read-back _ (y .ok) ∙ y .ensures)
 
@@ -36,7 +38,8 @@ remained c h =
     let a = c .before .before .before .before .before .args in
     let y = c .before .before .before .value-of2 in
     read-back _ (c .remainder-after .ok)
-    ∙ c .remainder-after .ensures (omega (arith, h))
+    ∙ c .remainder-after .ensures
+    ∙ cond-yes _ _ (le-leb 1 (a .a .denominator) h)
     ∙ ap (λ (y : ℤ). floorMod (y +ℤ pos (a .a .numerator)) (a .a .denominator)) (read-back _ (y .ok) ∙ y .ensures)
 
 value-of-requires : tie.Need-value-of-requires
