@@ -120,7 +120,7 @@ pub fn read_expression(s: &[u8], levels: u8, variables: u8) -> Reached
 }
 
 // The value of a variable; 0 past those that the array has.
-fn variable_value(i: u8, values: [i32; 16]) -> i32
+pub fn variable_value(i: u8, values: [i32; 16]) -> i32
     ensures { λ r. ⌜ r ≡ getD values i (pos 0) ⌝ }
 {
     if i < 16 { values[i as usize] } else { 0 }

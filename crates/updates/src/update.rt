@@ -1,8 +1,7 @@
 // Updates, which are assignments and advances: read as a file is checked, and carried out on variables.
 ghost use mathlib.Core.Path.{_≡_};
 ghost use mathlib.Core.List.{[], _∷_, _++_};
-ghost use lib.ListN.{set, getD};
-ghost use lib.IntN.{pos};
+ghost use lib.ListN.{set};
 ghost use Prim.Native.Nat.{_≤_};
 ghost use Rattle.reading.specs.Reading.{byte, byte2, such, mapped};
 ghost use Rattle.reading.specs.Places.{onward, byteOf, shortOf, valueOf, reached};
@@ -193,20 +192,12 @@ fn stored(values: [i32; 16], variable: u8, z: i32) -> [i32; 16]
     next
 }
 
-// The value of a variable. One that is not there has 0.
-fn value_of(values: [i32; 16], variable: u8) -> i32
-    ensures { λ r. ⌜ r ≡ getD values variable (pos 0) ⌝ }
-{
-    let i = variable as usize;
-    if i < 16 { values[i] } else { 0 }
-}
-
 // The variables after an advance, which reads `old`.
 fn after_advance(a: Advance, old: [i32; 16], new: [i32; 16]) -> [i32; 16]
     ensures { λ r. ⌜ (1 ≤ a .denominator → r ≡ updated old (advance a) new) ⌝ }
 {
-    let steps = value_of(old, a.steps);
-    let rest = value_of(old, a.remainder);
+    let steps = expression::variable_value(a.steps, old);
+    let rest = expression::variable_value(a.remainder, old);
     let next = stored(
         new,
         a.steps,

@@ -21,8 +21,8 @@ stepped : (c : tie.After-steps-after) →
 unfolding stepsAfter total
 stepped c h =
     let a = c .before .before .before .args in
-    let x = c .before .before .value-of in
-    let y = c .before .value-of2 in
+    let x = c .before .before .variable-value in
+    let y = c .before .variable-value2 in
     read-back _ (c .steps-after .ok)
     ∙ c .steps-after .ensures
     ∙ cond-yes _ _ (le-leb 1 (a .a .denominator) h)
@@ -36,17 +36,17 @@ remained : (c : tie.After-remainder-after) →
 unfolding remainderAfter total
 remained c h =
     let a = c .before .before .before .before .before .args in
-    let y = c .before .before .before .value-of2 in
+    let y = c .before .before .before .variable-value2 in
     read-back _ (c .remainder-after .ok)
     ∙ c .remainder-after .ensures
     ∙ cond-yes _ _ (le-leb 1 (a .a .denominator) h)
     ∙ ap (λ (y : ℤ). floorMod (y +ℤ pos (a .a .numerator)) (a .a .denominator)) (read-back _ (y .ok) ∙ y .ensures)
 
-value-of-requires : tie.Need-value-of-requires
-value-of-requires c κs = search needs
+variable-value-requires : tie.Need-variable-value-requires
+variable-value-requires c κs = search needs
 
-value-of-requires-2 : tie.Need-value-of-requires-2
-value-of-requires-2 c κs = search needs
+variable-value-requires-2 : tie.Need-variable-value-requires-2
+variable-value-requires-2 c κs = search needs
 
 steps-after-requires : tie.Need-steps-after-requires
 steps-after-requires c κs = search needs
@@ -74,8 +74,8 @@ pub after-advance-spec : {M : Type 1} → statement M
 after-advance-spec =
     tie.close
     (tie.spec
-    value-of-requires
-    value-of-requires-2
+    variable-value-requires
+    variable-value-requires-2
     steps-after-requires
     stored-requires
     remainder-after-requires
