@@ -1,21 +1,20 @@
 -- What it says that a chart keeps the rules.
-use mathlib.Core.Path.{_≡_, ap, _∙_}
-use mathlib.Core.Bool.{true, false, not, _&&_}
+use mathlib.Core.Path.{_≡_}
+use mathlib.Core.Bool.{true, false}
 use Prim.Native.Nat.{ℕ, _≤_, _<_}
 use native.Mathlib.Omega.{arith}
-use borrow.Author.Tests.{eqb-true, eqb-false, eq-eqb, ne-eqb, leb-true, not-true}
-use lib.Dec.{eqb}
+use borrow.Author.Tests.{eqb-true, eqb-false, eq-eqb, leb-true}
 use lib.ListN.{length}
 use Rattle.lists.specs.Lists.{all}
 use Rattle.reading.specs.Answer.{done}
 use Rattle.labels.specs.Label.{assignsOnce}
-use Rattle.lists.proofs.Bools.{fails, both, or-else, clash}
+use Rattle.lists.proofs.Bools.{or-else}
 use Rattle.lists.proofs.Lists.{all-at}
 use Rattle.reading.proofs.Answer.{unless-at, then-at, done-injective}
-use Rattle.chart_records.specs.Chart.{Chart, stateAt, parentOf, basic, sequential, parallel}
+use Rattle.chart_records.specs.Chart.{Chart, stateAt, basic, sequential, parallel}
 use Rattle.chart_records.specs.Tree.{sequentials}
-use Rattle.chart_records.specs.Rules.{few, noBasic, exitMarks, siblings, exits, entries, apart, stateRules, transitionRules, keepsRules}
-use Rattle.chart_records.proofs.Tree.{size, states-by, Child, Parents, parents-at}
+use Rattle.chart_records.specs.Rules.{few, someSequential, exitMarks, siblings, exits, entries, apart, stateRules, transitionRules, keepsRules}
+use Rattle.chart_records.proofs.Tree.{size, states-by, Parents, parents-at}
 use Rattle.chart_records.proofs.Entered.{EntryMarks, entry-marks-at}
 
 -- every kind is one of three: this is not a rule, but a field's range
@@ -30,7 +29,7 @@ kinds-left c k s h a b = eq-eqb (stateAt c s .kind) 1 (omega (arith, k s h, eqb-
 pub record Passed (c : Chart) : Type 0 where
   pub tree : Parents c
   pub at-most : length (sequentials c) ≤ 16
-  pub no-basic : (q s : ℕ) → Child c q s → parallel c q ≡ true → basic c s ≡ false
+  pub at-least : 1 ≤ length (sequentials c)
   pub entry-marks : EntryMarks c
   pub exit-marks : (s : ℕ) → s < size c → basic c s ≡ false → stateAt c s .exits ≡ 0
   pub transitions : all (siblings c) (c .transitions) ≡ true
@@ -39,12 +38,6 @@ pub record Passed (c : Chart) : Type 0 where
   pub assign-once : all (λ t. assignsOnce (t .label)) (c .transitions) ≡ true
   pub not-nested : apart c ≡ true
 
-no-basic-at : (c : Chart) → noBasic c ≡ true → (q s : ℕ) → Child c q s → parallel c q ≡ true → basic c s ≡ false
-unfolding noBasic
-no-basic-at c h q s k p =
-    let n = not-true (basic c s && parallel c (parentOf c s)) (or-else (eqb s 0) _ (all-at _ _ h (states-by c (k .known))) (ne-eqb s 0 (k .below-root))) in
-    fails (basic c s) (λ b. clash (both b (ap (parallel c) (k .parent-is) ∙ p)) n)
-
 exit-marks-at : (c : Chart) → exitMarks c ≡ true → (s : ℕ) → s < size c → basic c s ≡ false → stateAt c s .exits ≡ 0
 unfolding exitMarks
 exit-marks-at c h s k b = eqb-true _ 0 (or-else (basic c s) _ (all-at _ _ h (states-by c k)) b)
@@ -52,6 +45,10 @@ exit-marks-at c h s k b = eqb-true _ 0 (or-else (basic c s) _ (all-at _ _ h (sta
 few-at : (c : Chart) → few c ≡ true → length (sequentials c) ≤ 16
 unfolding few
 few-at c h = leb-true _ 16 h
+
+some-at : (c : Chart) → someSequential c ≡ true → 1 ≤ length (sequentials c)
+unfolding someSequential
+some-at c h = leb-true 1 _ h
 
 -- a chart that is not refused keeps them, and is answered as it is
 pub passed-at : (c : Chart) {d : Chart} → keepsRules c ≡ done d → Passed c × (c ≡ d)
@@ -72,7 +69,7 @@ passed-at c h =
       record {
         tree = parents-at c (r5 .0);
         at-most = few-at c (r6 .0);
-        no-basic = no-basic-at c (r7 .0);
+        at-least = some-at c (r7 .0);
         entry-marks = entry-marks-at c (r8 .0);
         exit-marks = exit-marks-at c (r9 .0);
         transitions = r10 .0;

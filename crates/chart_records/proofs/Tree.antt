@@ -10,7 +10,7 @@ use borrow.Author.Tests.{eqb-true, eqb-false, eq-eqb, ne-eqb, ltb-true, leb-true
 use lib.Dec.{ltb, eqb}
 use lib.ListN.{length, List·getD-eq-default}
 use Rattle.lists.specs.Lists.{any, below, elem}
-use Rattle.lists.proofs.Bools.{parts, both, or-l, or-r, or-else}
+use Rattle.lists.proofs.Bools.{parts, clash, both, or-l, or-r, or-else}
 use Rattle.lists.proofs.Lists.{all-at, elem-at, keep-at, keep-by, some-mem}
 use Rattle.lists.proofs.Below.{below-at, below-by}
 use Rattle.lists.proofs.Once.{Once, once-keep, once-below}
@@ -195,6 +195,13 @@ module _ (c : Chart) (tree : Parents c) where
         | yes e ↦ (s, record { known = h; below-root = d; parent-is = e }, under-refl c s)
         | no y ↦ let r = f v y in (r .0, r .1, under-up (r .0) s h d (r .2))
       ])
+
+  -- below a basic state there is nothing else
+  pub basic-under : (b s : ℕ) → s < size c → basic c b ≡ true → under c b s ≡ true → s ≡ b
+  basic-under b s h z u = elim (ℕ-discrete s b) [
+    | yes q ↦ q
+    | no d ↦ let r = child-towards b s h u d in let k = r .1 in clash z (ap (basic c) (sym (k .parent-is)) ∙ tree .composite (r .0) (k .known) (k .below-root))
+  ]
 
   -- children of one state share nothing below
   pub children-disjoint : {m r t : ℕ} (s : ℕ) → s < size c → Child c m r → Child c m t → under c r s ≡ true → under c t s ≡ true → r ≡ t

@@ -24,12 +24,9 @@ parents c = all (placed c) (states c)
 unfoldable pub few : Chart → Bool
 few c = leb (length (sequentials c)) 16
 
--- 7: no basic child of a parallel state
-abbrev pub noBasicChild : Chart → ℕ → Bool
-noBasicChild c s = eqb s 0 || not (basic c s && parallel c (parentOf c s))
-
-unfoldable pub noBasic : Chart → Bool
-noBasic c = all (noBasicChild c) (states c)
+-- 7: some state is sequential
+unfoldable pub someSequential : Chart → Bool
+someSequential c = leb 1 (length (sequentials c))
 
 -- how many children of m are marked with e
 unfoldable pub marked : Chart → ℕ → ℕ → ℕ
@@ -83,7 +80,7 @@ unfoldable pub stateRules : Chart → Answer (Unit {0})
 stateRules c =
     unless 5 (parents c)
     (unless 6 (few c)
-    (unless 7 (noBasic c)
+    (unless 7 (someSequential c)
     (unless 8 (entryMarks c)
     (unless 9 (exitMarks c)
     (done tt)))))

@@ -29,6 +29,22 @@ children c m = keep (isChild c m) (states c)
 unfoldable pub sequentials : Chart → List ℕ
 sequentials c = keep (sequential c) (states c)
 
+-- s is not sequential, nor is any state below it: with s always the same states are active
+unfoldable pub fixed : Chart → ℕ → Bool
+fixed c s = not (any (under c s) (sequentials c))
+
+-- a parallel state with no sequential state below it
+unfoldable pub plain : Chart → ℕ → Bool
+plain c s = parallel c s && fixed c s
+
+-- the children of a parallel state that are basic or plain
+unfoldable pub sensors : Chart → ℕ → List ℕ
+sensors c s = cond (parallel c s) (keep (fixed c) (children c s)) []
+
+-- all basic states at or below s are marked with the exit e
+unfoldable pub shares : Chart → ℕ → ℕ → Bool
+shares c e s = all (λ b. implies (basic c b && under c s b) (has (stateAt c b .exits) e)) (states c)
+
 -- s is one of the states that are entered with d by e: d itself where it is basic (e is 255), and else each state from d
 -- down that is marked with e, as are those between
 unfoldable pub entered : Chart → ℕ → ℕ → ℕ → Bool

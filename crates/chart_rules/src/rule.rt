@@ -4,7 +4,7 @@ ghost use lib.Dec.{leb};
 ghost use lib.ListN.{length};
 ghost use Rattle.chart_records.specs.Chart.{Chart};
 ghost use Rattle.chart_records.specs.Tree.{isChild, children, sequentials};
-ghost use Rattle.chart_records.specs.Rules.{parentFits, placed, parents, few, noBasicChild, noBasic, inherits, childrenMarked, entriesFit, entryMarks, exitsFit, exitMarks, stateRules};
+ghost use Rattle.chart_records.specs.Rules.{parentFits, placed, parents, few, someSequential, inherits, childrenMarked, entriesFit, entryMarks, exitsFit, exitMarks, stateRules};
 ghost use Rattle.reading.specs.Verdict.{verdictOf};
 ghost use Rattle.chart_records.specs.Layout.{Stated};
 use chart_records::header::Counts;
@@ -93,30 +93,11 @@ pub fn few(rest: &[u8], counts: Counts) -> bool
     count_sequentials(rest, counts) <= 16
 }
 
-fn no_basic_child(rest: &[u8], counts: Counts, s: u8) -> bool
-    ensures { λ r. ⌜ ((c : Chart) → Stated (now (rest .entry)) counts c → r ≡ noBasicChild c s) ⌝ }
-{
-    if s == 0 {
-        return true;
-    }
-    if kind_of(rest, counts, s) != 0 {
-        return true;
-    }
-    kind_of(rest, counts, parent_of(rest, counts, s)) != 2
-}
-
 // 7
-pub fn no_basic(rest: &[u8], counts: Counts) -> bool
-    ensures { λ r. ⌜ ((c : Chart) → Stated (now (rest .entry)) counts c → r ≡ noBasic c) ⌝ }
+pub fn some_sequential(rest: &[u8], counts: Counts) -> bool
+    ensures { λ r. ⌜ ((c : Chart) → Stated (now (rest .entry)) counts c → r ≡ someSequential c) ⌝ }
 {
-    let mut s = 0;
-    while s < counts.states {
-        if !no_basic_child(rest, counts, s) {
-            return false;
-        }
-        s += 1;
-    }
-    true
+    count_sequentials(rest, counts) >= 1
 }
 
 // A child of a parallel state has its parent's marks.
@@ -211,7 +192,7 @@ pub fn states_checked(rest: &[u8], counts: Counts) -> Verdict
     if !few(rest, counts) {
         return Verdict::Refused(6);
     }
-    if !no_basic(rest, counts) {
+    if !some_sequential(rest, counts) {
         return Verdict::Refused(7);
     }
     if !entry_marks(rest, counts) {

@@ -23,15 +23,15 @@ returns-2 c = λ k S. rw (
   sym (c .before .few .ensures k S) ∙ not-true _ (c .if2 .taken),
 )
 
-no-basic-requires : tie.Need-no-basic-requires
-no-basic-requires c κs = search needs
+some-sequential-requires : tie.Need-some-sequential-requires
+some-sequential-requires c κs = search needs
 
 returns-3 : tie.Need-returns-3
 unfolding stateRules unless
 returns-3 c = λ k S. rw (
   sym (c .before .before .before .before .before .parents .ensures k S) ∙ not-false _ (c .before .before .before .before .if1 .left),
   sym (c .before .before .before .few .ensures k S) ∙ not-false _ (c .before .before .if2 .left),
-  sym (c .before .no-basic .ensures k S) ∙ not-true _ (c .if3 .taken),
+  sym (c .before .some-sequential .ensures k S) ∙ not-true _ (c .if3 .taken),
 )
 
 entry-marks-requires : tie.Need-entry-marks-requires
@@ -42,7 +42,7 @@ unfolding stateRules unless
 returns-4 c = λ k S. rw (
   sym (c .before .before .before .before .before .before .before .parents .ensures k S) ∙ not-false _ (c .before .before .before .before .before .before .if1 .left),
   sym (c .before .before .before .before .before .few .ensures k S) ∙ not-false _ (c .before .before .before .before .if2 .left),
-  sym (c .before .before .before .no-basic .ensures k S) ∙ not-false _ (c .before .before .if3 .left),
+  sym (c .before .before .before .some-sequential .ensures k S) ∙ not-false _ (c .before .before .if3 .left),
   sym (c .before .entry-marks .ensures k S) ∙ not-true _ (c .if4 .taken),
 )
 
@@ -54,7 +54,7 @@ unfolding stateRules unless
 returns-5 c = λ k S. rw (
   sym (c .before .before .before .before .before .before .before .before .before .parents .ensures k S) ∙ not-false _ (c .before .before .before .before .before .before .before .before .if1 .left),
   sym (c .before .before .before .before .before .before .before .few .ensures k S) ∙ not-false _ (c .before .before .before .before .before .before .if2 .left),
-  sym (c .before .before .before .before .before .no-basic .ensures k S) ∙ not-false _ (c .before .before .before .before .if3 .left),
+  sym (c .before .before .before .before .before .some-sequential .ensures k S) ∙ not-false _ (c .before .before .before .before .if3 .left),
   sym (c .before .before .before .entry-marks .ensures k S) ∙ not-false _ (c .before .before .if4 .left),
   sym (c .before .exit-marks .ensures k S) ∙ not-true _ (c .if5 .taken),
 )
@@ -64,7 +64,7 @@ unfolding stateRules unless
 returns-6 c = λ k S. rw (
   sym (c .before .before .before .before .before .before .before .before .before .parents .ensures k S) ∙ not-false _ (c .before .before .before .before .before .before .before .before .if1 .left),
   sym (c .before .before .before .before .before .before .before .few .ensures k S) ∙ not-false _ (c .before .before .before .before .before .before .if2 .left),
-  sym (c .before .before .before .before .before .no-basic .ensures k S) ∙ not-false _ (c .before .before .before .before .if3 .left),
+  sym (c .before .before .before .before .before .some-sequential .ensures k S) ∙ not-false _ (c .before .before .before .before .if3 .left),
   sym (c .before .before .before .entry-marks .ensures k S) ∙ not-false _ (c .before .before .if4 .left),
   sym (c .before .exit-marks .ensures k S) ∙ not-false _ (c .if5 .left),
 )
@@ -77,7 +77,7 @@ states-checked-spec =
     returns
     few-requires
     returns-2
-    no-basic-requires
+    some-sequential-requires
     returns-3
     entry-marks-requires
     returns-4
