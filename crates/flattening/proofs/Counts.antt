@@ -1,22 +1,20 @@
 -- How many pairs, places and automata a chart has: what is counted is matched with the chart's transitions and states.
 use mathlib.Core.Path.{_≡_, sym, _∙_}
-use mathlib.Core.Bool.{false}
 use mathlib.Core.List.{List, _++_, map, List·Memᴰ as Mem, Memᴰ·append-left as append-left, Memᴰ·append-right as append-right}
 use Prim.Native.Nat.{ℕ, _+_, _-_, _≤_, _<_}
 use native.Mathlib.Omega.{arith}
 use lib.ListN.{length, length-append, length-map}
 use Rattle.lists.specs.Lists.{range, below}
-use Rattle.lists.proofs.Bools.{fails}
-use Rattle.lists.proofs.Lists.{map-by, mem-some}
+use Rattle.lists.proofs.Lists.{map-by, mem-some, some-mem}
 use Rattle.lists.proofs.Below.{range-by, below-by, length-range, length-below}
 use Rattle.lists.proofs.Once.{partners-length, within-length}
-use Rattle.chart_records.specs.Chart.{Chart, transitionAt, parentOf, basic, parallel}
+use Rattle.chart_records.specs.Chart.{Chart, transitionAt}
 use Rattle.chart_records.specs.Tree.{sequentials}
-use Rattle.chart_records.proofs.Tree.{size, own-child}
-use Rattle.chart_records.proofs.Rules.{Passed, kinds-left}
-use Rattle.chart_records.proofs.Ranges.{Ranges, kinds-of}
+use Rattle.chart_records.proofs.Tree.{size}
+use Rattle.chart_records.proofs.Rules.{Passed}
+use Rattle.chart_records.proofs.Ranges.{Ranges}
 use Rattle.flattening.specs.Flatten.{Pair, Place, idle, child, pre, post, enterPairs, exitPairs, allPlaces, placeHome}
-use Rattle.flattening.proofs.Automata.{Region, sequentials-by}
+use Rattle.flattening.proofs.Automata.{sequentials-at, sequentials-by}
 use Rattle.flattening.proofs.Numbers.{IsPlace, idle-place, all-places-at, all-places-by, all-places-once}
 use Rattle.flattening.proofs.Channels.{enters-at, leaves-at, enter-pairs-at, enter-pairs-once, exit-pairs-at, exit-pairs-once, pre-enters}
 
@@ -68,19 +66,5 @@ module _ (c : Chart) (passed : Passed c) (ranges : Ranges c) where
   pub all-places-few : length (allPlaces c) ≤ 191
   all-places-few = omega (arith, within-length (allPlaces c) (candidates c) (all-places-once c) (λ p m. candidate c p (all-places-at c m)), candidates-length c, enter-pairs-few c, passed .at-most, ranges .states-some, ranges .states-few, ranges .transitions-few)
 
-  -- the last state is basic, and its parent sequential
-  pub some-region : (q : ℕ) × Region c q
-  some-region =
-      let s = size c - 1 in
-      let h : s < size c = omega (arith, ranges .states-some) in
-      let n : s ≡ 0 → ⊥ = λ e. omega (arith, ranges .states-some) in
-      let l = passed .tree .smaller s h n in
-      let leaf : basic c s ≡ false → ⊥ = λ b. let k = passed .tree .fertile s h b in omega (arith, k .1 .known, passed .tree .smaller (k .0) (k .1 .known) (k .1 .below-root), k .1 .parent-is) in
-      let flat : parallel c (parentOf c s) ≡ false = fails _ (λ e. leaf (passed .no-basic (parentOf c s) s (own-child c h n) e)) in
-      (parentOf c s, record { known = omega arith; is-sequential = kinds-left c (kinds-of ranges) (parentOf c s) (omega arith) (passed .tree .composite s h n) flat })
-
-  pub automata-some : 1 ≤ length (sequentials c)
-  automata-some = mem-some (sequentials-by c (some-region .1))
-
   pub all-places-some : 1 ≤ length (allPlaces c)
-  all-places-some = mem-some (all-places-by c (idle-place c (some-region .1) .is-place))
+  all-places-some = let r = some-mem (sequentials c) (passed .at-least) in mem-some (all-places-by c (idle-place c (sequentials-at c (r .1)) .is-place))

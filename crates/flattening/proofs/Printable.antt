@@ -42,7 +42,7 @@ use Rattle.flattening.proofs.Edges.{Tests, Leaves, edges-at}
 use Rattle.flattening.proofs.Sound.{sound-flatten}
 use Rattle.flattening.proofs.Files.{PrintableLocation, PrintableEdge, Printable, read-printed}
 use Rattle.flattening.proofs.Joins.{bounds-have}
-use Rattle.flattening.proofs.Counts.{enter-pairs-few, exit-pairs-few, all-places-few, automata-some, all-places-some}
+use Rattle.flattening.proofs.Counts.{enter-pairs-few, exit-pairs-few, all-places-few, all-places-some}
 
 -- locations
 flag : (b : Bool) → cond b 1 0 < 2
@@ -170,7 +170,7 @@ module _ (c : Chart) (passed : Passed c) (ranges : Ranges c) where
   unfolding flatten
   printable-flatten h = record {
     version-known = ranges .version-known;
-    automata-some = automata-some c passed ranges;
+    automata-some = passed .at-least;
     automata-few = passed .at-most;
     locations-some = omega (arith, locations-length c, all-places-some c passed ranges);
     locations-few = omega (arith, locations-length c, all-places-few c passed ranges);
