@@ -16,10 +16,11 @@ use Rattle.lists.proofs.Lists.{all-at, all-by, keep-at, keep-by, one-mem}
 use Rattle.lists.proofs.Columns.{past-at, past-by}
 use Rattle.lists.proofs.Once.{one-length, once-keep}
 use Rattle.chart_records.specs.Chart.{Chart, stateAt, states, parentOf, basic, sequential, parallel}
-use Rattle.chart_records.specs.Tree.{under, children}
+use Rattle.chart_records.specs.Tree.{under, children, fixed}
 use Rattle.chart_moves.specs.Machine.{isActive, isTree, boundsKept, completed}
 use Rattle.chart_moves.specs.declared.configuration.Configuration.{Configuration}
-use Rattle.chart_records.proofs.Tree.{size, states-at, states-by, Child, children-at, children-by, children-once, own-child, Parents, tree-induction, under-down, child-towards, root-under, under-refl, under-transitive, child-under, child-above}
+use Rattle.chart_records.proofs.Tree.{size, states-at, states-by, Child, children-at, children-by, children-once, own-child, Parents, tree-induction, parent-known, under-down, child-towards, root-under, under-refl, under-transitive, child-under, child-above}
+use Rattle.chart_records.proofs.Fixed.{fixed-below, fixed-parallel}
 
 -- the one child of q that passes a test
 pub record OneChild (c : Chart) (p : ℕ → Bool) (q : ℕ) : Type 0 where
@@ -114,6 +115,17 @@ module _ (c : Chart) (tree : Parents c) (p : ℕ → Bool) (active : IsTree c p)
   active-below q s o h u d a =
       let r = child-towards c tree q s h u d in
       subst (λ (x : ℕ). under c x s ≡ true) (o .alone (r .0) (r .1) (active-above (r .0) s h (r .2) a)) (r .2)
+
+  -- with a fixed state all that lies below it is active
+  pub active-fixed : ((s : ℕ) → s < size c → basic c s ≡ false → parallel c s ≡ false → sequential c s ≡ true)
+      → (m : ℕ) → fixed c m ≡ true → p m ≡ true → (s : ℕ) → s < size c → under c m s ≡ true → p s ≡ true
+  active-fixed kinds m f a = tree-induction c tree (λ s. under c m s ≡ true → p s ≡ true)
+      (λ u. subst (λ (x : ℕ). p x ≡ true) (root-under c m u) a)
+      (λ s h d g u. elim (ℕ-discrete s m) [
+        | yes e ↦ subst (λ (x : ℕ). p x ≡ true) (sym e) a
+        | no z ↦ let v = under-down c tree m s h z u .1 in
+            active .every (parentOf c s) s (own-child c h d) (fixed-parallel c tree kinds (parentOf c s) (parent-known c tree s h d) (fixed-below c tree m (parentOf c s) f v) (tree .composite s h d)) (g v)
+      ])
 
   -- below an active state an active state is basic
   pub active-basic : ((s : ℕ) → s < size c → basic c s ≡ false → parallel c s ≡ false → sequential c s ≡ true)

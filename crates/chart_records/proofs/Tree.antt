@@ -179,6 +179,10 @@ module _ (c : Chart) (tree : Parents c) where
       (λ u v. inl (subst (λ (x : ℕ). under c a x ≡ true) (sym (root-under c b v)) u))
       (λ s h d f u v. elim (ℕ-discrete s a) [ yes e ↦ inr (subst (λ (x : ℕ). under c b x ≡ true) e v) | no x ↦ elim (ℕ-discrete s b) [ yes e ↦ inl (subst (λ (x : ℕ). under c a x ≡ true) e u) | no y ↦ f (under-down a s h x u .1) (under-down b s h y v .1) ] ])
 
+  -- every state lies below the root
+  pub all-under-root : (s : ℕ) → s < size c → under c 0 s ≡ true
+  all-under-root = tree-induction (λ s. under c 0 s ≡ true) (under-refl c 0) (λ s h d u. under-up 0 s h d u)
+
   -- a child lies below its parent
   pub child-under : {m s : ℕ} → Child c m s → under c m s ≡ true
   child-under {m} {s} k = under-up m s (k .known) (k .below-root) (subst (λ (x : ℕ). under c m x ≡ true) (sym (k .parent-is)) (under-refl c m))

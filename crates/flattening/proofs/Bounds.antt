@@ -1,12 +1,12 @@
 -- Laws of bounds, over the eight clocks of a configuration. The main ones:
--- bounds-of-children: the active states of a tree keep their own bounds, just when the active child of every active
+-- bounds-of-children: the active states of a tree keep their bounds, just when the active child of every active
 --   sequential state keeps its joined ones
 -- bounds-pictured: so a configuration keeps its bounds, just when the places of its picture keep theirs
 -- keeps-pre, keeps-departure: the place before an entry, and the one where a transition departs to, keep their bounds, just
 --   when every state that is entered keeps its joined ones
 -- bounds-after: after a step the bounds are kept, just when the places where its transitions depart to keep theirs
 use mathlib.Core.Path.{_≡_, refl, sym, ap, _∙_, subst}
-use mathlib.Core.Bool.{Bool, true, false, cond, not, _&&_}
+use mathlib.Core.Bool.{Bool, true, false, cond, not, _&&_, and-true, and-assoc}
 use mathlib.Core.Logic.{⊎-elim, _≢_}
 use mathlib.Core.List.{List, [], _∷_, map, List·Memᴰ as Mem, List·Memᴰ·head as here, List·Memᴰ·tail as there}
 use Prim.Native.Nat.{ℕ, zero, suc, _+_, _≤_, _<_}
@@ -18,27 +18,29 @@ use lib.ListN.{length, getD}
 use Rattle.lists.specs.Lists.{all, keep, implies}
 use Rattle.clocks.specs.Clocks.{free, join, keeps}
 use Rattle.steps.specs.Moves.{clocksAfter}
-use Rattle.lists.proofs.Bools.{clash, decided, and-l, and-r, both, implies-at, implies-by, same}
-use Rattle.lists.proofs.Lists.{all-at, all-by, all-same, all-map, all-keep, keep-at, map-at, map-by, getD-mem}
+use Rattle.lists.proofs.Bools.{clash, decided, fails, and-l, and-r, both, implies-at, implies-by, same}
+use Rattle.lists.proofs.Lists.{all-at, all-by, all-same, all-map, all-keep, keep-at, map-at, map-by, getD-mem, some-mem}
 use Rattle.clocks.proofs.Clocks.{keeps-join}
 use Rattle.clocks.proofs.Rows.{ClockValues, IsRow, free-row, join-row, keeps-free}
 use Rattle.steps.proofs.Kept.{keeps-clocks-after, values-clocks-after}
-use Rattle.chart_records.specs.Chart.{Chart, Transition, transitionAt, states, parentOf, basic, sequential, parallel}
-use Rattle.chart_records.specs.Tree.{children, sequentials, entered}
+use Rattle.chart_records.specs.Chart.{Chart, Transition, stateAt, transitionAt, states, parentOf, sequential, parallel}
+use Rattle.chart_records.specs.Tree.{children, sequentials, fixed, sensors, entered}
 use Rattle.chart_moves.specs.Machine.{isActive, isTree, boundsKept, after}
 use Rattle.chart_moves.specs.declared.configuration.Configuration.{Configuration}
-use Rattle.chart_records.proofs.Tree.{size, states-at, states-by, Child, children-at, own-child, Parents, tree-induction, parent-known, child-above}
+use Rattle.chart_records.proofs.Tree.{size, states-at, states-by, Child, children-at, own-child, Parents, tree-induction, parent-known, child-above, all-under-root}
+use Rattle.chart_records.proofs.Fixed.{fixed-at, unfixed-composite, unfixed-child, sensors-at, sensors-by}
 use Rattle.chart_records.proofs.Entered.{allEntered, all-entered-at, all-entered-by, entered-alone, entered-below-root}
 use Rattle.chart_moves.proofs.Active.{OneChild, one-child-by, IsTree, tree-at, bounds-kept-at, bounds-kept-by}
 use Rattle.chart_records.proofs.Rules.{Passed, kinds-left}
 use Rattle.chart_records.proofs.Ranges.{Ranges, kinds-of}
 use Rattle.chart_moves.proofs.After.{after-clocks, after-cases, after-entered}
 use Rattle.chart_moves.proofs.Step.{Together, together-fires, together-tree}
-use Rattle.flattening.specs.Flatten.{Pair, Place, idle, child, pre, post, hasExit, hasEntry, places, own, carriedFrom, joined, joinAll, preBounds, arrival, arrivalBounds, boundsOf, departure}
+use Rattle.flattening.specs.Flatten.{Pair, Place, idle, child, pre, post, hasExit, hasEntry, places, joinOnto, joinAll, own, carriedFrom, joined, preBounds, arrival, arrivalBounds, boundsOf, departure}
 use Rattle.flattening.specs.Picture.{pictured}
 use Rattle.flattening.proofs.Automata.{sequentials-at, sequentials-by}
 use Rattle.flattening.proofs.Numbers.{places-at}
-use Rattle.flattening.proofs.Joins.{join-all-has, carried-has, entered-have, bounds-have}
+use Rattle.flattening.proofs.Joins.{join-onto-has, join-all-has, own-has, carried-has, entered-have, bounds-have}
+use Rattle.flattening.proofs.Own.{own-step}
 
 -- rows: the bounds of states and places have a bound for each of eight clocks
 
@@ -46,27 +48,34 @@ pub joinAll-row : (rows : List (List ℕ)) → ((r : List ℕ) → Mem r rows �
 joinAll-row = join-all-has IsRow free-row join-row
 
 -- to keep the join of some rows is to keep each
+keeps-joinOnto : (b : List ℕ) (rows : List (List ℕ)) (cs : List ℕ) → IsRow b → ((r : List ℕ) → Mem r rows → IsRow r) → keeps (joinOnto b rows) cs ≡ (all (λ r. keeps r cs) rows && keeps b cs)
+unfolding joinOnto all
+keeps-joinOnto b [] cs k f = refl
+keeps-joinOnto b (r ∷ rs) cs k f =
+    keeps-join r (joinOnto b rs) cs (f r (here refl) ∙ sym (join-onto-has IsRow free-row join-row b rs k (λ x m. f x (there m))))
+    ∙ ap (λ (z : Bool). keeps r cs && z) (keeps-joinOnto b rs cs k (λ x m. f x (there m)))
+    ∙ sym (and-assoc (keeps r cs) (all (λ r. keeps r cs) rs) (keeps b cs))
+
 pub keeps-joinAll : (rows : List (List ℕ)) (cs : List ℕ) → ClockValues cs → ((r : List ℕ) → Mem r rows → IsRow r) → keeps (joinAll rows) cs ≡ all (λ r. keeps r cs) rows
-unfolding joinAll all
-keeps-joinAll [] cs v f = keeps-free cs v
-keeps-joinAll (r ∷ rs) cs v f =
-    keeps-join r (joinAll rs) cs (f r (here refl) ∙ sym (joinAll-row rs (λ x m. f x (there m))))
-    ∙ ap (λ (b : Bool). keeps r cs && b) (keeps-joinAll rs cs v (λ x m. f x (there m)))
+unfolding joinAll
+keeps-joinAll rows cs v f = keeps-joinOnto free rows cs free-row f ∙ ap (λ (b : Bool). all (λ r. keeps r cs) rows && b) (keeps-free cs v) ∙ and-true (all (λ r. keeps r cs) rows)
 
 module _ (c : Chart) (ranges : Ranges c) where
+  bounds-long : (s : ℕ) → s < size c → IsRow (stateAt c s .bounds)
+  bounds-long s h = ranges .of-state s h .bounds-row .long
+
   pub own-row : (s : ℕ) → s < size c → IsRow (own c s)
-  unfolding own
-  own-row s h = ranges .of-state s h .bounds-row .long
+  own-row = own-has IsRow free-row join-row c ranges bounds-long
 
   pub carried-row : (n s : ℕ) → IsRow (carriedFrom n c s)
-  carried-row = carried-has IsRow free-row join-row c ranges own-row
+  carried-row = carried-has IsRow free-row join-row c ranges bounds-long
 
   entered-rows : (p : Pair) (r : List ℕ) → Mem r (map (joined c) (keep (entered c (p .state) (p .mark)) (states c))) → IsRow r
-  entered-rows = entered-have IsRow free-row join-row c ranges own-row
+  entered-rows = entered-have IsRow free-row join-row c ranges bounds-long
 
   -- of every place of an automaton
   pub places-row : (q : ℕ) (p : Place) → Mem p (places c q) → IsRow (boundsOf c p)
-  places-row q p m = bounds-have IsRow free-row join-row c ranges own-row p (places-at c q m .1)
+  places-row q p m = bounds-have IsRow free-row join-row c ranges bounds-long p (places-at c q m .1)
 
 -- what the children of a state carry of the bounds above them
 unfoldable pub carriedBy : Chart → ℕ → List ℕ
@@ -120,6 +129,20 @@ module _ (c : Chart) (passed : Passed c) (ranges : Ranges c) (cs : List ℕ) whe
   unfolding carriedBy
   same-rows s n h = own-row c ranges s h ∙ sym (carried-row c ranges (suc n) n)
 
+  -- to keep what is a state's own is to keep its bounds and what is its sensors' own
+  keeps-own : (s : ℕ) → s < size c → keeps (own c s) cs ≡ (all (λ r. keeps (own c r) cs) (sensors c s) && keeps (stateAt c s .bounds) cs)
+  keeps-own s h =
+      ap (λ (r : List ℕ). keeps r cs) (own-step c (passed .tree) s h)
+      ∙ keeps-joinOnto (stateAt c s .bounds) (map (own c) (sensors c s)) cs (bounds-long c ranges s h)
+      (λ r m. let k = map-at (own c) (sensors c s) m in subst IsRow (sym (k .2)) (own-row c ranges (k .0) (sensors-at c s (k .1) .1 .known)))
+      ∙ ap (λ (b : Bool). b && keeps (stateAt c s .bounds) cs) (all-map (λ r. keeps r cs) (own c) (sensors c s))
+
+  own-bounds : (s : ℕ) → s < size c → keeps (own c s) cs ≡ true → keeps (stateAt c s .bounds) cs ≡ true
+  own-bounds s h k = and-r (all (λ r. keeps (own c r) cs) (sensors c s)) _ (sym (keeps-own s h) ∙ k)
+
+  own-sensor : (s r : ℕ) → s < size c → Mem r (sensors c s) → keeps (own c s) cs ≡ true → keeps (own c r) cs ≡ true
+  own-sensor s r h m k = all-at _ (sensors c s) (and-l (all (λ r. keeps (own c r) cs) (sensors c s)) _ (sym (keeps-own s h) ∙ k)) m
+
   -- a state keeps its joined bounds just when it keeps its own and those that it carries
   pub keeps-joined : (s : ℕ) → s < size c → s ≢ 0 → keeps (joined c s) cs ≡ (keeps (own c s) cs && keeps (carriedBy c (parentOf c s)) cs)
   keeps-joined s h d = ap (λ (r : List ℕ). keeps r cs) (joined-is c (passed .tree) s h d) ∙ keeps-join (own c s) (carriedBy c (parentOf c s)) cs (same-rows s (parentOf c s) h)
@@ -129,7 +152,14 @@ module _ (c : Chart) (passed : Passed c) (ranges : Ranges c) (cs : List ℕ) whe
   keeps-carried s h d z = ap (λ (r : List ℕ). keeps r cs) (carried-parallel c (passed .tree) s h d z) ∙ keeps-join (own c s) (carriedBy c (parentOf c s)) cs (same-rows s (parentOf c s) h)
 
   module _ (values : ClockValues cs) (p : ℕ → Bool) (active : IsTree c p) where
-    -- where the active states keep their own bounds, they keep those that are carried
+    -- where the active states keep their bounds, they keep their own: the sensors of an active state are active
+    own-kept : ((s : ℕ) → s < size c → p s ≡ true → keeps (stateAt c s .bounds) cs ≡ true) → (n s : ℕ) → size c ≤ n + s → s < size c → p s ≡ true → keeps (own c s) cs ≡ true
+    own-kept f zero s l h a = absurd (omega arith)
+    own-kept f (suc n) s l h a = keeps-own s h ∙ both (all-by _ (sensors c s) (λ r m.
+        let k = sensors-at c s m in
+        own-kept f n r (omega (arith, child-above c (passed .tree) (k .1))) (k .1 .known) (active .every s r (k .1) (k .0) a))) (f s h a)
+
+    -- .. and then those that are carried
     module _ (keep-own : (s : ℕ) → s < size c → p s ≡ true → keeps (own c s) cs ≡ true) where
       active-carried : (s : ℕ) → s < size c → p s ≡ true → keeps (carriedBy c s) cs ≡ true
       active-carried = tree-induction c (passed .tree) (λ s. p s ≡ true → keeps (carriedBy c s) cs ≡ true)
@@ -144,57 +174,60 @@ module _ (c : Chart) (passed : Passed c) (ranges : Ranges c) (cs : List ℕ) whe
       child-carried : (q s : ℕ) → Child c q s → sequential c q ≡ true → p s ≡ true → keeps (carriedBy c q) cs ≡ true
       child-carried q s k z a = ap (λ (x : ℕ). keeps (carriedBy c x) cs) (sym (k .parent-is)) ∙ and-r (keeps (own c s) cs) _ (sym (keeps-joined s (k .known) (k .below-root)) ∙ keep-joined q s k z a)
 
-      root-composite : basic c 0 ≡ false
-      root-composite =
-          let l : 1 < size c = omega (arith, ranges .states-some) in
-          ap (basic c) (let e : 0 ≡ parentOf c 1 = omega (arith, passed .tree .smaller 1 l (omega arith)) in e) ∙ passed .tree .composite 1 l (omega arith)
-
-      carried-down : (n s : ℕ) → size c ≤ n + s → s < size c → p s ≡ true → keeps (carriedBy c s) cs ≡ true
-      carried-down zero s l h a = absurd (omega arith)
-      carried-down (suc n) s l h a = ⊎-elim
-          (λ b. elim (ℕ-discrete s 0) [
-            | yes e ↦ clash (ap (basic c) (sym e) ∙ b) root-composite
-            | no d ↦ ⊎-elim (λ z. clash b (passed .no-basic (parentOf c s) s (own-child c h d) z)) (λ z. keeps-none c cs values s d z) (decided (parallel c (parentOf c s)))
-          ])
-          (λ b. ⊎-elim
-          (λ z. let r = passed .tree .fertile s h b in
+      -- from a state that is not fixed on down to some active sequential state
+      carried-down : (n s : ℕ) → size c ≤ n + s → s < size c → fixed c s ≡ false → p s ≡ true → keeps (carriedBy c s) cs ≡ true
+      carried-down zero s l h f a = absurd (omega arith)
+      carried-down (suc n) s l h f a = ⊎-elim
+          (λ z. let r = unfixed-child c (passed .tree) s z f in
           let k = r .1 in
           let g = child-above c (passed .tree) k in
           ap (λ (x : ℕ). keeps (carriedBy c x) cs) (sym (k .parent-is))
-          ∙ and-r (keeps (own c (r .0)) cs) _ (sym (keeps-carried (r .0) (k .known) (k .below-root) (ap (parallel c) (k .parent-is) ∙ z)) ∙ carried-down n (r .0) (omega arith) (k .known) (active .every s (r .0) k z a)))
-          (λ z. let y = kinds-left c (kinds-of ranges) s h b z in let o = active .one s h y a in child-carried s (o .child) (o .is-child) y (o .passes))
-          (decided (parallel c s))) (decided (basic c s))
+          ∙ and-r (keeps (own c (r .0)) cs) _ (sym (keeps-carried (r .0) (k .known) (k .below-root) (ap (parallel c) (k .parent-is) ∙ z)) ∙ carried-down n (r .0) (omega arith) (k .known) (r .2) (active .every s (r .0) k z a)))
+          (λ z. let y = kinds-left c (kinds-of ranges) s h (unfixed-composite c (passed .tree) s f) z in let o = active .one s h y a in child-carried s (o .child) (o .is-child) y (o .passes))
+          (decided (parallel c s))
 
-      pub active-own : (s : ℕ) → s < size c → p s ≡ true → keeps (own c s) cs ≡ true
-      active-own s h a = elim (ℕ-discrete s 0) [
-        | yes e ↦ subst (λ (x : ℕ). keeps (own c x) cs ≡ true) (sym e) (ap (λ (r : List ℕ). keeps r cs) (sym (carried-root c)) ∙ carried-down (size c) 0 (omega arith) (omega arith) (active .root))
-        | no d ↦ ⊎-elim
-            (λ z. and-l (keeps (own c s) cs) _ (sym (keeps-carried s h d z) ∙ carried-down (size c) s (omega arith) h a))
-            (λ z. let y = kinds-left c (kinds-of ranges) (parentOf c s) (parent-known c (passed .tree) s h d) (passed .tree .composite s h d) z in
-            and-l (keeps (own c s) cs) _ (sym (keeps-joined s h d) ∙ keep-joined (parentOf c s) s (own-child c h d) y a))
-            (decided (parallel c (parentOf c s)))
-      ]
+      -- rule 7: some state below the root is sequential
+      root-unfixed : fixed c 0 ≡ false
+      root-unfixed =
+          let q = some-mem (sequentials c) (passed .at-least) in
+          let g = sequentials-at c (q .1) in
+          fails (fixed c 0) (λ f. clash (all-under-root c (passed .tree) (q .0) (g .known)) (fixed-at c 0 f (q .0) (g .known) (g .is-sequential)))
 
-    -- every active state keeps its own bounds, just when the active child of every active sequential state keeps its joined ones
-    pub bounds-of-children : all (λ s. implies (p s) (keeps (own c s) cs)) (states c) ≡ all (λ q. implies (p q) (keeps (joined c (activeChild c p q)) cs)) (sequentials c)
+      -- what is a state's own: by the state itself, or as a sensor of its parent
+      active-own : (s : ℕ) → s < size c → p s ≡ true → keeps (own c s) cs ≡ true
+      active-own = tree-induction c (passed .tree) (λ s. p s ≡ true → keeps (own c s) cs ≡ true)
+          (λ a. ap (λ (r : List ℕ). keeps r cs) (sym (carried-root c)) ∙ carried-down (size c) 0 (omega arith) (omega (arith, ranges .states-some)) root-unfixed a)
+          (λ s h d g a. let k = own-child c h d in
+          let l = parent-known c (passed .tree) s h d in
+          ⊎-elim
+          (λ z. ⊎-elim
+          (λ f. own-sensor (parentOf c s) s l (sensors-by c z k f) (g (active .up s h d a)))
+          (λ f. and-l (keeps (own c s) cs) _ (sym (keeps-carried s h d z) ∙ carried-down (size c) s (omega arith) h f a))
+          (decided (fixed c s)))
+          (λ z. let y = kinds-left c (kinds-of ranges) (parentOf c s) l (passed .tree .composite s h d) z in
+          and-l (keeps (own c s) cs) _ (sym (keeps-joined s h d) ∙ keep-joined (parentOf c s) s k y a))
+          (decided (parallel c (parentOf c s))))
+
+    -- every active state keeps its bounds, just when the active child of every active sequential state keeps its joined ones
+    pub bounds-of-children : all (λ s. implies (p s) (keeps (stateAt c s .bounds) cs)) (states c) ≡ all (λ q. implies (p q) (keeps (joined c (activeChild c p q)) cs)) (sequentials c)
     bounds-of-children = same _ _
         (λ h. all-by _ (sequentials c) (λ q m. implies-by (p q) _ (λ a.
         let g = sequentials-at c m in
         let o = active .one q (g .known) (g .is-sequential) a in
         ap (λ (x : ℕ). keeps (joined c x) cs) (active-child c p q o)
-        ∙ active-joined (λ s k b. implies-at (p s) _ (all-at _ (states c) h (states-by c k)) b) (o .child) (o .is-child .known) (o .is-child .below-root) (o .passes))))
-        (λ h. all-by _ (states c) (λ s m. implies-by (p s) _ (active-own (λ q s k z b.
+        ∙ active-joined (λ s k b. own-kept (λ s k b. implies-at (p s) _ (all-at _ (states c) h (states-by c k)) b) (size c) s (omega arith) k b) (o .child) (o .is-child .known) (o .is-child .below-root) (o .passes))))
+        (λ h. all-by _ (states c) (λ s m. implies-by (p s) _ (λ i. own-bounds s (states-at c m) (active-own (λ q s k z b.
         let l = parent-known c (passed .tree) s (k .known) (k .below-root) in
         let a = ap p (sym (k .parent-is)) ∙ active .up s (k .known) (k .below-root) b in
         let g : q < size c = omega (arith, k .parent-is) in
         let o = active .one q g z a in
         ap (λ (x : ℕ). keeps (joined c x) cs) (o .alone s k b ∙ sym (active-child c p q o))
-        ∙ implies-at (p q) _ (all-at _ (sequentials c) h (sequentials-by c (record { known = g; is-sequential = z }))) a) s (states-at c m))))
+        ∙ implies-at (p q) _ (all-at _ (sequentials c) h (sequentials-by c (record { known = g; is-sequential = z }))) a) s (states-at c m) i))))
 
 -- a configuration keeps its bounds, just when the places of its picture keep theirs
 pub bounds-pictured : (c : Chart) → Passed c → Ranges c → (σ : Configuration) → isTree c σ ≡ true → ClockValues (σ .clocks)
     → boundsKept c σ ≡ all (λ q. keeps (boundsOf c (pictured c σ q)) (σ .clocks)) (sequentials c)
-unfolding boundsKept own pictured boundsOf implies
+unfolding boundsKept pictured boundsOf implies
 bounds-pictured c passed ranges σ tree values =
     bounds-of-children c passed ranges (σ .clocks) values (isActive σ) (tree-at c σ tree)
     ∙ all-same _ _ (sequentials c) (λ q m. at-place q (isActive σ q))
@@ -266,29 +299,31 @@ module _ (c : Chart) (passed : Passed c) (ranges : Ranges c) where
     unfolding enters
     next-below-root m n s a = let f = together-fires c passed ranges σ ms together m n in entered-below-root c (passed .tree) (passed .entry-marks) _ (f .to .known) s (f .entry-is) (f .to .below-root) a
 
+    next-tree : IsTree c (isActive next)
+    next-tree = tree-at c next (together-tree c passed ranges σ ms tree together)
+
     -- what is entered is active then, and so keeps its joined bounds
     departure-kept : boundsKept c next ≡ true → (m : ℕ) → Mem m ms → keeps (boundsOf c (departure c m)) (next .clocks) ≡ true
-    unfolding own enters
+    unfolding enters
     departure-kept k m n = next-departure m n ∙ all-entered-by c _ _ (λ s. keeps (joined c s) (next .clocks)) (λ s h a.
-        active-joined c passed ranges (next .clocks) next-values (isActive next) (tree-at c next (together-tree c passed ranges σ ms tree together)) (bounds-kept-at c next k)
+        active-joined c passed ranges (next .clocks) next-values (isActive next) next-tree (λ s h b. own-kept c passed ranges (next .clocks) next-values (isActive next) next-tree (bounds-kept-at c next k) (size c) s (omega arith) h b)
         s h (next-below-root m n s a) (after-entered c σ _ (ranges .states-few) (map-by (transitionAt c) n) s h a))
 
     -- what is active then was active, and no reset breaks its bounds, or is entered
-    active-kept : boundsKept c σ ≡ true → all (λ m. keeps (boundsOf c (departure c m)) (next .clocks)) ms ≡ true → (s : ℕ) → s < size c → isActive next s ≡ true → keeps (own c s) (next .clocks) ≡ true
-    unfolding own enters
+    active-kept : boundsKept c σ ≡ true → all (λ m. keeps (boundsOf c (departure c m)) (next .clocks)) ms ≡ true → (s : ℕ) → s < size c → isActive next s ≡ true → keeps (stateAt c s .bounds) (next .clocks) ≡ true
+    unfolding enters
     active-kept kept k s h a = ⊎-elim
-        (λ b. subst (λ (cs : List ℕ). keeps (own c s) cs ≡ true) (sym (after-clocks c σ ms)) (keeps-clocks-after _ (own c s) (σ .clocks) (bounds-kept-at c σ kept s h b)))
+        (λ b. subst (λ (cs : List ℕ). keeps (stateAt c s .bounds) cs ≡ true) (sym (after-clocks c σ ms)) (keeps-clocks-after _ (stateAt c s .bounds) (σ .clocks) (bounds-kept-at c σ kept s h b)))
         (λ b. let r = map-at (transitionAt c) ms (b .1) in arrived (r .0) (r .1) (ap (λ (t : Transition). entered c (t .destination) (t .entry) s) (sym (r .2)) ∙ b .2))
         (after-cases c σ (map (transitionAt c) ms) (ranges .states-few) s a)
       where
-        arrived : (m : ℕ) → Mem m ms → enters m s ≡ true → keeps (own c s) (next .clocks) ≡ true
-        arrived m n b = and-l (keeps (own c s) (next .clocks)) _ (sym (keeps-joined c passed ranges (next .clocks) s h (next-below-root m n s b))
-            ∙ all-entered-at c _ _ (λ s. keeps (joined c s) (next .clocks)) (sym (next-departure m n) ∙ all-at _ ms k n) s h b)
+        arrived : (m : ℕ) → Mem m ms → enters m s ≡ true → keeps (stateAt c s .bounds) (next .clocks) ≡ true
+        arrived m n b = own-bounds c passed ranges (next .clocks) s h (and-l (keeps (own c s) (next .clocks)) _ (sym (keeps-joined c passed ranges (next .clocks) s h (next-below-root m n s b))
+            ∙ all-entered-at c _ _ (λ s. keeps (joined c s) (next .clocks)) (sym (next-departure m n) ∙ all-at _ ms k n) s h b))
 
     -- if the bounds were kept, they are kept then, just when those of the places are where the transitions depart to
     pub bounds-after : boundsKept c σ ≡ true
         → boundsKept c (after c (map (transitionAt c) ms) σ) ≡ all (λ m. keeps (boundsOf c (departure c m)) (clocksAfter (map (λ m. transitionAt c m .label) ms) (σ .clocks))) ms
-    unfolding own
     bounds-after kept =
         same _ _ (λ k. all-by _ ms (λ m n. departure-kept k m n)) (λ k. bounds-kept-by c next (active-kept kept k))
         ∙ ap (λ (cs : List ℕ). all (λ m. keeps (boundsOf c (departure c m)) cs) ms) (after-clocks c σ ms)

@@ -20,7 +20,7 @@ use Rattle.chart_records.proofs.Rules.{Passed}
 use Rattle.chart_records.proofs.Ranges.{Ranges}
 use Rattle.network_records.specs.Network.{Edge, Network, locationAt, edgeAt, ownerOf}
 use Rattle.flattening.specs.Flatten.{Pair, Place, idle, child, pre, post, samePlace, hasExit, hasEntry, transitions, places, allPlaces, number}
-use Rattle.flattening.specs.Flatten.{automaton, placeHome, alternatives, enterChannel, exitChannel, signalling, edge, ownEdge, arrival, departure}
+use Rattle.flattening.specs.Flatten.{automaton, placeHome, alternatives, enterChannel, exitChannel, signalling, edge, ownEdge, exitTested, arrival, departure}
 use Rattle.flattening.specs.Flatten.{bearing, bearingAll, heardExits, heardEntries, toPlace, fromPlace, flatten}
 use Rattle.flattening.proofs.Numbers.{IsPlace, PlaceOf, idle-place, child-place, same-place-at, same-place-by, places-at, places-by, all-places-at, all-places-by, automaton-of-place}
 use Rattle.flattening.proofs.Arrivals.{arrival-place, departure-place}
@@ -28,7 +28,7 @@ use Rattle.flattening.proofs.Arrivals.{arrival-place, departure-place}
 -- the exit that an edge bearing t tests, and the set of automata: an alternative, or none
 abbrev pub Tests : Chart → ℕ → ℕ → ℕ → Type 0
 Tests c t exit set =
-    ((hasExit c t ≡ true) × (exit ≡ transitionAt c t .exit) × Mem set (alternatives c (transitionAt c t .source) (transitionAt c t .exit)))
+    ((hasExit c t ≡ true) × (exit ≡ exitTested set (transitionAt c t .exit)) × Mem set (alternatives c (transitionAt c t .source) (transitionAt c t .exit)))
     ⊎ ((hasExit c t ≡ false) × (exit ≡ 255) × (set ≡ 0))
 
 -- e bears t, and goes from its source to r
@@ -74,8 +74,8 @@ bearing-at c t r {e} m = go (hasExit c t) refl m
     u : Transition
     u = transitionAt c t
 
-    go : (b : Bool) → hasExit c t ≡ b → Mem e (cond b (map (λ set. edge c (child (u .source)) r t (u .exit) set (u .label)) (alternatives c (u .source) (u .exit))) (edge c (child (u .source)) r t 255 0 (u .label) ∷ [])) → Bears c t r e
-    go true h k = let j = map-at _ (alternatives c (u .source) (u .exit)) k in record { exit = u .exit; set = j .0; tests = inl (h, refl, j .1); edge-is = j .2 }
+    go : (b : Bool) → hasExit c t ≡ b → Mem e (cond b (map (λ set. edge c (child (u .source)) r t (exitTested set (u .exit)) set (u .label)) (alternatives c (u .source) (u .exit))) (edge c (child (u .source)) r t 255 0 (u .label) ∷ [])) → Bears c t r e
+    go true h k = let j = map-at _ (alternatives c (u .source) (u .exit)) k in record { exit = exitTested (j .0) (u .exit); set = j .0; tests = inl (h, refl, j .1); edge-is = j .2 }
     go false h k = record { exit = 255; set = 0; tests = inr (h, refl, refl); edge-is = eq-of-singleton k }
 
 pub bearing-by : (c : Chart) (t : ℕ) (r : Place) {e : Edge} → Bears c t r e → Mem e (bearing c r t)

@@ -10,6 +10,7 @@ pub mod Order
 pub mod Flags
 pub mod Sound
 pub mod Joins
+pub mod Own
 pub mod Bounds
 pub mod Pictured
 pub mod Counts

@@ -19,7 +19,7 @@ use Rattle.chart_records.specs.Chart.{Chart, Transition, transitionAt, parentOf
 use Rattle.chart_records.specs.Tree.{children}
 use Rattle.network_records.specs.Network.{Edge, edgeAt, edgesAscend, key}
 use Rattle.flattening.specs.Flatten.{Pair, Place, idle, child, pre, post, samePlace, hasExit, transitions, places, allPlaces, number, placeHome}
-use Rattle.flattening.specs.Flatten.{alternatives, exitPairs, enterPairs, enterChannel, exitChannel, signalling, edge, ownEdge, departure, bearing}
+use Rattle.flattening.specs.Flatten.{alternatives, exitPairs, enterPairs, enterChannel, exitChannel, signalling, edge, ownEdge, exitTested, departure, bearing}
 use Rattle.flattening.specs.Flatten.{bearingAll, heardExits, heardEntries, toPlace, fromPlace, flatten}
 use Rattle.flattening.proofs.Sums.{sorted-ascending}
 use Rattle.flattening.proofs.Automata.{Region}
@@ -76,7 +76,7 @@ module _ (c : Chart) where
       u = transitionAt c t
 
       make : ℕ → Edge
-      make set = edge c (child (u .source)) r t (u .exit) set (u .label)
+      make set = edge c (child (u .source)) r t (exitTested set (u .exit)) set (u .label)
 
       go : (b : Bool) → Pairwise Less (cond b (map make (alternatives c (u .source) (u .exit))) (edge c (child (u .source)) r t 255 0 (u .label) ∷ []))
       go true = pairwise-map Less make (alternatives c (u .source) (u .exit)) (pairwise-by (λ x y. x < y) (λ x y. Less (make x) (make y)) (alternatives c (u .source) (u .exit)) (λ x y m n l. by-tested refl refl refl l)

@@ -4,9 +4,9 @@ use mathlib.Core.Bool.{Bool, true, false, cond}
 use mathlib.Core.Logic.{_⊎_, inl, inr, ⊎-elim}
 use Prim.Native.Nat.{ℕ}
 use native.Mathlib.Omega.{arith}
-use Rattle.lists.specs.Lists.{has}
 use Rattle.lists.proofs.Bools.{clash, decided, fails, and-l, and-r, both, same, cond-yes, cond-no}
-use Rattle.chart_records.specs.Chart.{Chart, stateAt, basic}
+use Rattle.chart_records.specs.Chart.{Chart}
+use Rattle.chart_records.specs.Tree.{fixed, shares}
 use Rattle.chart_moves.specs.Machine.{isActive, isTree}
 use Rattle.chart_moves.specs.declared.configuration.Configuration.{Configuration}
 use Rattle.chart_records.proofs.Tree.{Child}
@@ -64,10 +64,10 @@ module _ (c : Chart) (σ : Configuration) (tree : isTree c σ ≡ true) where
   at-exit-pictured {q} e g = ⊎-elim
       (λ h. ap (λ (p : Place). atExit c p e) (h .1) ∙ sym (fails (isAt c σ e q) (λ k. clash (is-at-ready c σ e q k .is-active) (h .0))))
       (λ h. ap (λ (p : Place). atExit c p e) (h .3) ∙ same _ _
-      (λ k. ready-is-at c σ e q (record { is-active = above h; child = h .0; is-child = h .1; child-active = h .2; child-basic = and-l (basic c (h .0)) _ k; child-marked = and-r (basic c (h .0)) _ k }))
+      (λ k. ready-is-at c σ e q (record { is-active = above h; child = h .0; is-child = h .1; child-active = h .2; child-fixed = and-l (fixed c (h .0)) _ k; child-shares = and-r (fixed c (h .0)) _ k }))
       (λ k. let r = is-at-ready c σ e q k in
       let s = one h (r .child) (r .is-child) (r .child-active) in
-      both (ap (basic c) (sym s) ∙ r .child-basic) (ap (λ (x : ℕ). has (stateAt c x .exits) e) (sym s) ∙ r .child-marked)))
+      both (ap (fixed c) (sym s) ∙ r .child-fixed) (ap (shares c e) (sym s) ∙ r .child-shares)))
       (pictured-cases g)
     where
       above : ((s : ℕ) × Child c q s × (isActive σ s ≡ true) × (pictured c σ q ≡ child s)) → isActive σ q ≡ true

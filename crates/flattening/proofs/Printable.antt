@@ -5,7 +5,7 @@ use mathlib.Core.Logic.{_⊎_, inl, inr, ⊎-elim}
 use mathlib.Core.List.{List, [], List·Memᴰ as Mem}
 use Prim.Native.Nat.{ℕ, _+_, _^_, _≤_, _<_}
 use native.Mathlib.Omega.{arith}
-use borrow.Author.Tests.{lt-ltb, leb-true, ne-eqb}
+use borrow.Author.Tests.{eqb-true, lt-ltb, leb-true, ne-eqb}
 use lib.Dec.{ltb, eqb}
 use lib.ListN.{length, getD}
 use lib.Pow.{pow-pos}
@@ -30,14 +30,14 @@ use Rattle.chart_records.proofs.Tree.{size}
 use Rattle.chart_records.proofs.Rules.{Passed, kinds-left}
 use Rattle.chart_records.proofs.Ranges.{Ranges, kinds-of, chart-at, chart-version}
 use Rattle.chart_rules.proofs.TransitionRules.{transition-mem}
-use Rattle.flattening.specs.Flatten.{Place, idle, child, pre, post, samePlace, hasExit, own, boundsOf, atExit, initialPlace, flagAt, writtenBy, valuesBy, placeHome, allPlaces, alternatives, onValues, signalling, edge, ownEdge, departure, urgentPlace, locationOf, flatten}
+use Rattle.flattening.specs.Flatten.{Place, idle, child, pre, post, samePlace, hasExit, boundsOf, atExit, initialPlace, flagAt, writtenBy, valuesBy, placeHome, allPlaces, alternatives, onValues, signalling, edge, ownEdge, exitTested, departure, urgentPlace, locationOf, flatten}
 use Rattle.flattening.specs.File.{edgeBytes, out2, networkBytes, flattenOf, fitted}
 use Rattle.flattening.proofs.Automata.{automaton-lt}
 use Rattle.flattening.proofs.Sums.{sorted-at}
 use Rattle.flattening.proofs.Alternatives.{drawn}
 use Rattle.flattening.proofs.Numbers.{IsPlace, idle-place, child-place, all-places-at, number-lt, locations-length}
 use Rattle.flattening.proofs.Channels.{enter-channel-known, exit-channel-known, heard-entries-at, heard-exits-at, pre-enters}
-use Rattle.flattening.proofs.Arrivals.{ends, source-composite, exit-lt, exit-pair, arrival-place, departure-place, source-place}
+use Rattle.flattening.proofs.Arrivals.{ends, exit-lt, exit-pair, arrival-place, departure-place, source-place}
 use Rattle.flattening.proofs.Edges.{Tests, Leaves, edges-at}
 use Rattle.flattening.proofs.Sound.{sound-flatten}
 use Rattle.flattening.proofs.Files.{PrintableLocation, PrintableEdge, Printable, read-printed}
@@ -58,7 +58,6 @@ urgent-flag (post t) = omega arith
 
 module _ (c : Chart) (ranges : Ranges c) where
   bounds-row : (p : Place) → IsPlace c p → Row (c .clocks) (boundsOf c p)
-  unfolding own
   bounds-row p k = bounds-have (Row (c .clocks)) (row-free (c .clocks) (ranges .clocks-few)) (row-join (c .clocks)) c ranges (λ s h. ranges .of-state s h .bounds-row) p (k .stands)
 
   location-fits : (p : Place) → IsPlace c p → PrintableLocation (length (sequentials c)) (c .clocks) (locationOf c p)
@@ -140,13 +139,22 @@ module _ (c : Chart) (passed : Passed c) (ranges : Ranges c) where
   pub alternative-lt : (t : ℕ) → t < length (c .transitions) → hasExit c t ≡ true → {x : ℕ} → Mem x (alternatives c (transitionAt c t .source) (transitionAt c t .exit)) → x < 2 ^ length (sequentials c)
   unfolding alternatives
   alternative-lt t h e {x} m =
-      let d = drawn c (passed .tree) (kinds-left c (kinds-of ranges)) (transitionAt c t .exit) (passed .no-basic) (size c) (transitionAt c t .source) x (ends c passed ranges t h .from .known) (source-composite c passed ranges t h e) (sorted-at _ m) in
+      let d = drawn c (passed .tree) (kinds-left c (kinds-of ranges)) (transitionAt c t .exit) (size c) (transitionAt c t .source) x (ends c passed ranges t h .from .known) (sorted-at _ m) in
       has-low-lt (length (sequentials c)) x (λ a k. let w = d .within a k in subst (λ (i : ℕ). i < length (sequentials c)) (w .2) (automaton-lt c (w .1)))
+
+  -- the exit that it is tested by is one of the chart's, or none with no automaton
+  exit-fits : (t : ℕ) → t < length (c .transitions) → hasExit c t ≡ true → (set : ℕ) → ((exitTested set (transitionAt c t .exit) < 8) ⊎ (exitTested set (transitionAt c t .exit) ≡ 255)) × (exitTested set (transitionAt c t .exit) ≡ 255 → set ≡ 0)
+  unfolding exitTested
+  exit-fits t h e set = go (eqb set 0) refl
+    where
+      go : (b : Bool) → eqb set 0 ≡ b → ((cond b 255 (transitionAt c t .exit) < 8) ⊎ (cond b 255 (transitionAt c t .exit) ≡ 255)) × (cond b 255 (transitionAt c t .exit) ≡ 255 → set ≡ 0)
+      go true z = (inr refl, λ _. eqb-true set 0 z)
+      go false z = let l = exit-lt c passed ranges t h e in (inl (omega (arith, ranges .exits-few)), λ k. absurd (omega (arith, ranges .exits-few)))
 
   -- the edges that bear a transition
   bearing-fits : (t : ℕ) → t < length (c .transitions) → (exit set : ℕ) → Tests c t exit set → Fits (edge c (child (transitionAt c t .source)) (departure c t) t exit set (transitionAt c t .label))
   bearing-fits t h exit set k = ⊎-elim
-      (λ j. let l = exit-lt c passed ranges t h (j .0) in fits (inl (omega (arith, j .1, ranges .exits-few))) (λ e. absurd (omega (arith, j .1, ranges .exits-few))) (alternative-lt t h (j .0) (j .2)))
+      (λ j. let f = exit-fits t h (j .0) set in fits (subst (λ (x : ℕ). (x < 8) ⊎ (x ≡ 255)) (sym (j .1)) (f .0)) (λ e. f .1 (sym (j .1) ∙ e)) (alternative-lt t h (j .0) (j .2)))
       (λ j. fits (inr (j .1)) (λ e. j .2) (subst (λ (x : ℕ). x < 2 ^ length (sequentials c)) (sym (j .2)) (pow-pos (length (sequentials c)))))
       k
     where

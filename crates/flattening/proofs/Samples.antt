@@ -39,8 +39,8 @@ unfolding
     Chart.states Chart.transition Chart.transitionAt chartMachine.activeAfter chartMachine.activeTransition chartMachine.after chartMachine.boundsKept
     chartMachine.completed chartMachine.isActive chartMachine.isConfiguration chartMachine.isTree chartMachine.start chartMachine.startOf
     chartMachine.step chartMachine.stepOf chartMachine.tested chartMachine.wait chartMachine.waitOf Rules.apart Rules.chartOf Rules.entries
-    Rules.entryMarks Rules.exitMarks Rules.exits Rules.few Rules.keepsRules Rules.marked Rules.noBasic Rules.parents Rules.siblings Rules.stateRules
-    Rules.transitionRules Tree.children Tree.entered Tree.path Tree.sequentials Tree.under Tree.upFrom networkMachine.activeEdge networkMachine.after
+    Rules.entryMarks Rules.exitMarks Rules.exits Rules.few Rules.keepsRules Rules.marked Rules.someSequential Rules.parents Rules.siblings Rules.stateRules
+    Rules.transitionRules Tree.children Tree.entered Tree.fixed Tree.path Tree.sensors Tree.sequentials Tree.shares Tree.under Tree.upFrom networkMachine.activeEdge networkMachine.after
     networkMachine.boundsKept networkMachine.flagsAgree networkMachine.isConfiguration networkMachine.move networkMachine.overwrite
     networkMachine.place networkMachine.start networkMachine.startOf networkMachine.step networkMachine.stepOf networkMachine.tested
     networkMachine.urgent networkMachine.write Network.countsOf Network.edge Network.edgeAt Network.edgesAscend Network.headed Network.initials
@@ -48,9 +48,9 @@ unfolding
     Network.records Network.sound Network.urgentAt File.contentBytes File.edgeBytes File.fitted File.flattenOf File.locationBytes File.networkBytes
     File.out2 File.out4 File.recordBytes Flatten.allPlaces Flatten.alternatives Flatten.arrival Flatten.arrivalBounds Flatten.atExit Flatten.automaton
     Flatten.bearing Flatten.bearingAll Flatten.boundsOf Flatten.carriedFrom Flatten.choicesFrom Flatten.departure Flatten.edge Flatten.enterChannel
-    Flatten.enterPairs Flatten.entersBy Flatten.exitChannel Flatten.exitPairs Flatten.flagAt Flatten.flatten Flatten.fromPlace Flatten.hasEntry
-    Flatten.hasExit Flatten.heardEntries Flatten.heardExits Flatten.initialPlace Flatten.insert Flatten.joinAll Flatten.joined Flatten.leavesBy
-    Flatten.locationOf Flatten.markedChild Flatten.marksBelow Flatten.number Flatten.onValues Flatten.own Flatten.ownEdge Flatten.pairs
+    Flatten.enterPairs Flatten.entersBy Flatten.exitChannel Flatten.exitPairs Flatten.exitTested Flatten.flagAt Flatten.flatten Flatten.fromPlace Flatten.hasEntry
+    Flatten.hasExit Flatten.heardEntries Flatten.heardExits Flatten.initialPlace Flatten.insert Flatten.joinAll Flatten.joinOnto Flatten.joined Flatten.leavesBy
+    Flatten.locationOf Flatten.markedChild Flatten.marksBelow Flatten.number Flatten.onValues Flatten.own Flatten.ownEdge Flatten.ownFrom Flatten.pairs
     Flatten.placeHome Flatten.places Flatten.preBounds Flatten.samePair Flatten.samePlace Flatten.signalling Flatten.sorted Flatten.sums
     Flatten.sumsOf Flatten.toPlace Flatten.transitions Flatten.urgentPlace Flatten.valuesBy Flatten.writtenBy
 samples-right = refl
