@@ -6,8 +6,8 @@ use mathlib.Core.Logic.{_⊎_, inl, inr, ⊎-elim}
 use mathlib.Core.List.{List·Memᴰ as Mem, Memᴰ·cast as cast}
 use Prim.Native.Nat.{ℕ, _+_, _≤_, _<_}
 use native.Mathlib.Omega.{arith}
-use native.Mathlib.Decide.{decLt}
-use borrow.Author.Tests.{eqb-true, ne-eqb, ltb-true, not-false}
+use native.Mathlib.Decide.{ℕ-discrete, decLt}
+use borrow.Author.Tests.{ne-eqb, ltb-true}
 use lib.Dec.{ltb}
 use lib.ListN.{length, getD}
 use Rattle.lists.specs.Lists.{has}
@@ -22,14 +22,14 @@ use Rattle.chart_records.proofs.Rules.{Passed}
 use Rattle.chart_records.proofs.Ranges.{Ranges}
 use Rattle.network_records.specs.Network.{Edge}
 use Rattle.network_moves.specs.Machine.{flagsAgree, activeEdge}
-use Rattle.flattening.specs.Flatten.{Place, idle, child, pre, post, samePlace, placeHome, hasExit, atExit, initialPlace, flagAt, onValues, alternatives, enterChannel, exitChannel, signalling, edge, ownEdge, departure, urgentPlace, flatten}
+use Rattle.flattening.specs.Flatten.{Place, idle, child, pre, post, samePlace, placeHome, hasExit, atExit, initialPlace, flagAt, onValues, alternatives, enterChannel, exitChannel, signalling, edge, exitTested, ownEdge, departure, urgentPlace, flatten}
 use Rattle.flattening.specs.Picture.{pictured, picture}
 use Rattle.flattening.proofs.Automata.{regionAt, region-at, automaton-of-region}
 use Rattle.flattening.proofs.Alternatives.{isAt, atSet, alternative-of-completed, completed-of-alternative}
 use Rattle.flattening.proofs.Numbers.{IsPlace, same-place-at, same-place-by}
 use Rattle.flattening.proofs.Channels.{enter-channel-ge, exit-channel-ge}
 use Rattle.flattening.proofs.Arrivals.{ends, source-composite, source-basic, exit-lt, source-place}
-use Rattle.flattening.proofs.Edges.{Bears, Leaves, edges-at, edges-by}
+use Rattle.flattening.proofs.Edges.{Bears, tested-some, tested-none, Leaves, edges-at, edges-by}
 use Rattle.flattening.proofs.Pictured.{pictured-not-urgent, pictured-child, pictured-fits, active-of-pictured, at-exit-pictured}
 use Rattle.flattening.proofs.Printable.{alternative-lt}
 use Rattle.agreement.specs.Agreement.{ChartConfiguration, NetworkConfiguration}
@@ -40,8 +40,11 @@ use Rattle.agreement.proofs.Standing.{picture-stands, flag-standing, ac
 abbrev pub testedBy : Chart → ChartConfiguration → ℕ → ℕ
 testedBy c σ t = cond (hasExit c t) (atSet c σ (transitionAt c t .source) (transitionAt c t .exit)) 0
 
+abbrev pub exitBy : Chart → ChartConfiguration → ℕ → ℕ
+exitBy c σ t = exitTested (testedBy c σ t) (transitionAt c t .exit)
+
 unfoldable pub carrier : Chart → ChartConfiguration → ℕ → Edge
-carrier c σ t = edge c (child (transitionAt c t .source)) (departure c t) t (transitionAt c t .exit) (testedBy c σ t) (transitionAt c t .label)
+carrier c σ t = edge c (child (transitionAt c t .source)) (departure c t) t (exitBy c σ t) (testedBy c σ t) (transitionAt c t .label)
 
 bears-label : (c : Chart) (t : ℕ) (r : Place) (e : Edge) → Bears c t r e → e .label ≡ transitionAt c t .label
 unfolding edge
@@ -90,6 +93,13 @@ module _ (c : Chart) (passed : Passed c) (ranges : Ranges c) where
     unfolding flagsAgree edge
     untested-agree p r t e l = below-all _ 16 (λ a j. implies-by (has 0 a) _ (λ i. clash i (has-zero a)))
 
+    tested-agree : (p r : Place) (t e x : ℕ) (l : Label) → e < 8 → ((a : ℕ) → has x a ≡ true → (a < length (sequentials c)) × (isAt c σ e (regionAt c a) ≡ true))
+        → flagsAgree (picture c σ) (edge c p r t (exitTested x e) x l) ≡ true
+    tested-agree p r t e x l small f = elim (ℕ-discrete x 0) [
+      | yes z ↦ ap (λ (y : ℕ). flagsAgree (picture c σ) (edge c p r t (exitTested x e) y l)) z ∙ untested-agree p r t (exitTested x e) l
+      | no d ↦ ap (λ (y : ℕ). flagsAgree (picture c σ) (edge c p r t y x l)) (tested-some x e d) ∙ flags-agree-by p r t e x l small f
+    ]
+
     -- an edge that leaves a place is active, just if the picture has its automaton there, its guards hold and its flags agree
     module _ (p : Place) (e : Edge) (k : IsPlace c p) (l : Leaves c p e) where
       active-is : activeEdge (flatten c) (picture c σ) e ≡ (samePlace (pictured c σ (placeHome c p)) p && (guardsHold (σ .variables) (σ .clocks) (e .label) && flagsAgree (picture c σ) e))
@@ -119,14 +129,15 @@ module _ (c : Chart) (passed : Passed c) (ranges : Ranges c) where
     unfolding activeTransition carrier hasExit
     bearing-active t e h b k = ⊎-elim
         (λ z.
-        let is : e ≡ bears exit (b .set) = b .edge-is ∙ ap (λ (x : ℕ). bears x (b .set)) (z .1) in
-        let r = completed-of-alternative c passed ranges σ tree source exit (source-composite c passed ranges t h (z .0)) active (b .set) (z .2) (λ a i.
+        let is : e ≡ bears (exitTested (b .set) exit) (b .set) = b .edge-is ∙ ap (λ (x : ℕ). bears x (b .set)) (z .1) in
+        let r = completed-of-alternative c passed ranges σ tree source exit active (b .set) (z .2) (λ a i.
+        let some = tested-some (b .set) exit (λ y. clash (ap (λ (w : ℕ). has w a) (sym y) ∙ i) (has-zero a)) in
         flags-agree-at (child source) (departure c t) t exit (b .set) label (omega (arith, exit-lt c passed ranges t h (z .0), ranges .exits-few))
-        (ap (flagsAgree (picture c σ)) (sym is) ∙ and-r (guardsHold (σ .variables) (σ .clocks) (e .label)) _ holds) a (alternative-known t h (z .0) (z .2) a i) i) in
-        (both active (both guards (or-r (basic c source) (r .0))), is ∙ ap (bears exit) (r .1 ∙ sym (cond-yes _ 0 (z .0)))))
+        (ap (flagsAgree (picture c σ)) (ap (λ (x : ℕ). bears x (b .set)) (sym some) ∙ sym is) ∙ and-r (guardsHold (σ .variables) (σ .clocks) (e .label)) _ holds) a (alternative-known t h (z .0) (z .2) a i) i) in
+        (both active (both guards (or-r (basic c source) (r .0))), is ∙ ap (λ (x : ℕ). bears (exitTested x exit) x) (r .1 ∙ sym (cond-yes _ 0 (z .0)))))
         (λ z. (
           both active (both guards (or-l _ (source-basic c passed ranges t h (z .0)))),
-          b .edge-is ∙ ap (λ (x : ℕ). bears x (b .set)) (z .1 ∙ sym (eqb-true exit 255 (not-false _ (z .0)))) ∙ ap (bears exit) (z .2 ∙ sym (cond-no _ 0 (z .0))),
+          b .edge-is ∙ ap (λ (x : ℕ). bears x (b .set)) (z .1 ∙ sym (tested-none (b .set) exit (z .2))) ∙ ap (λ (x : ℕ). bears (exitTested x exit) x) (z .2 ∙ sym (cond-no _ 0 (z .0))),
         ))
         (b .tests)
       where
@@ -173,11 +184,11 @@ module _ (c : Chart) (passed : Passed c) (ranges : Ranges c) where
       carrier-bears : Bears c t (departure c t) (carrier c σ t)
       unfolding carrier hasExit
       carrier-bears = record {
-        exit = transitionAt c t .exit;
+        exit = exitBy c σ t;
         set = testedBy c σ t;
         tests = ⊎-elim
-            (λ z. inl (z, refl, cast (cond-yes _ 0 z) (alternative-of-completed c passed ranges σ tree (transitionAt c t .source) (transitionAt c t .exit) (source-composite c passed ranges t h z) source-active (exit-completed z))))
-            (λ z. inr (z, eqb-true (transitionAt c t .exit) 255 (not-false _ z), cond-no _ 0 z))
+            (λ z. inl (z, refl, cast (cond-yes _ 0 z) (alternative-of-completed c passed ranges σ tree (transitionAt c t .source) (transitionAt c t .exit) source-active (exit-completed z))))
+            (λ z. inr (z, tested-none _ _ (cond-no _ 0 z), cond-no _ 0 z))
             (decided (hasExit c t));
         edge-is = refl;
       }
@@ -186,10 +197,12 @@ module _ (c : Chart) (passed : Passed c) (ranges : Ranges c) where
       unfolding carrier
       carrier-agrees = go (hasExit c t) refl
         where
-          go : (b : Bool) → hasExit c t ≡ b
-              → flagsAgree (picture c σ) (edge c (child (transitionAt c t .source)) (departure c t) t (transitionAt c t .exit) (cond b (atSet c σ (transitionAt c t .source) (transitionAt c t .exit)) 0) (transitionAt c t .label)) ≡ true
-          go true z = flags-agree-by _ _ t (transitionAt c t .exit) _ _ (omega (arith, exit-lt c passed ranges t h z, ranges .exits-few)) (at-set-has (transitionAt c t .source) (transitionAt c t .exit))
-          go false z = untested-agree _ _ t (transitionAt c t .exit) _
+          set : Bool → ℕ
+          set b = cond b (atSet c σ (transitionAt c t .source) (transitionAt c t .exit)) 0
+
+          go : (b : Bool) → hasExit c t ≡ b → flagsAgree (picture c σ) (edge c (child (transitionAt c t .source)) (departure c t) t (exitTested (set b) (transitionAt c t .exit)) (set b) (transitionAt c t .label)) ≡ true
+          go true z = tested-agree _ _ t (transitionAt c t .exit) _ _ (omega (arith, exit-lt c passed ranges t h z, ranges .exits-few)) (at-set-has (transitionAt c t .source) (transitionAt c t .exit))
+          go false z = untested-agree _ _ t _ _
 
       pub carrier-leaves : Leaves c (child (transitionAt c t .source)) (carrier c σ t)
       carrier-leaves = bears-leaves t (carrier c σ t) h carrier-bears

@@ -18,7 +18,7 @@ use Rattle.lists.proofs.Pairwise.{map-once}
 use Rattle.chart_records.specs.Chart.{Chart, transitionAt, parentOf, basic, home}
 use Rattle.chart_records.specs.Tree.{under}
 use Rattle.chart_moves.specs.Machine.{isActive, isTree, activeTransition, after}
-use Rattle.chart_records.proofs.Tree.{size, states-by, Child, known-below, under-refl, under-down, under-transitive, child-under, sequential-not-basic}
+use Rattle.chart_records.proofs.Tree.{size, states-by, Child, known-below, under-refl, under-down, under-transitive, child-under, basic-under, sequential-not-basic}
 use Rattle.chart_records.proofs.Entered.{entered-top, entered-under}
 use Rattle.chart_moves.proofs.Active.{tree-at, completed-at, active-above, active-basic}
 use Rattle.chart_records.proofs.Rules.{Passed, kinds-left}
@@ -28,7 +28,6 @@ use Rattle.chart_moves.proofs.Moved.{source-not-above, destination-not-above, d
 use Rattle.flattening.specs.Flatten.{Place, idle, child, pre, post, hasExit, hasEntry, arrival, departure, marksBelow}
 use Rattle.flattening.specs.Picture.{pictured}
 use Rattle.flattening.proofs.Automata.{Region}
-use Rattle.flattening.proofs.Alternatives.{basic-under}
 use Rattle.flattening.proofs.Numbers.{PlaceOf}
 use Rattle.flattening.proofs.Arrivals.{ends, source-basic, destination-basic, departure-place}
 use Rattle.flattening.proofs.Pictured.{pictured-idle, pictured-child, pictured-cases, pictured-fits}
@@ -91,7 +90,7 @@ home-cases c ts q = ⊎-elim
 module _ (c : Chart) (passed : Passed c) (ranges : Ranges c) where
   -- no sequential state is at or below a basic one
   pub none-below-basic : (b q : ℕ) → Region c q → basic c b ≡ true → under c b q ≡ true → ⊥
-  none-below-basic b q g z u = clash (ap (basic c) (basic-under c (passed .tree) (kinds-left c (kinds-of ranges)) b q (g .known) z u) ∙ z) (sequential-not-basic c q (g .is-sequential))
+  none-below-basic b q g z u = clash (ap (basic c) (basic-under c (passed .tree) b q (g .known) z u) ∙ z) (sequential-not-basic c q (g .is-sequential))
 
   module _ (σ : ChartConfiguration) (tree : isTree c σ ≡ true) (ts : List ℕ) (together : Together c σ ts) where
     one-home : (t u : ℕ) → Mem t ts → Mem u ts → home c u ≡ home c t → u ≡ t

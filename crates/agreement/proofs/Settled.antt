@@ -40,7 +40,7 @@ use Rattle.agreement.proofs.Relation.{standing, Related}
 use Rattle.agreement.proofs.Claims.{MoveIsStep, StepIsMove, OneMove}
 use Rattle.agreement.proofs.Standing.{picture-stands, bounds-standing, Takes, takes-by, after-standing}
 use Rattle.agreement.proofs.Accepted.{Move, Accepted, accepted-at, accepted-by}
-use Rattle.agreement.proofs.Bearing.{testedBy, carrier}
+use Rattle.agreement.proofs.Bearing.{testedBy, exitBy, carrier}
 use Rattle.agreement.proofs.Picture.{picture-configuration, picture-not-urgent}
 use Rattle.agreement.proofs.Carrying.{Carries, carries-label, carries-owner, carries-active, carries-one, move-carries, carried-ascends, carried-matches, carried-allowed, carriers, carriers-ascend, carried-carriers, carriers-match}
 use Rattle.agreement.proofs.Departing.{afterStep, departed, departing, departing-owes, departed-at, departed-other, departed-fits, departed-placed, home-cases}
@@ -61,8 +61,8 @@ module _ (c : Chart) (passed : Passed c) (ranges : Ranges c) (σ : ChartConfigur
         takes : (t : ℕ) → Mem t ts → chart.activeTransition c σ (transitionAt c t) ≡ true → e ≡ carrier c σ t → Takes c (pictured c σ) (departed c σ ts) e
         takes t n a h =
             let k = ends c passed ranges t (together .each-known t n) in
-            takes-by c (pictured c σ) (departed c σ ts) (pictured-fits c σ tree) (home c t) (k .region) t (transitionAt c t .exit) (testedBy c σ t) (transitionAt c t .label)
-            (h ∙ sym (ap₂ (λ (p g : Place). edge c p g t (transitionAt c t .exit) (testedBy c σ t) (transitionAt c t .label)) (pictured-child c σ tree (k .region) (k .from) (active-source c σ (transitionAt c t) a)) (departed-at c passed ranges σ tree ts together t n)))
+            takes-by c (pictured c σ) (departed c σ ts) (pictured-fits c σ tree) (home c t) (k .region) t (exitBy c σ t) (testedBy c σ t) (transitionAt c t .label)
+            (h ∙ sym (ap₂ (λ (p g : Place). edge c p g t (exitBy c σ t) (testedBy c σ t) (transitionAt c t .label)) (pictured-child c σ tree (k .region) (k .from) (active-source c σ (transitionAt c t) a)) (departed-at c passed ranges σ tree ts together t n)))
 
     others-stay : (q : ℕ) → Region c q → ((e : Edge) → Mem e (map (edgeAt (flatten c)) ms) → ownerOf (flatten c) e ≢ automaton c q) → departed c σ ts q ≡ pictured c σ q
     others-stay q g f = departed-other c σ ts q (λ t n e. let w = matched .left t n in f _ (map-by (edgeAt (flatten c)) (w .1)) (carries-owner c passed ranges σ tree (w .0) t (w .2) ∙ ap (automaton c) e))

@@ -2,14 +2,14 @@
 -- these. Each joins the place that it leaves to a place of the same automaton (`source-of`, `target-of`).
 use mathlib.Core.Path.{_≡_, refl, sym, ap, _∙_, subst}
 use mathlib.Core.Bool.{Bool, true, false, cond, _&&_}
-use mathlib.Core.Logic.{_⊎_, inl, inr, ⊎-elim}
+use mathlib.Core.Logic.{_⊎_, inl, inr, ⊎-elim, _≢_}
 use mathlib.Core.List.{[], _∷_, map, List·Memᴰ as Mem, List·Memᴰ·head as here, List·Memᴰ·eq-of-singleton as eq-of-singleton, Memᴰ·cast as cast}
 use Prim.Native.Nat.{ℕ, _<_}
-use borrow.Author.Tests.{eqb-true, eq-eqb}
+use borrow.Author.Tests.{eqb-true, eq-eqb, ne-eqb}
 use lib.Dec.{eqb}
 use lib.ListN.{length}
 use Rattle.lists.specs.Lists.{keep}
-use Rattle.lists.proofs.Bools.{parts, both}
+use Rattle.lists.proofs.Bools.{parts, both, cond-yes, cond-no}
 use Rattle.lists.proofs.Lists.{keep-at, keep-by, map-at, map-by, getD-mem, mem-getD}
 use Rattle.lists.proofs.Concat.{concat-at, concat-by}
 use Rattle.lists.proofs.Below.{below-at, below-by}
@@ -24,6 +24,15 @@ use Rattle.flattening.specs.Flatten.{automaton, placeHome, alternatives,
 use Rattle.flattening.specs.Flatten.{bearing, bearingAll, heardExits, heardEntries, toPlace, fromPlace, flatten}
 use Rattle.flattening.proofs.Numbers.{IsPlace, PlaceOf, idle-place, child-place, same-place-at, same-place-by, places-at, places-by, all-places-at, all-places-by, automaton-of-place}
 use Rattle.flattening.proofs.Arrivals.{arrival-place, departure-place}
+
+-- an exit is tested where some automaton is
+pub tested-some : (set e : ℕ) → set ≢ 0 → exitTested set e ≡ e
+unfolding exitTested
+tested-some set e d = cond-no 255 e (ne-eqb set 0 d)
+
+pub tested-none : (set e : ℕ) → set ≡ 0 → exitTested set e ≡ 255
+unfolding exitTested
+tested-none set e z = cond-yes 255 e (eq-eqb set 0 z)
 
 -- the exit that an edge bearing t tests, and the set of automata: an alternative, or none
 abbrev pub Tests : Chart → ℕ → ℕ → ℕ → Type 0

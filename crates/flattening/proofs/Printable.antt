@@ -5,7 +5,8 @@ use mathlib.Core.Logic.{_⊎_, inl, inr, ⊎-elim}
 use mathlib.Core.List.{List, [], List·Memᴰ as Mem}
 use Prim.Native.Nat.{ℕ, _+_, _^_, _≤_, _<_}
 use native.Mathlib.Omega.{arith}
-use borrow.Author.Tests.{eqb-true, lt-ltb, leb-true, ne-eqb}
+use native.Mathlib.Decide.{ℕ-discrete}
+use borrow.Author.Tests.{lt-ltb, leb-true, ne-eqb}
 use lib.Dec.{ltb, eqb}
 use lib.ListN.{length, getD}
 use lib.Pow.{pow-pos}
@@ -38,7 +39,7 @@ use Rattle.flattening.proofs.Alternatives.{drawn}
 use Rattle.flattening.proofs.Numbers.{IsPlace, idle-place, child-place, all-places-at, number-lt, locations-length}
 use Rattle.flattening.proofs.Channels.{enter-channel-known, exit-channel-known, heard-entries-at, heard-exits-at, pre-enters}
 use Rattle.flattening.proofs.Arrivals.{ends, exit-lt, exit-pair, arrival-place, departure-place, source-place}
-use Rattle.flattening.proofs.Edges.{Tests, Leaves, edges-at}
+use Rattle.flattening.proofs.Edges.{Tests, tested-some, tested-none, Leaves, edges-at}
 use Rattle.flattening.proofs.Sound.{sound-flatten}
 use Rattle.flattening.proofs.Files.{PrintableLocation, PrintableEdge, Printable, read-printed}
 use Rattle.flattening.proofs.Joins.{bounds-have}
@@ -144,12 +145,10 @@ module _ (c : Chart) (passed : Passed c) (ranges : Ranges c) where
 
   -- the exit that it is tested by is one of the chart's, or none with no automaton
   exit-fits : (t : ℕ) → t < length (c .transitions) → hasExit c t ≡ true → (set : ℕ) → ((exitTested set (transitionAt c t .exit) < 8) ⊎ (exitTested set (transitionAt c t .exit) ≡ 255)) × (exitTested set (transitionAt c t .exit) ≡ 255 → set ≡ 0)
-  unfolding exitTested
-  exit-fits t h e set = go (eqb set 0) refl
-    where
-      go : (b : Bool) → eqb set 0 ≡ b → ((cond b 255 (transitionAt c t .exit) < 8) ⊎ (cond b 255 (transitionAt c t .exit) ≡ 255)) × (cond b 255 (transitionAt c t .exit) ≡ 255 → set ≡ 0)
-      go true z = (inr refl, λ _. eqb-true set 0 z)
-      go false z = let l = exit-lt c passed ranges t h e in (inl (omega (arith, ranges .exits-few)), λ k. absurd (omega (arith, ranges .exits-few)))
+  exit-fits t h e set = elim (ℕ-discrete set 0) [
+    | yes z ↦ (inr (tested-none set _ z), λ _. z)
+    | no d ↦ let l = exit-lt c passed ranges t h e in let k = tested-some set (transitionAt c t .exit) d in (inl (omega (arith, ranges .exits-few)), λ j. absurd (omega (arith, ranges .exits-few)))
+  ]
 
   -- the edges that bear a transition
   bearing-fits : (t : ℕ) → t < length (c .transitions) → (exit set : ℕ) → Tests c t exit set → Fits (edge c (child (transitionAt c t .source)) (departure c t) t exit set (transitionAt c t .label))
