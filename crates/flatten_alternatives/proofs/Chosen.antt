@@ -14,25 +14,27 @@ use lib.Bits.{bitOr}
 use lib.ListN.{length, getD, drop, replicate, length-drop, length-replicate}
 use lib.Seq.{getD-drop}
 use Rattle.lists.specs.Lists.{has, keep, below, concat}
-use Rattle.lists.proofs.Bools.{clash, decided, fails, and-l, and-r, or-cases}
+use Rattle.lists.proofs.Bools.{clash, decided, fails, and-l, and-r, or-cases, cond-yes, cond-no}
 use Rattle.lists.proofs.Lists.{map-same, map-at, map-by, keep-at, keep-next, keep-left, mem-getD}
 use Rattle.lists.proofs.Below.{below-next, below-end, getD-below, length-below}
 use Rattle.lists.proofs.Bits.{has-ext, has-zero, has-one, has-sum, has-or, Apart}
 use Rattle.lists.proofs.Within.{Within, within-right, within-both}
 use Rattle.chart_records.specs.Chart.{Chart, stateAt, states, parentOf, basic, sequential, parallel}
-use Rattle.chart_records.specs.Tree.{under, isChild, children}
+use Rattle.chart_records.specs.Tree.{under, isChild, children, fixed, shares}
 use Rattle.chart_records.proofs.Tree.{size, Parents, Child, children-at, unknown-parent, under-refl, under-transitive, child-under, child-above, children-disjoint}
+use Rattle.chart_records.proofs.Fixed.{unfixed-composite}
 use Rattle.chart_records.proofs.Rules.{Passed, kinds-left}
 use Rattle.chart_records.proofs.Ranges.{Ranges, kinds-of, chart-at}
 use Rattle.flattening.specs.Flatten.{automaton, sums, sumsOf, choicesFrom, insert, sorted}
 use Rattle.flattening.proofs.Automata.{Region, automaton-lt, automaton-injective}
 use Rattle.flattening.proofs.Sums.{sums-at, sums-by}
-use Rattle.flattening.proofs.Alternatives.{choicesOf, choices-parallel, choices-sequential, of-basic, of-unmarked, of-composite, Drawn, drawn}
+use Rattle.flattening.proofs.Alternatives.{choicesOf, choices-shared, choices-unshared, choices-parallel, choices-sequential, Drawn, drawn}
 use Rattle.chart_tree.specs.declared.table.Tree.{Tree}
 use Rattle.chart_tree.specs.Table.{Tabled}
-use Rattle.flatten_places.specs.Tables.{Chartered, Automated}
+use Rattle.flatten_places.specs.Tables.{Chartered, Automated, FixedIn}
 use Rattle.flatten_places.specs.declared.automaton.Automata.{Automata}
-use Rattle.flatten_alternatives.specs.Choosing.{choices, Kept, Clear, Choosing}
+use Rattle.flatten_places.specs.declared.fixed.Fixed.{Fixed}
+use Rattle.flatten_alternatives.specs.Choosing.{choices, given, Kept, Clear, Choosing}
 use Rattle.flatten_alternatives.proofs.Keeping.{kept-few, kept-same}
 
 concat-same : (f g : ℕ → List ℕ) (l : List ℕ) → ((x : ℕ) → Mem x l → f x ≡ g x) → concat f l ≡ concat g l
@@ -40,11 +42,24 @@ unfolding concat
 concat-same f g [] h = refl
 concat-same f g (x ∷ l) h = rw (h x (here refl)) (ap (λ (r : List ℕ). g x ++ r) (concat-same f g l (λ y m. h y (there m))))
 
+-- what a state gives its parent
+pub given-shared : (c : Chart) (e x own : ℕ) → fixed c x ≡ true → shares c e x ≡ true → given own c e x ≡ own ∷ []
+unfolding given
+given-shared c e x own f h = rw (f, given) (rw h)
+
+pub given-unshared : (c : Chart) (e x own : ℕ) → fixed c x ≡ true → shares c e x ≡ false → given own c e x ≡ []
+unfolding given
+given-unshared c e x own f h = rw (f, given) (rw h)
+
+pub given-unfixed : (c : Chart) (e x own : ℕ) → fixed c x ≡ false → given own c e x ≡ choices c e x
+unfolding given
+given-unfixed c e x own f = rw (f, given)
+
 -- with steps enough the choices do not depend on how many there are
 module _ (c : Chart) (tree : Parents c) (e : ℕ) where
   of-same : (n k s r : ℕ) → choicesFrom n c e r ≡ choicesFrom k c e r → choicesOf n c e s r ≡ choicesOf k c e s r
   unfolding choicesOf
-  of-same n k s r q = ap (λ (l : List ℕ). elim (basic c r) [ true ↦ elim (has (stateAt c r .exits) e) [ true ↦ 2 ^ automaton c s ∷ [] | false ↦ [] ] | false ↦ l ]) q
+  of-same n k s r q = ap (λ (l : List ℕ). elim (fixed c r) [ true ↦ elim (shares c e r) [ true ↦ 2 ^ automaton c s ∷ [] | false ↦ [] ] | false ↦ l ]) q
 
   refuel : (n k s : ℕ) → s < size c → size c ≤ n + s → size c ≤ k + s → choicesFrom n c e s ≡ choicesFrom k c e s
   refuel zero k s h a b = absurd (omega arith)
@@ -53,18 +68,36 @@ module _ (c : Chart) (tree : Parents c) (e : ℕ) where
       let lower : (r : ℕ) → Mem r (children c s) → choicesFrom n c e r ≡ choicesFrom k c e r =
       λ r m. let j = children-at c s m in refuel n k r (j .known) (omega (arith, child-above c tree j)) (omega (arith, child-above c tree j)) in
       ⊎-elim
-      (λ p. choices-parallel n c e s p ∙ ap sumsOf (map-same (choicesFrom n c e) (choicesFrom k c e) (children c s) lower) ∙ sym (choices-parallel k c e s p))
-      (λ p. choices-sequential n c e s p ∙ concat-same (choicesOf n c e s) (choicesOf k c e s) (children c s) (λ r m. of-same n k s r (lower r m)) ∙ sym (choices-sequential k c e s p))
-      (decided (parallel c s))
+      (λ f. ⊎-elim (λ h. choices-shared n c e s f h ∙ sym (choices-shared k c e s f h)) (λ h. choices-unshared n c e s f h ∙ sym (choices-unshared k c e s f h)) (decided (shares c e s)))
+      (λ f. ⊎-elim
+      (λ p. choices-parallel n c e s f p ∙ ap sumsOf (map-same (choicesFrom n c e) (choicesFrom k c e) (children c s) lower) ∙ sym (choices-parallel k c e s f p))
+      (λ p. choices-sequential n c e s f p ∙ concat-same (choicesOf n c e s) (choicesOf k c e s) (children c s) (λ r m. of-same n k s r (lower r m)) ∙ sym (choices-sequential k c e s f p))
+      (decided (parallel c s)))
+      (decided (fixed c s))
 
   again : (s : ℕ) → s < size c → choices c e s ≡ choicesFrom (suc (size c)) c e s
   again s h = refuel (size c) (suc (size c)) s h (omega arith) (omega arith)
 
-  pub choices-all : (s : ℕ) → s < size c → parallel c s ≡ true → choices c e s ≡ sumsOf (map (choices c e) (children c s))
-  choices-all s h p = again s h ∙ choices-parallel (size c) c e s p
+  pub choices-all : (s : ℕ) → s < size c → fixed c s ≡ false → parallel c s ≡ true → choices c e s ≡ sumsOf (map (choices c e) (children c s))
+  choices-all s h f p = again s h ∙ choices-parallel (size c) c e s f p
 
-  pub choices-one : (s : ℕ) → s < size c → parallel c s ≡ false → choices c e s ≡ concat (choicesOf (size c) c e s) (children c s)
-  choices-one s h p = again s h ∙ choices-sequential (size c) c e s p
+  pub choices-one : (s : ℕ) → s < size c → fixed c s ≡ false → parallel c s ≡ false → choices c e s ≡ concat (choicesOf (size c) c e s) (children c s)
+  choices-one s h f p = again s h ∙ choices-sequential (size c) c e s f p
+
+  -- what a state gives: the choices from it down, with none for a set of its own
+  pub given-none : (s : ℕ) → s < size c → given 0 c e s ≡ choices c e s
+  given-none s h = ⊎-elim
+      (λ f. ⊎-elim
+      (λ k. given-shared c e s 0 f k ∙ sym (again s h ∙ choices-shared (size c) c e s f k))
+      (λ k. given-unshared c e s 0 f k ∙ sym (again s h ∙ choices-unshared (size c) c e s f k))
+      (decided (shares c e s)))
+      (λ f. given-unfixed c e s 0 f)
+      (decided (fixed c s))
+
+-- to a sequential state: what its choices are made of
+pub given-own : (c : Chart) (e s x own : ℕ) → own ≡ 2 ^ automaton c s → given own c e x ≡ choicesOf (size c) c e s x
+unfolding given choicesOf
+given-own c e s x own q = ap (λ (n : ℕ). given n c e x) q
 
 -- what is left of the numbers below n
 drop-above : (x n : ℕ) {r : ℕ} → Mem r (drop x (below n)) → x ≤ r
@@ -170,30 +203,27 @@ module _ (c : Chart) (above kinds marks numbers : List ℕ) (s : ℕ) (C : Choos
   unfolding parentOf
   child-is x l h q = ap (λ (b : Bool). not b && eqb (parentOf c x) s) (ne-eqb x 0 (λ z. omega arith)) ∙ ap (λ (n : ℕ). eqb n s) (sym (C .parent x h)) ∙ sym q
 
-  pub kind-basic : (x : ℕ) → x < 48 → getD kinds x 0 ≡ 0 → basic c x ≡ true
+  -- a state counts as basic just if it is fixed
+  pub kind-fixed : (x : ℕ) → x < 48 → getD kinds x 0 ≡ 0 → fixed c x ≡ true
   unfolding basic
-  kind-basic x h z = eq-eqb _ 0 (sym (C .kind x h) ∙ z)
+  kind-fixed x h z = ⊎-elim (λ f. f) (λ f. clash (eq-eqb _ 0 (sym (cond-no 0 _ f) ∙ sym (C .kind x h) ∙ z)) (unfixed-composite c tree x f)) (decided (fixed c x))
 
-  pub kind-composite : (x : ℕ) → x < 48 → getD kinds x 0 ≢ 0 → basic c x ≡ false
-  unfolding basic
-  kind-composite x h z = ne-eqb _ 0 (λ q. z (C .kind x h ∙ q))
+  pub kind-unfixed : (x : ℕ) → x < 48 → getD kinds x 0 ≢ 0 → fixed c x ≡ false
+  kind-unfixed x h z = fails (fixed c x) (λ f. z (C .kind x h ∙ cond-yes 0 _ f))
 
-  pub kind-parallel : (x : ℕ) → x < 48 → getD kinds x 0 ≡ 2 → parallel c x ≡ true
+  pub kind-parallel : (x : ℕ) → x < 48 → fixed c x ≡ false → getD kinds x 0 ≡ 2 → parallel c x ≡ true
   unfolding parallel
-  kind-parallel x h z = eq-eqb _ 2 (sym (C .kind x h) ∙ z)
+  kind-parallel x h f z = eq-eqb _ 2 (sym (cond-no 0 _ f) ∙ sym (C .kind x h) ∙ z)
 
-  pub kind-other : (x : ℕ) → x < 48 → getD kinds x 0 ≢ 2 → parallel c x ≡ false
+  pub kind-other : (x : ℕ) → x < 48 → fixed c x ≡ false → getD kinds x 0 ≢ 2 → parallel c x ≡ false
   unfolding parallel
-  kind-other x h z = ne-eqb _ 2 (λ q. z (C .kind x h ∙ q))
+  kind-other x h f z = ne-eqb _ 2 (λ q. z (C .kind x h ∙ cond-no 0 _ f ∙ q))
 
   child : (x : ℕ) → isChild c s x ≡ true → Child c s x
   child x i = child-of c s (C .few) (C .known) x i
 
-  pub child-composite : (x : ℕ) → isChild c s x ≡ true → parallel c s ≡ true → basic c x ≡ false
-  child-composite x i p = passed .no-basic s x (child x i) p
-
-  pub choosing-child : (x : ℕ) → isChild c s x ≡ true → basic c x ≡ false → Choosing c above kinds marks numbers x
-  choosing-child x i b = record { chartered = C .chartered; few = C .few; parent = C .parent; kind = C .kind; exits = C .exits; number = C .number; known = child x i .known; composite = b }
+  pub choosing-child : (x : ℕ) → isChild c s x ≡ true → Choosing c above kinds marks numbers x
+  choosing-child x i = record { chartered = C .chartered; few = C .few; parent = C .parent; kind = C .kind; exits = C .exits; number = C .number; known = child x i .known }
 
   lower : (xs : List ℕ) (x : ℕ) → Child c s x → Clear c s xs → Clear c x xs
   lower xs x k r = record { clear = λ y m q h z u. r .clear y m q h z (under-transitive c tree s x q h (child-under c tree k) u) }
@@ -202,24 +232,24 @@ module _ (c : Chart) (above kinds marks numbers : List ℕ) (s : ℕ) (C : Choos
   clear-child xs x i r = lower xs x (child x i) r
 
   -- the state's own automaton
-  sequential-is : parallel c s ≡ false → Region c s
-  sequential-is p = record { known = C .known; is-sequential = kinds-left c (kinds-of ranges) s (C .known) (C .composite) p }
+  sequential-is : fixed c s ≡ false → parallel c s ≡ false → Region c s
+  sequential-is f p = record { known = C .known; is-sequential = kinds-left c (kinds-of ranges) s (C .known) (unfixed-composite c tree s f) p }
 
-  pub own-is : (own : ℕ) → parallel c s ≡ false → (getD numbers s 0 < 16 → own ≡ 2 ^ getD numbers s 0) → own ≡ 2 ^ automaton c s
-  own-is own p f =
-      let l = automaton-lt c (sequential-is p) in
+  pub own-is : (own : ℕ) → fixed c s ≡ false → parallel c s ≡ false → (getD numbers s 0 < 16 → own ≡ 2 ^ getD numbers s 0) → own ≡ 2 ^ automaton c s
+  own-is own f p g =
+      let l = automaton-lt c (sequential-is f p) in
       let n = C .number s l in
-      f (omega (arith, n, passed .at-most)) ∙ ap (λ (a : ℕ). 2 ^ a) n
+      g (omega (arith, n, passed .at-most)) ∙ ap (λ (a : ℕ). 2 ^ a) n
 
-  pub own-apart : (own : ℕ) (xs : List ℕ) → parallel c s ≡ false → Clear c s xs → own ≡ 2 ^ automaton c s → (x : ℕ) → Mem x xs → bitOr x own ≡ x + own
-  own-apart own xs p r q x m = rw q (has-ext _ _ (λ i. has-or x (2 ^ automaton c s) i ∙ sym (has-sum x (2 ^ automaton c s) apart i)))
+  pub own-apart : (own : ℕ) (xs : List ℕ) → fixed c s ≡ false → parallel c s ≡ false → Clear c s xs → own ≡ 2 ^ automaton c s → (x : ℕ) → Mem x xs → bitOr x own ≡ x + own
+  own-apart own xs f p r q x m = rw q (has-ext _ _ (λ i. has-or x (2 ^ automaton c s) i ∙ sym (has-sum x (2 ^ automaton c s) apart i)))
     where
       apart : Apart x (2 ^ automaton c s)
-      apart i a b = clash a (ap (has x) (sym (eqb-true (automaton c s) i (sym (has-one (automaton c s) i) ∙ b))) ∙ r .clear x m s (C .known) (sequential-is p .is-sequential) (under-refl c s))
+      apart i a b = clash a (ap (has x) (sym (eqb-true (automaton c s) i (sym (has-one (automaton c s) i) ∙ b))) ∙ r .clear x m s (C .known) (sequential-is f p .is-sequential) (under-refl c s))
 
   module _ (e : ℕ) where
     -- a sequential state
-    module _ (xs ys : List ℕ) (p : parallel c s ≡ false) where
+    module _ (xs ys : List ℕ) (f : fixed c s ≡ false) (p : parallel c s ≡ false) where
       none : Within (sums xs [] ++ ys) ys
       none = within-both (sums xs []) ys ys (λ z m. absurd (not-nil (sums-at xs [] m .3))) (λ z m. m)
 
@@ -232,7 +262,7 @@ module _ (c : Chart) (above kinds marks numbers : List ℕ) (s : ℕ) (C : Choos
       }
         where
           whole : concat (choicesOf (size c) c e s) (rest c s (s + 1)) ≡ choices c e s
-          whole = ap (concat (choicesOf (size c) c e s)) (rest-first c s (C .few) (C .known) tree (s + 1) (omega arith)) ∙ sym (choices-one c tree e s (C .known) p)
+          whole = ap (concat (choicesOf (size c) c e s)) (rest-first c s (C .few) (C .known) tree (s + 1) (omega arith)) ∙ sym (choices-one c tree e s (C .known) f p)
 
       pub adding-skip : {items : List ℕ} {count : ℕ} (x : ℕ) → isChild c s x ≡ false → Adding c e s xs ys items count x → Adding c e s xs ys items count (x + 1)
       adding-skip x i r =
@@ -244,19 +274,20 @@ module _ (c : Chart) (above kinds marks numbers : List ℕ) (s : ℕ) (C : Choos
             covers = subst (λ (l : List ℕ). Within (choices c e s) (r .made ++ concat (choicesOf (size c) c e s) l)) q (r .covers);
           }
 
-      pub adding-more : {items : List ℕ} {count : ℕ} (next : List ℕ) (total x : ℕ) → isChild c s x ≡ true → (r : Adding c e s xs ys items count x) → Kept next total (sums xs (choicesOf (size c) c e s x) ++ (sums xs (r .made) ++ ys)) → Adding c e s xs ys next total (x + 1)
+      pub adding-more : {items : List ℕ} {count : ℕ} (next : List ℕ) (total x : ℕ) → isChild c s x ≡ true → (r : Adding c e s xs ys items count x) (own : ℕ) → own ≡ 2 ^ automaton c s → Kept next total (sums xs (given own c e x) ++ (sums xs (r .made) ++ ys)) → Adding c e s xs ys next total (x + 1)
       unfolding concat
-      adding-more next total x i r k =
-          let f = choicesOf (size c) c e s in
-          let q : concat f (rest c s x) ≡ f x ++ concat f (rest c s (x + 1)) = ap (concat f) (rest-next c s (C .few) (C .known) x i) in
-          let l = concat f (rest c s (x + 1)) in
+      adding-more next total x i r own o k′ =
+          let k = subst (λ (y : List ℕ). Kept next total (sums xs y ++ (sums xs (r .made) ++ ys))) (given-own c e s x own o) k′ in
+          let g = choicesOf (size c) c e s in
+          let q : concat g (rest c s x) ≡ g x ++ concat g (rest c s (x + 1)) = ap (concat g) (rest-next c s (C .few) (C .known) x i) in
+          let l = concat g (rest c s (x + 1)) in
           record {
-            made = f x ++ r .made;
-            kept = kept-parts xs ys (f x) (r .made) k;
+            made = g x ++ r .made;
+            kept = kept-parts xs ys (g x) (r .made) k;
             within = λ z m. r .within z (subst (λ (n : List ℕ). Mem z (r .made ++ n)) (sym q)
-                (⊎-elim (λ a. ⊎-elim (λ b. append-right (r .made) (append-left l b)) (λ b. append-left (f x ++ l) b) (append-cases (f x) {t = r .made} a)) (λ a. append-right (r .made) (append-right (f x) a)) (append-cases (f x ++ r .made) {t = l} m)));
-            covers = λ z m. ⊎-elim (λ a. append-left l (append-right (f x) a)) (λ a. ⊎-elim (λ b. append-left l (append-left (r .made) b)) (λ b. append-right (f x ++ r .made) b) (append-cases (f x) {t = l} a))
-                (append-cases (r .made) {t = f x ++ l} (subst (λ (n : List ℕ). Mem z (r .made ++ n)) q (r .covers z m)));
+                (⊎-elim (λ a. ⊎-elim (λ b. append-right (r .made) (append-left l b)) (λ b. append-left (g x ++ l) b) (append-cases (g x) {t = r .made} a)) (λ a. append-right (r .made) (append-right (g x) a)) (append-cases (g x ++ r .made) {t = l} m)));
+            covers = λ z m. ⊎-elim (λ a. append-left l (append-right (g x) a)) (λ a. ⊎-elim (λ b. append-left l (append-left (r .made) b)) (λ b. append-right (g x ++ r .made) b) (append-cases (g x) {t = l} a))
+                (append-cases (r .made) {t = g x ++ l} (subst (λ (n : List ℕ). Mem z (r .made ++ n)) q (r .covers z m)));
           }
 
       pub adding-all : {items : List ℕ} {count : ℕ} (x : ℕ) → size c ≤ x → Adding c e s xs ys items count x → Kept items count (sums xs (choices c e s) ++ ys)
@@ -268,36 +299,37 @@ module _ (c : Chart) (above kinds marks numbers : List ℕ) (s : ℕ) (C : Choos
           (λ z m. ⊎-elim (λ a. a) (λ b. absurd (not-nil (subst (λ (l : List ℕ). Mem z l) q b))) (append-cases (r .made) {t = concat (choicesOf (size c) c e s) (rest c s x)} (r .covers z m)))
           (r .kept)
 
-    -- what a child of a sequential state gives
-    module _ {items : List ℕ} {count : ℕ} (xs ys : List ℕ) (x : ℕ) where
-      pub gives-composite : basic c x ≡ false → Kept items count (sums xs (choices c e x) ++ ys) → Kept items count (sums xs (choicesOf (size c) c e s x) ++ ys)
-      gives-composite b k = rw (of-composite (size c) c e s x b) k
+    -- what a state gives that is not fixed
+    pub gives-unfixed : {items : List ℕ} {count : ℕ} (xs ys : List ℕ) (own : ℕ) → fixed c s ≡ false → Kept items count (sums xs (choices c e s) ++ ys) → Kept items count (sums xs (given own c e s) ++ ys)
+    gives-unfixed xs ys own f k = rw (given-unfixed c e s own f) k
 
-      pub gives-basic : (own : ℕ) → own ≡ 2 ^ automaton c s → x < 48 → basic c x ≡ true → Kept items count (cond (has (getD marks x 0) e) (map (λ x. x + own) xs) [] ++ ys) → Kept items count (sums xs (choicesOf (size c) c e s x) ++ ys)
-      gives-basic own q h b k = ⊎-elim marked unmarked (decided (has (stateAt c x .exits) e))
-        where
-          at-table : has (getD marks x 0) e ≡ has (stateAt c x .exits) e
-          at-table = ap (λ (n : ℕ). has n e) (C .exits x h)
+    -- what a fixed state gives, by the exits that it is at
+    pub gives-fixed : {items : List ℕ} {count : ℕ} (xs ys : List ℕ) (own : ℕ) → e < 8 → fixed c s ≡ true
+        → Kept items count (cond (has (getD marks s 0) e) (map (λ x. x + own) xs) [] ++ ys) → Kept items count (sums xs (given own c e s) ++ ys)
+    gives-fixed {items} {count} xs ys own small f k = ⊎-elim shared unshared (decided (shares c e s))
+      where
+        at-table : has (getD marks s 0) e ≡ shares c e s
+        at-table = C .exits s e (C .known) small ∙ ap (λ (b : Bool). b && shares c e s) f
 
-          half : Within (map (λ x. x + own) xs) (sums xs (2 ^ automaton c s ∷ []))
-          half z m = let r = map-at (λ x. x + own) xs m in cast (r .2 ∙ ap (λ (n : ℕ). r .0 + n) q) (sums-by (r .1) (here refl))
+        half : Within (map (λ x. x + own) xs) (sums xs (own ∷ []))
+        half z m = let r = map-at (λ x. x + own) xs m in cast (r .2) (sums-by (r .1) (here refl))
 
-          back : Within (sums xs (2 ^ automaton c s ∷ [])) (map (λ x. x + own) xs)
-          back z m = let r = sums-at xs (2 ^ automaton c s ∷ []) m in cast (r .4 ∙ ap (λ (n : ℕ). r .0 + n) (eq-of-singleton (r .3) ∙ sym q)) (map-by (λ x. x + own) (r .2))
+        back : Within (sums xs (own ∷ [])) (map (λ x. x + own) xs)
+        back z m = let r = sums-at xs (own ∷ []) m in cast (r .4 ∙ ap (λ (n : ℕ). r .0 + n) (eq-of-singleton (r .3))) (map-by (λ x. x + own) (r .2))
 
-          marked : has (stateAt c x .exits) e ≡ true → Kept items count (sums xs (choicesOf (size c) c e s x) ++ ys)
-          marked m = rw (of-basic (size c) c e s x b m) (kept-same _ (rw (at-table, m) at k)
-              (within-both (map (λ x. x + own) xs) ys (sums xs (2 ^ automaton c s ∷ []) ++ ys) (λ z n. append-left ys (half z n)) (within-right (sums xs (2 ^ automaton c s ∷ [])) ys))
-              (within-both (sums xs (2 ^ automaton c s ∷ [])) ys (map (λ x. x + own) xs ++ ys) (λ z n. append-left ys (back z n)) (within-right (map (λ x. x + own) xs) ys)))
+        shared : shares c e s ≡ true → Kept items count (sums xs (given own c e s) ++ ys)
+        shared m = rw (given-shared c e s own f m) (kept-same _ (rw (at-table, m) at k)
+            (within-both (map (λ x. x + own) xs) ys (sums xs (own ∷ []) ++ ys) (λ z n. append-left ys (half z n)) (within-right (sums xs (own ∷ [])) ys))
+            (within-both (sums xs (own ∷ [])) ys (map (λ x. x + own) xs ++ ys) (λ z n. append-left ys (back z n)) (within-right (map (λ x. x + own) xs) ys)))
 
-          unmarked : has (stateAt c x .exits) e ≡ false → Kept items count (sums xs (choicesOf (size c) c e s x) ++ ys)
-          unmarked m = rw (of-unmarked (size c) c e s x b m) (kept-same _ (rw (at-table, m) at k) (within-right (sums xs []) ys)
-              (within-both (sums xs []) ys ys (λ z n. absurd (not-nil (sums-at xs [] n .3))) (λ z n. n)))
+        unshared : shares c e s ≡ false → Kept items count (sums xs (given own c e s) ++ ys)
+        unshared m = rw (given-unshared c e s own f m) (kept-same _ (rw (at-table, m) at k) (within-right (sums xs []) ys)
+            (within-both (sums xs []) ys ys (λ z n. absurd (not-nil (sums-at xs [] n .3))) (λ z n. n)))
 
     -- sums with the choices of one child are clear of another
-    clear-sum : (made : List ℕ) (x t : ℕ) → Child c s x → Child c s t → (t ≡ x → ⊥) → basic c x ≡ false → Clear c x made → Clear c t made
+    clear-sum : (made : List ℕ) (x t : ℕ) → Child c s x → Child c s t → (t ≡ x → ⊥) → Clear c x made → Clear c t made
         → (y : ℕ) → Mem y (sums made (choices c e x)) → (q : ℕ) → q < size c → sequential c q ≡ true → under c t q ≡ true → has y (automaton c q) ≡ false
-    clear-sum made x t k l d b f g y n q h w u = fails (has y (automaton c q)) (λ j. ⊎-elim
+    clear-sum made x t k l d f g y n q h w u = fails (has y (automaton c q)) (λ j. ⊎-elim
         (λ a. clash a (g .clear (r .0) (r .2) q h w u))
         (λ a. let o = from-child .within (automaton c q) a in
         d (children-disjoint c tree q h l k u (subst (λ (v : ℕ). under c x v ≡ true) (automaton-injective c (o .1) (record { known = h; is-sequential = w }) (o .2)) (o .3))))
@@ -307,7 +339,7 @@ module _ (c : Chart) (above kinds marks numbers : List ℕ) (s : ℕ) (C : Choos
         r = sums-at made (choices c e x) n
 
         from-child : Drawn c x (r .1)
-        from-child = drawn c tree (kinds-left c (kinds-of ranges)) e (passed .no-basic) (size c) x (r .1) (k .known) b (r .3)
+        from-child = drawn c tree (kinds-left c (kinds-of ranges)) e (size c) x (r .1) (k .known) (r .3)
 
         apart : Apart (r .0) (r .1)
         apart i a v = let o = from-child .within i v in clash a (ap (has (r .0)) (sym (o .2)) ∙ f .clear (r .0) (r .2) (o .0) (o .1 .known) (o .1 .is-sequential) (o .3))
@@ -317,7 +349,7 @@ module _ (c : Chart) (above kinds marks numbers : List ℕ) (s : ℕ) (C : Choos
     rest-above x m = drop-above x (size c) (keep-at (isChild c s) (drop x (below (size c))) m .0)
 
     -- a parallel state
-    module _ (xs : List ℕ) (p : parallel c s ≡ true) where
+    module _ (xs : List ℕ) (f : fixed c s ≡ false) (p : parallel c s ≡ true) where
       pub multiplying-first : {items : List ℕ} {count : ℕ} → Clear c s xs → Kept items count xs → Multiplying c e s xs items count (s + 1)
       multiplying-first r k = record {
         made = xs;
@@ -328,7 +360,7 @@ module _ (c : Chart) (above kinds marks numbers : List ℕ) (s : ℕ) (C : Choos
       }
         where
           whole : sumsOf (map (choices c e) (rest c s (s + 1))) ≡ choices c e s
-          whole = ap (λ (l : List ℕ). sumsOf (map (choices c e) l)) (rest-first c s (C .few) (C .known) tree (s + 1) (omega arith)) ∙ sym (choices-all c tree e s (C .known) p)
+          whole = ap (λ (l : List ℕ). sumsOf (map (choices c e) l)) (rest-first c s (C .few) (C .known) tree (s + 1) (omega arith)) ∙ sym (choices-all c tree e s (C .known) f p)
 
       pub multiplying-skip : {items : List ℕ} {count : ℕ} (x : ℕ) → isChild c s x ≡ false → Multiplying c e s xs items count x → Multiplying c e s xs items count (x + 1)
       multiplying-skip x i r =
@@ -345,9 +377,10 @@ module _ (c : Chart) (above kinds marks numbers : List ℕ) (s : ℕ) (C : Choos
       pub multiplying-clear : {items : List ℕ} {count : ℕ} (x : ℕ) → isChild c s x ≡ true → (r : Multiplying c e s xs items count x) → Clear c x (r .made)
       multiplying-clear x i r = r .clear x (subst (λ (l : List ℕ). Mem x l) (sym (rest-next c s (C .few) (C .known) x i)) (here refl))
 
-      pub multiplying-more : {items : List ℕ} {count : ℕ} (next : List ℕ) (total x : ℕ) → isChild c s x ≡ true → (r : Multiplying c e s xs items count x) → Kept next total (sums (r .made) (choices c e x) ++ []) → Multiplying c e s xs next total (x + 1)
+      pub multiplying-more : {items : List ℕ} {count : ℕ} (next : List ℕ) (total x : ℕ) → isChild c s x ≡ true → (r : Multiplying c e s xs items count x) → Kept next total (sums (r .made) (given 0 c e x) ++ []) → Multiplying c e s xs next total (x + 1)
       unfolding sumsOf
-      multiplying-more next total x i r k =
+      multiplying-more next total x i r k′ =
+          let k = subst (λ (l : List ℕ). Kept next total (sums (r .made) l ++ [])) (given-none c tree e x (child x i .known)) k′ in
           let q = rest-next c s (C .few) (C .known) x i in
           let more : List ℕ = sumsOf (map (choices c e) (rest c s (x + 1))) in
           let whole : sumsOf (map (choices c e) (rest c s x)) ≡ sums (choices c e x) more = ap (λ (l : List ℕ). sumsOf (map (choices c e) l)) q in
@@ -357,7 +390,7 @@ module _ (c : Chart) (above kinds marks numbers : List ℕ) (s : ℕ) (C : Choos
             within = λ z m. r .within z (subst (λ (l : List ℕ). Mem z (sums (r .made) l)) (sym whole) (sums-right (r .made) (choices c e x) more z m));
             covers = λ z m. sums-left (r .made) (choices c e x) more z (subst (λ (l : List ℕ). Mem z (sums (r .made) l)) whole (r .covers z m));
             clear = λ t m. record {
-              clear = λ y n v h w u. clear-sum (r .made) x t (child x i) (rest-at c s (C .few) (C .known) (x + 1) m) (λ z. omega (arith, rest-above (x + 1) m)) (child-composite x i p)
+              clear = λ y n v h w u. clear-sum (r .made) x t (child x i) (rest-at c s (C .few) (C .known) (x + 1) m) (λ z. omega (arith, rest-above (x + 1) m))
                   (multiplying-clear x i r) (r .clear t (subst (λ (l : List ℕ). Mem t l) (sym q) (there m))) y n v h w u;
             };
           }
@@ -385,10 +418,16 @@ kept-empty = kept-few (length-replicate {A = ℕ} 1024 0) refl (omega arith) ref
 pub clear-empty : (c : Chart) (s : ℕ) → Clear c s (0 ∷ [])
 clear-empty c s = record { clear = λ x m q h z u. ap (λ (n : ℕ). has n (automaton c q)) (eq-of-singleton m) ∙ has-zero (automaton c q) }
 
-pub kept-alone : {items : List ℕ} {count : ℕ} (ys : List ℕ) → Kept items count (sums (0 ∷ []) ys ++ []) → Kept items count ys
+kept-alone : {items : List ℕ} {count : ℕ} (ys : List ℕ) → Kept items count (sums (0 ∷ []) ys ++ []) → Kept items count ys
 kept-alone {items} {count} ys k = kept-same _ (subst (Kept items count) (append-nil (sums (0 ∷ []) ys)) k)
     (λ z m. let r = sums-at (0 ∷ []) ys m in cast (let q : z ≡ r .1 = omega (arith, r .4, eq-of-singleton (r .2)) in q) (r .3))
     (λ z m. cast (let q : z ≡ 0 + z = omega arith in q) (sums-by (here refl) m))
 
-pub choosing-of : (c : Chart) (t : Tree) (a : Automata) (m : ℕ) → Chartered c → Tabled c t → Automated c a → m < length (c .states) → basic c m ≡ false → Choosing c (t .parents) (t .kinds) (t .exits) (a .numbers) m
-choosing-of c t a m h T A l b = record { chartered = h; few = T .few; parent = T .parent; kind = T .kind; exits = T .exits; number = A .number; known = l; composite = b }
+-- what a state gives with no set of its own: the choices from it down
+pub kept-given : (c : Chart) (above kinds marks numbers : List ℕ) (s : ℕ) (C : Choosing c above kinds marks numbers s) (e : ℕ) {items : List ℕ} {count : ℕ}
+    → Kept items count (sums (0 ∷ []) (given 0 c e s) ++ []) → Kept items count (choices c e s)
+kept-given c above kinds marks numbers s C e {items} {count} k =
+    subst (Kept items count) (given-none c (tree c above kinds marks numbers s C) e s (C .known)) (kept-alone (given 0 c e s) k)
+
+pub choosing-of : (c : Chart) (t : Tree) (f : Fixed) (a : Automata) (m : ℕ) → Chartered c → Tabled c t → FixedIn c f → Automated c a → m < length (c .states) → Choosing c (t .parents) (f .kinds) (f .exits) (a .numbers) m
+choosing-of c t f a m h T F A l = record { chartered = h; few = T .few; parent = T .parent; kind = F .kind; exits = F .exits; number = A .number; known = l }

@@ -7,11 +7,12 @@ ghost use lib.ListN.{getD, length};
 ghost use lib.Bits.{bitOr};
 ghost use Rattle.lists.specs.Lists.{has};
 ghost use Rattle.chart_records.specs.Chart.{Chart};
-ghost use Rattle.flatten_alternatives.specs.Choosing.{choices, Kept, Choosing, Chooses, Lists};
+ghost use Rattle.flatten_alternatives.specs.Choosing.{choices, Kept, Choosing, Gives, Chooses, Lists};
 use crate::ascending::with_number;
 use chart_tree::table::Tree;
 use chart_tree::table::is_child;
 use flatten_places::automaton::Automata;
+use flatten_places::fixed::Fixed;
 use lists::mark::has;
 use reading::field::byte_at;
 
@@ -41,8 +42,8 @@ fn set_of(numbers: &[u8], s: usize) -> u16
     if a < 16 { one << a } else { 0 }
 }
 
-// The sets with those that a basic state x gives: if it is marked, each of another table with its parent's automaton.
-fn with_basic(
+// The sets with those that a basic or plain state x gives: if it is at the exit, each of another table with a set of its own.
+fn with_fixed(
     exits: &[u8],
     exit: u8,
     own: u16,
@@ -60,6 +61,34 @@ fn with_basic(
     } else {
         count
     }
+}
+
+// The sets with those that a state x gives its parent, each joined with each set of another table: those of the choices from
+// x down, or if x is basic or plain a set of its own.
+fn choose(
+    parents: &[u8],
+    kinds: &[u8],
+    exits: &[u8],
+    numbers: &[u8],
+    exit: u8,
+    x: usize,
+    own: u16,
+    from: &[u16; 1024],
+    size: usize,
+    to: &mut [u16; 1024],
+    count: usize,
+) -> usize
+    requires { ⌜ x < 48 ⌝ }
+    ensures { λ r. ⌜ Gives (now (parents .entry)) (now (kinds .entry)) (now (exits .entry)) (now (numbers .entry)) exit x own (now (from .entry)) size (now (to .entry)) count (now (to .exit)) r ⌝ }
+{
+    let kind = byte_at(kinds, x);
+    if kind == 0 {
+        return with_fixed(exits, exit, own, x, from, size, to, count);
+    }
+    if kind == 2 {
+        return choose_parallel(parents, kinds, exits, numbers, exit, x, from, size, to, count);
+    }
+    choose_sequential(parents, kinds, exits, numbers, exit, x, from, size, to, count)
 }
 
 // The sets with those of the choices from a sequential state s down, each joined with each set of another table.
@@ -83,34 +112,7 @@ fn choose_sequential(
     let mut x = s + 1;
     while x < Tree::STATES {
         if is_child(parents, s, x) {
-            let kind = byte_at(kinds, x); // of the child that is chosen
-            match kind {
-                0 => total = with_basic(exits, exit, own, x, from, size, to, total),
-                2 => total = choose_parallel(
-                    parents,
-                    kinds,
-                    exits,
-                    numbers,
-                    exit,
-                    x,
-                    from,
-                    size,
-                    to,
-                    total,
-                ),
-                _ => total = choose_sequential(
-                    parents,
-                    kinds,
-                    exits,
-                    numbers,
-                    exit,
-                    x,
-                    from,
-                    size,
-                    to,
-                    total,
-                ),
-            }
+            total = choose(parents, kinds, exits, numbers, exit, x, own, from, size, to, total);
         }
         x += 1;
     }
@@ -138,35 +140,8 @@ fn choose_parallel(
     let mut x = s + 1;
     while x < Tree::STATES {
         if is_child(parents, s, x) {
-            let kind = byte_at(kinds, x); // of each child
             let mut next = [0; 1024];
-            if kind == 2 {
-                made = choose_parallel(
-                    parents,
-                    kinds,
-                    exits,
-                    numbers,
-                    exit,
-                    x,
-                    &joined,
-                    made,
-                    &mut next,
-                    0,
-                );
-            } else {
-                made = choose_sequential(
-                    parents,
-                    kinds,
-                    exits,
-                    numbers,
-                    exit,
-                    x,
-                    &joined,
-                    made,
-                    &mut next,
-                    0,
-                );
-            }
+            made = choose(parents, kinds, exits, numbers, exit, x, 0, &joined, made, &mut next, 0);
             joined = next;
         }
         x += 1;
@@ -174,7 +149,7 @@ fn choose_parallel(
     with_each(&joined, made, 0, to, count)
 }
 
-// The sets of the choices from a composite state s down.
+// The sets of the choices from a state s down.
 fn chosen(
     parents: &[u8],
     kinds: &[u8],
@@ -184,34 +159,30 @@ fn chosen(
     s: usize,
     items: &mut [u16; 1024],
 ) -> usize
-    ensures { λ r. ⌜ ((c : Chart) → Choosing c (now (parents .entry)) (now (kinds .entry)) (now (exits .entry)) (now (numbers .entry)) s → length (now (items .entry)) ≡ 1024 → Kept (now (items .exit)) r (choices c exit s)) ⌝ }
+    ensures { λ r. ⌜ ((c : Chart) → Choosing c (now (parents .entry)) (now (kinds .entry)) (now (exits .entry)) (now (numbers .entry)) s → exit < 8 → length (now (items .entry)) ≡ 1024 → Kept (now (items .exit)) r (choices c exit s)) ⌝ }
 {
     if s >= Tree::STATES {
         return 0;
     }
     let none = [0; 1024]; // the set of no automaton
-    let kind = byte_at(kinds, s);
-    if kind == 2 {
-        choose_parallel(parents, kinds, exits, numbers, exit, s, &none, 1, items, 0)
-    } else {
-        choose_sequential(parents, kinds, exits, numbers, exit, s, &none, 1, items, 0)
-    }
+    choose(parents, kinds, exits, numbers, exit, s, 0, &none, 1, items, 0)
 }
 
-// The alternatives of an exit of a composite state m, ascending, each once: how many there are, or 1,025 if there are too many
-// for the table that is lent.
+// The alternatives of an exit of a state m, ascending, each once: how many there are, or 1,025 if there are too many for the
+// table that is lent.
 pub fn alternatives(
     tree: Tree,
+    fixed: Fixed,
     automata: Automata,
     m: u8,
     exit: u8,
     items: &mut [u16; 1024],
 ) -> usize
-    ensures { λ r. ⌜ Lists tree automata m exit (now (items .entry)) (now (items .exit)) r ⌝ }
+    ensures { λ r. ⌜ Lists tree fixed automata m exit (now (items .entry)) (now (items .exit)) r ⌝ }
 {
     let parents = tree.parents;
-    let kinds = tree.kinds;
-    let exits = tree.exits;
+    let kinds = fixed.kinds;
+    let exits = fixed.exits;
     let numbers = automata.numbers;
     chosen(&parents, &kinds, &exits, &numbers, exit, m as usize, items)
 }

@@ -5,7 +5,7 @@ use mathlib.Core.Logic.{_≢_}
 use mathlib.Core.List.{List, [], _∷_, map, List·Memᴰ as Mem}
 use Prim.Native.Nat.{ℕ, _+_, _^_, _≤_, _<_}
 use native.Mathlib.Omega.{arith}
-use native.Mathlib.Decide.{decLt}
+use native.Mathlib.Decide.{ℕ-discrete, decLt}
 use borrow.Author.Tests.{eq-eqb, ne-eqb, lt-ltb}
 use lib.Bits as Words
 use lib.Dec.{eqb, ltb}
@@ -13,10 +13,10 @@ use lib.ListN.{length, getD, set, take, replicate, length-map, length-set, lengt
 use lib.Seq.{getD-take, getD-set-same, getD-set-other}
 use Rattle.lists.specs.Lists.{has, concat}
 use Rattle.labels.specs.Label.{Label}
-use Rattle.lists.proofs.Bools.{clash, not-yes}
+use Rattle.lists.proofs.Bools.{clash, not-yes, cond-yes, cond-no}
 use Rattle.lists.proofs.Lists.{getD-mem}
-use Rattle.lists.proofs.Bits.{has-ext, has-and, has-bits, has-high}
-use Rattle.chart_records.specs.Chart.{Chart, transitionAt, basic}
+use Rattle.lists.proofs.Bits.{has-ext, has-zero, has-and, has-bits, has-high}
+use Rattle.chart_records.specs.Chart.{Chart, transitionAt}
 use Rattle.chart_records.specs.Tree.{sequentials}
 use Rattle.chart_records.specs.Laid.{Laid}
 use Rattle.chart_records.specs.declared.header.Counts.{Counts}
@@ -24,9 +24,10 @@ use Rattle.chart_records.proofs.Tree.{size}
 use Rattle.chart_records.proofs.Rules.{Passed}
 use Rattle.chart_records.proofs.Ranges.{Ranges}
 use Rattle.network_records.specs.Network.{Edge}
-use Rattle.flattening.specs.Flatten.{Place, child, hasExit, allPlaces, number, atExit, initialPlace, alternatives, onValues, edge, bearing}
+use Rattle.flattening.specs.Flatten.{Place, child, hasExit, allPlaces, number, atExit, initialPlace, alternatives, onValues, edge, exitTested, bearing}
 use Rattle.flattening.proofs.Numbers.{all-places-by}
-use Rattle.flattening.proofs.Arrivals.{ends, source-composite, exit-lt, source-place}
+use Rattle.flattening.proofs.Arrivals.{ends, exit-lt, source-place}
+use Rattle.flattening.proofs.Edges.{tested-some, tested-none}
 use Rattle.flattening.proofs.Printable.{alternative-lt}
 use Rattle.flatten_places.specs.Walking.{Tabulated, Spread}
 use Rattle.flatten_places.specs.declared.walk.Tables.{Tables}
@@ -66,23 +67,36 @@ needed-bits c e x h l = has-ext _ _ (λ a. has-and x _ a ∙ ap (λ (b : Bool). 
     ]
     go a false z = none (ltb a 16)
 
+-- of no automaton there are none
+and-none : (y : ℕ) → Words.bitAnd 0 y ≡ 0
+and-none y = has-ext _ _ (λ i. has-and 0 y i ∙ ap (λ (b : Bool). b && has y i) (has-zero i) ∙ sym (has-zero i))
+
 -- an edge for each set
 abbrev pub setEdge : Chart → Place → Place → Label → ℕ → ℕ → ℕ → List Edge
-setEdge c p q l transition exit x = edge c p q transition exit x l ∷ []
+setEdge c p q l transition exit x = edge c p q transition (exitTested x exit) x l ∷ []
 
 module _ (c : Chart) (p q : Place) (l : Label) (xs : List ℕ) (e : Ends) (s : Signals) (transition exit off : ℕ) (sets : List ℕ) (size : ℕ) (B : BearsEach c p q l xs e s exit off sets size) where
-  pub set-more : (k tested needed : ℕ) {h : Head} {b g j : List ℕ} {n m i : ℕ} → Adds b n g m (concat (setEdge c p q l transition exit) (take k xs)) → k < size → tested ≡ getD sets k 0 → needed ≡ Words.bitAnd tested off
-      → ((c : Chart) (p q : Place) (l : Label) → Joins c p q e → Signalled l s → needed ≡ cond (eqb exit 255) 0 (onValues c exit tested) → h ≡ headOf (edge c p q transition exit tested l))
+  -- the values needed where no automaton is tested, and where some are
+  needed-is : (tested by needed : ℕ) → by ≡ exitTested tested exit → needed ≡ Words.bitAnd tested off → tested < 2 ^ length (sequentials c) → needed ≡ cond (eqb by 255) 0 (onValues c by tested)
+  needed-is tested by needed y d small = elim (ℕ-discrete tested 0) [
+    | yes z ↦ d ∙ ap (λ (w : ℕ). Words.bitAnd w off) z ∙ and-none off ∙ sym (cond-yes 0 _ (eq-eqb by 255 (y ∙ tested-none tested exit z)))
+    | no z ↦ let e = y ∙ tested-some tested exit z in
+        d ∙ ap (Words.bitAnd tested) (B .off-is) ∙ needed-bits c exit tested small (B .automata-few) ∙ ap (λ (w : ℕ). onValues c w tested) (sym e) ∙ sym (cond-no 0 _ (ne-eqb by 255 (λ w. omega (arith, B .exit-known, e))))
+  ]
+
+  pub set-more : (k tested by needed : ℕ) {h : Head} {b g j : List ℕ} {n m i : ℕ} → Adds b n g m (concat (setEdge c p q l transition exit) (take k xs)) → k < size → tested ≡ getD sets k 0 → by ≡ exitTested tested exit → needed ≡ Words.bitAnd tested off
+      → ((c : Chart) (p q : Place) (l : Label) → Joins c p q e → Signalled l s → needed ≡ cond (eqb by 255) 0 (onValues c by tested) → h ≡ headOf (edge c p q transition by tested l))
       → ((e : Edge) → h ≡ headOf e → Adds g m j i (e ∷ [])) → Adds b n j i (concat (setEdge c p q l transition exit) (take (k + 1) xs))
-  set-more k tested needed {g = g} {j = j} {m = m} {i = i} W z t d H A =
+  set-more k tested by needed {g = g} {j = j} {m = m} {i = i} W z t y d H A =
       let known : k < length xs = omega (arith, B .counted) in
       let x : tested ≡ getD xs k 0 = t ∙ sym (getD-take size sets k 0 z) ∙ ap (λ (y : List ℕ). getD y k 0) (B .stand) in
       let small : tested < 2 ^ length (sequentials c) = subst (λ (y : ℕ). y < 2 ^ length (sequentials c)) (sym x) (B .small _ (getD-mem xs k 0 known)) in
-      let value : needed ≡ cond (eqb exit 255) 0 (onValues c exit tested) = d ∙ ap (Words.bitAnd tested) (B .off-is) ∙ needed-bits c exit tested small (B .automata-few) ∙ rw (ne-eqb exit 255 (λ y. omega (arith, B .exit-known))) in
-      walk-more (setEdge c p q l transition exit) xs k 0 W known (subst (λ (y : ℕ). Adds g m j i (setEdge c p q l transition exit y)) x (A _ (H c p q l (B .joins) (B .signals) value)))
+      let value = needed-is tested by needed y d small in
+      walk-more (setEdge c p q l transition exit) xs k 0 W known (subst (λ (w : ℕ). Adds g m j i (setEdge c p q l transition exit w)) x
+      (A _ (H c p q l (B .joins) (B .signals) value ∙ ap (λ (w : ℕ). headOf (edge c p q transition w tested l)) y)))
 
-  pub set-all : (k : ℕ) {b g : List ℕ} {n m : ℕ} → Adds b n g m (concat (setEdge c p q l transition exit) (take k xs)) → size ≤ k → Adds b n g m (map (λ x. edge c p q transition exit x l) xs)
-  set-all k {b} {g} {n} {m} W z = subst (Adds b n g m) (map-ones (λ x. edge c p q transition exit x l) xs) (walk-all (setEdge c p q l transition exit) xs k W (omega (arith, B .counted)))
+  pub set-all : (k : ℕ) {b g : List ℕ} {n m : ℕ} → Adds b n g m (concat (setEdge c p q l transition exit) (take k xs)) → size ≤ k → Adds b n g m (map (λ x. edge c p q transition (exitTested x exit) x l) xs)
+  set-all k {b} {g} {n} {m} W z = subst (Adds b n g m) (map-ones (λ x. edge c p q transition (exitTested x exit) x l) xs) (walk-all (setEdge c p q l transition exit) xs k W (omega (arith, B .counted)))
 
 module _ (c : Chart) (t : Tables) (exits homes : List ℕ) (T : Tabulated c t) (S : Spread c exits homes) (counts : Counts) (rest offsets : List ℕ) (L : Laid rest counts offsets c)
     (u : ℕ) (h : u < length (c .transitions)) (home : ℕ) (o : transitionAt c u .source ≡ home) (i j : ℕ) (q : Place) (f : i ≡ number c (child home)) (g : j ≡ number c q) (m : Mem q (allPlaces c)) {e : Ends} {s : Signals}
@@ -116,18 +130,20 @@ module _ (c : Chart) (t : Tables) (exits homes : List ℕ) (T : Tabulated c t) (
     unfolding hasExit
     has-exit = not-yes (ne-eqb (transitionAt c u .exit) 255 (λ z. some (exit-is ∙ z)))
 
-    all-sets : bearing c q u ≡ map (λ x. edge c (child (transitionAt c u .source)) q u exit x (transitionAt c u .label)) (alternatives c (transitionAt c u .source) (transitionAt c u .exit))
+    all-sets : bearing c q u ≡ map (λ x. edge c (child (transitionAt c u .source)) q u (exitTested x exit) x (transitionAt c u .label)) (alternatives c (transitionAt c u .source) (transitionAt c u .exit))
     unfolding bearing
-    all-sets = rw has-exit (ap (λ (y : ℕ). map (λ x. edge c (child (transitionAt c u .source)) q u y x (transitionAt c u .label)) (alternatives c (transitionAt c u .source) (transitionAt c u .exit))) (sym exit-is))
+    all-sets = rw has-exit (ap (λ (y : ℕ). map (λ x. edge c (child (transitionAt c u .source)) q u (exitTested x y) x (transitionAt c u .label)) (alternatives c (transitionAt c u .source) (transitionAt c u .exit))) (sym exit-is))
 
     module _ {source : ℕ} (from : source ≡ getD (t .transitions .sources) u 0) {sets listed sets' listed' : List ℕ} {size : ℕ}
-        (A : Recalls (t .tree) (t .automata) source exit sets listed sets' listed' size) (R : Recalled c home sets listed) where
+        (A : Recalls (t .tree) (t .fixed) (t .automata) source exit sets listed sets' listed' size) (R : Recalled c home sets listed) where
+      exit-small : exit < 8
+      exit-small = omega (arith, exit-is, exit-lt c passed ranges u h has-exit, ranges .exits-few)
+
       source-is : source ≡ home
       source-is = from ∙ T .transitions .source u h ∙ o
 
       recalls : Kept sets' size (choices c exit source) × Recalled c source sets' listed'
-      recalls = A c (T .chart) (T .tree) (T .automata) (omega (arith, source-is, o, ends c passed ranges u h .from .known))
-          (ap (basic c) (source-is ∙ sym o) ∙ source-composite c passed ranges u h has-exit) (λ z. some z)
+      recalls = A c (T .chart) (T .tree) (T .fixed) (T .automata) (omega (arith, source-is, o, ends c passed ranges u h .from .known)) exit-small
           (subst (λ (y : ℕ). Recalled c y sets listed) (sym source-is) R)
 
       kept : Kept sets' size (choices c (transitionAt c u .exit) (transitionAt c u .source))
@@ -145,17 +161,16 @@ module _ (c : Chart) (t : Tables) (exits homes : List ℕ) (T : Tabulated c t) (
       -- an edge for each set
       pub bear-some : {b k : List ℕ} {n d off : ℕ} → size ≤ 1024
           → ((c : Chart) (homes : List ℕ) → Flagged c exits homes (t .initials) → t .automata .count ≡ length (sequentials c) → exit < 8 → off ≡ startOff c exit)
-          → ((c : Chart) (p q : Place) (l : Label) (xs : List ℕ) → BearsEach c p q l xs e s exit off sets' size → Adds b n k d (map (λ x. edge c p q u exit x l) xs))
+          → ((c : Chart) (p q : Place) (l : Label) (xs : List ℕ) → BearsEach c p q l xs e s exit off sets' size → Adds b n k d (map (λ x. edge c p q u (exitTested x exit) x l) xs))
           → Adds b n k d (bearing c q u) × Recalled c home sets' listed'
       unfolding alternatives
       bear-some {b} {k} {n} {d} {off} z O B =
-          let w = kept-at kept z in
-          let known : exit < 8 = omega (arith, exit-is, exit-lt c passed ranges u h has-exit, ranges .exits-few) in (
+          let w = kept-at kept z in (
             subst (Adds b n k d) (sym all-sets) (B c _ q _ _ (record {
               joins = joins;
               signals = signals;
-              exit-known = known;
-              off-is = O c homes (flagged-of c t exits homes T S) (T .automata .count) known;
+              exit-known = exit-small;
+              off-is = O c homes (flagged-of c t exits homes T S) (T .automata .count) exit-small;
               automata-few = passed .at-most;
               few = z;
               counted = w .0;

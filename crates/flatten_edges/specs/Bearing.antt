@@ -1,21 +1,21 @@
 -- The edges that bear a transition, one for each set of automata.
 use Prim.Native.Nat.{ℕ, _^_, _≤_, _<_}
 use mathlib.Core.Path.{_≡_}
-use mathlib.Core.Bool.{false}
 use mathlib.Core.Logic.{_≢_}
 use mathlib.Core.List.{List, List·Memᴰ as Mem}
 use lib.ListN.{length, getD, take}
 use Rattle.labels.specs.Label.{Label}
-use Rattle.chart_records.specs.Chart.{Chart, transitionAt, basic}
+use Rattle.chart_records.specs.Chart.{Chart, transitionAt}
 use Rattle.chart_records.specs.Laid.{Laid}
 use Rattle.chart_records.specs.Tree.{sequentials}
 use Rattle.chart_records.specs.declared.header.Counts.{Counts}
 use Rattle.chart_tree.specs.Table.{Tabled}
 use Rattle.chart_tree.specs.declared.table.Tree.{Tree}
 use Rattle.flattening.specs.Flatten.{Place, child, allPlaces, number, bearing}
-use Rattle.flatten_places.specs.Tables.{Chartered, Automated}
+use Rattle.flatten_places.specs.Tables.{Chartered, Automated, FixedIn}
 use Rattle.flatten_places.specs.Walking.{Tabulated, Spread}
 use Rattle.flatten_places.specs.declared.automaton.Automata.{Automata}
+use Rattle.flatten_places.specs.declared.fixed.Fixed.{Fixed}
 use Rattle.flatten_places.specs.declared.walk.Tables.{Tables}
 use Rattle.flatten_alternatives.specs.Choosing.{choices, Kept}
 use Rattle.flatten_edges.specs.Adding.{Adds}
@@ -42,9 +42,9 @@ pub record Recalled (c : Chart) (s : ℕ) (sets listed : List ℕ) : Type 0 wher
   pub held : getD listed 0 0 ≢ 255 → Kept sets (getD listed 1 0) (choices c (getD listed 0 0) s)
 
 -- then those of the exit e of s do
-abbrev pub Recalls : Tree → Automata → ℕ → ℕ → List ℕ → List ℕ → List ℕ → List ℕ → ℕ → Type 0
-Recalls t a s e sets listed sets' listed' size =
-    (c : Chart) → Chartered c → Tabled c t → Automated c a → s < length (c .states) → basic c s ≡ false → e ≢ 255
+abbrev pub Recalls : Tree → Fixed → Automata → ℕ → ℕ → List ℕ → List ℕ → List ℕ → List ℕ → ℕ → Type 0
+Recalls t f a s e sets listed sets' listed' size =
+    (c : Chart) → Chartered c → Tabled c t → FixedIn c f → Automated c a → s < length (c .states) → e < 8
     → Recalled c s sets listed → Kept sets' size (choices c e s) × Recalled c s sets' listed'
 
 -- the numbers i and j are those of the source s of u and of a place: the edges from one to the other that bear u are added

@@ -6,7 +6,7 @@ ghost use Rattle.labels.specs.Label.{Label};
 ghost use Rattle.chart_records.specs.Chart.{Chart, transitionAt};
 ghost use Rattle.chart_records.specs.Laid.{Laid};
 ghost use Rattle.chart_records.specs.declared.header.Counts.{Counts};
-ghost use Rattle.flattening.specs.Flatten.{Place, edge};
+ghost use Rattle.flattening.specs.Flatten.{Place, edge, exitTested};
 ghost use Rattle.flatten_edges.specs.Adding.{Adds};
 ghost use Rattle.flatten_edges.specs.Ends.{Signalled};
 ghost use Rattle.flatten_edges.specs.Bearing.{BearsEach, Recalls, Bears};
@@ -22,6 +22,7 @@ use chart_records::transition::signal_of;
 use chart_tree::table::Tree;
 use flatten_alternatives::alternative::alternatives;
 use flatten_places::automaton::Automata;
+use flatten_places::fixed::Fixed;
 use flatten_places::walk::Tables;
 use flatten_places::walk::of_transition;
 
@@ -34,6 +35,13 @@ fn signals_of(rest: &[u8], offsets: &[u32], t: u8) -> Signals
         channel: channel_of(rest, offsets, t),
         resets: resets_of(rest, offsets, t),
     }
+}
+
+// The exit tested with a set of automata: none where no automaton is.
+fn exit_tested(set: u16, exit: u8) -> u8
+    ensures { λ r. ⌜ r ≡ exitTested set exit ⌝ }
+{
+    if set == 0 { 255 } else { exit }
 }
 
 // The edges that bear a transition and test a set each, of so many sets; off is where the automata's first places are not
@@ -49,7 +57,7 @@ fn bear_each(
     sets: &[u16; 1024],
     size: usize,
 ) -> u16
-    ensures { λ r. ⌜ ((c : Chart) (p q : Place) (l : Label) (xs : List ℕ) → BearsEach c p q l xs e s exit off (now (sets .entry)) size → Adds (now (heads .entry)) count (now (heads .exit)) r (map (λ x. edge c p q transition exit x l) xs)) ⌝ }
+    ensures { λ r. ⌜ ((c : Chart) (p q : Place) (l : Label) (xs : List ℕ) → BearsEach c p q l xs e s exit off (now (sets .entry)) size → Adds (now (heads .entry)) count (now (heads .exit)) r (map (λ x. edge c p q transition (exitTested x exit) x l) xs)) ⌝ }
 {
     if size > 1024 {
         return count;
@@ -58,7 +66,8 @@ fn bear_each(
     let mut k = 0;
     while k < size {
         let tested = sets[k];
-        let h = bearing_head(e, s, transition, exit, tested, tested & off);
+        let by = exit_tested(tested, exit);
+        let h = bearing_head(e, s, transition, by, tested, tested & off);
         n = push(heads, n, h);
         k += 1;
     }
@@ -69,18 +78,19 @@ fn bear_each(
 // listed is the exit that they are of, 255 at first, and how many they are.
 fn sets_by(
     tree: Tree,
+    fixed: Fixed,
     automata: Automata,
     s: u8,
     exit: u8,
     sets: &mut [u16; 1024],
     listed: &mut [usize; 2],
 ) -> usize
-    ensures { λ r. ⌜ Recalls tree automata s exit (now (sets .entry)) (now (listed .entry)) (now (sets .exit)) (now (listed .exit)) r ⌝ }
+    ensures { λ r. ⌜ Recalls tree fixed automata s exit (now (sets .entry)) (now (listed .entry)) (now (sets .exit)) (now (listed .exit)) r ⌝ }
 {
     if listed[0] == exit as usize {
         return listed[1];
     }
-    let size = alternatives(tree, automata, s, exit, sets);
+    let size = alternatives(tree, fixed, automata, s, exit, sets);
     listed[0] = exit as usize;
     listed[1] = size;
     size
@@ -124,6 +134,7 @@ pub fn bear(
     let off = start_off(exits, &initials, automata.count, exit);
     let size = sets_by(
         tree,
+        t.fixed,
         automata,
         of_transition(&sources, u),
         exit,

@@ -1,11 +1,10 @@
 -- The table of places as it is filled: one more place, what it holds of each sort, and the walks that find them.
 use mathlib.Core.Path.{_≡_, refl, sym, ap, ap₂, _∙_, subst}
-use mathlib.Core.Bool.{Bool, true, false, cond, not, _&&_}
+use mathlib.Core.Bool.{Bool, true, false, not, _&&_}
 use mathlib.Core.Logic.{⊎-elim}
 use mathlib.Core.List.{List, [], _∷_, _++_, map, append-assoc, append-nil, List·Memᴰ as Mem}
 use Prim.Native.Nat.{ℕ, _+_, _^_, _≤_, _<_}
 use native.Mathlib.Omega.{arith}
-use native.Mathlib.Nat.{pow-le-pow-right}
 use borrow.Author.Tests.{eqb-true}
 use lib.Dec.{eqb}
 use lib.ListN.{length, getD, set, drop, length-append, length-set, drop-of-length-le}
@@ -17,19 +16,16 @@ use Rattle.lists.proofs.Lists.{keep-all, keep-append, keep-none, keep-next, kee
 use Rattle.lists.proofs.Columns.{field-more}
 use Rattle.lists.proofs.Parts.{drop-next}
 use Rattle.lists.proofs.Below.{below-next, below-end}
-use Rattle.chart_records.specs.Chart.{Chart, stateAt, transitionAt, states, parentOf, basic, home}
-use Rattle.chart_records.specs.Tree.{isChild, children, sequentials}
+use Rattle.chart_records.specs.Chart.{Chart, transitionAt, states, parentOf, home}
+use Rattle.chart_records.specs.Tree.{isChild, children, sequentials, fixed, shares}
 use Rattle.chart_tree.specs.Table.{Tabled}
 use Rattle.chart_tree.specs.declared.table.Tree.{Tree}
-use Rattle.chart_records.proofs.Tree.{size}
-use Rattle.chart_records.proofs.Rules.{Passed}
-use Rattle.chart_records.proofs.Ranges.{Ranges}
 use Rattle.chart_rules.proofs.TransitionRules.{transition-mem}
 use Rattle.flattening.specs.Flatten.{Pair, Place, idle, child, pre, post, pairs, entersBy, enterPairs, hasExit, transitions, placeHome, automaton, atExit, places}
 use Rattle.flattening.proofs.Automata.{automaton-of-region}
 use Rattle.flattening.proofs.Numbers.{prePairs}
 use Rattle.flattening.proofs.Channels.{enter-pairs-at}
-use Rattle.flatten_places.specs.Tables.{Chartered, Columned, Automated, Paired, Listed, kindOf, valueOf, markOf, exitsAt}
+use Rattle.flatten_places.specs.Tables.{Chartered, AtExits, Columned, Automated, Paired, Listed, kindOf, valueOf, markOf, exitsAt}
 use Rattle.flatten_places.specs.Filling.{ListedTo, Wide, tableOf, Rowed, leaving}
 use Rattle.flatten_places.specs.declared.automaton.Automata.{Automata}
 use Rattle.flatten_places.specs.declared.pair.Pairs.{Pairs}
@@ -37,7 +33,7 @@ use Rattle.flatten_places.specs.declared.place.Places.{Places}
 use Rattle.flatten_places.specs.declared.place.Row.{Row}
 use Rattle.flatten_places.specs.declared.transition.Transitions.{Transitions}
 use Rattle.flatten_places.proofs.StateWalks.{walk-yes, walk-no, walk-end, parent-of}
-use Rattle.flatten_places.proofs.Chartered.{passed-of, ranges-of}
+use Rattle.flatten_places.proofs.Chartered.{ranges-of}
 
 -- the table before the rest of a list
 module _ (c : Chart) (whole : List Place) where
@@ -87,21 +83,14 @@ no-exits : bitsOf (λ e. false) 8 ≡ 0
 unfolding bitsOf bitsFrom
 no-exits = refl
 
-module _ (c : Chart) (passed : Passed c) (ranges : Ranges c) where
-  exits-small : (s : ℕ) → s < size c → stateAt c s .exits < 2 ^ 8
-  exits-small s h = let k : 2 ^ c .exits ≤ 2 ^ 8 = pow-le-pow-right {n = 2} (omega arith) {i = c .exits} {j = 8} (ranges .exits-few) in omega (arith, ranges .of-state s h .exits-small)
+exits-child : (c : Chart) (s e : ℕ) → e < 2 ^ 8 → ((i : ℕ) → i < 8 → has e i ≡ (fixed c s && shares c i s)) → e ≡ exitsAt c (child s)
+unfolding exitsAt atExit
+exits-child c s e small f = sym (bits-of-has 8 e small) ∙ bits-same _ _ 8 f
 
-  exits-child : (s : ℕ) → s < size c → exitsAt c (child s) ≡ stateAt c s .exits
-  unfolding exitsAt atExit
-  exits-child s h = ⊎-elim
-      (λ b. bits-same _ (has (stateAt c s .exits)) 8 (λ i k. ap (λ (x : Bool). x && has (stateAt c s .exits) i) b) ∙ bits-of-has 8 (stateAt c s .exits) (exits-small s h))
-      (λ b. bits-same _ (λ e. false) 8 (λ i k. ap (λ (x : Bool). x && has (stateAt c s .exits) i) b) ∙ no-exits ∙ sym (passed .exit-marks s h b))
-      (decided (basic c s))
-
-  -- the rows of places
-  pub child-row : (q s a e : ℕ) → s < size c → parentOf c s ≡ q → a ≡ automaton c q → e ≡ stateAt c s .exits → Rowed c (child s) (record { kind = 1; value = s; mark = 0; automaton = a; exits = e })
-  unfolding placeHome
-  child-row q s a e h p n x = record { kind = refl; value = refl; mark = refl; automaton = n ∙ ap (automaton c) (sym p); exits = x ∙ sym (exits-child s h) }
+-- the rows of places
+pub child-row : (c : Chart) (q s a e : ℕ) → parentOf c s ≡ q → a ≡ automaton c q → e < 2 ^ 8 → ((i : ℕ) → i < 8 → has e i ≡ (fixed c s && shares c i s)) → Rowed c (child s) (record { kind = 1; value = s; mark = 0; automaton = a; exits = e })
+unfolding placeHome
+child-row c q s a e p n small f = record { kind = refl; value = refl; mark = refl; automaton = n ∙ ap (automaton c) (sym p); exits = exits-child c s e small f }
 
 pub idle-row : (c : Chart) (q a : ℕ) → a ≡ automaton c q → Rowed c (idle q) (record { kind = 0; value = q; mark = 0; automaton = a; exits = 0 })
 unfolding placeHome exitsAt atExit
@@ -132,8 +121,8 @@ module _ {c : Chart} {t : Tree} (T : Tabled c t) (q : ℕ) where
   pub children-end : (s : ℕ) (rest : List Place) → t .states ≤ s → childrenFrom c q s ++ rest ≡ rest
   children-end s rest h = ap (λ (l : List ℕ). map child l ++ rest) (walk-end T (isChild c q) s h)
 
-  pub child-row-at : Chartered c → (s a e : ℕ) → s < t .states → isChild c q s ≡ true → a ≡ automaton c q → e ≡ getD (t .exits) s 0 → Rowed c (child s) (record { kind = 1; value = s; mark = 0; automaton = a; exits = e })
-  child-row-at h s a e l i n x = child-row c (passed-of h) (ranges-of h) q s a e (omega (arith, T .count)) (eqb-true (parentOf c s) q (and-r (not (eqb s 0)) _ i)) n (x ∙ T .exits s (omega (arith, T .count, T .few)))
+  pub child-row-at : (left : List ℕ) → AtExits c left → (s a e : ℕ) → s < t .states → isChild c q s ≡ true → a ≡ automaton c q → e ≡ getD left s 0 → e < 2 ^ 8 → Rowed c (child s) (record { kind = 1; value = s; mark = 0; automaton = a; exits = e })
+  child-row-at left F s a e l i n x small = child-row c q s a e (eqb-true (parentOf c s) q (and-r (not (eqb s 0)) _ i)) n small (λ j h. ap (λ (y : ℕ). has y j) x ∙ F s j (omega (arith, T .count)) h)
 
 -- the walk over the pairs that are entered: the pairs of some states are those pairs whose state is one of them
 pairs-kept : (p : ℕ → ℕ → Bool) (n : ℕ) (t : ℕ → Bool) (ss : List ℕ) → pairs p n (keep t ss) ≡ keep (λ x. t (x .state)) (pairs p n ss)

@@ -1,7 +1,7 @@
 -- Tables that the flattener fills one element after the other: what they hold before the rest of a list.
 use Prim.Native.Nat.{ℕ, _≤_, _<_}
 use mathlib.Core.Path.{_≡_}
-use mathlib.Core.Bool.{Bool, _&&_}
+use mathlib.Core.Bool.{Bool, cond, not, _&&_}
 use mathlib.Core.List.{List, _++_, map}
 use lib.Dec.{eqb}
 use lib.ListN.{getD, length, take}
@@ -14,6 +14,10 @@ use Rattle.flatten_places.specs.declared.automaton.Automata.{Automata}
 use Rattle.flatten_places.specs.declared.pair.Pairs.{Pairs}
 use Rattle.flatten_places.specs.declared.place.Places.{Places}
 use Rattle.flatten_places.specs.declared.place.Row.{Row}
+
+-- a state of this kind and with these exits bars the exit e: a basic one that is not marked with it, and a sequential one
+abbrev pub barsBy : ℕ → ℕ → ℕ → Bool
+barsBy kind exits e = cond (eqb kind 0) (not (has exits e)) (eqb kind 1)
 
 -- the sequential states before the rest
 pub record AutomatedTo (c : Chart) (rest : List ℕ) (a : Automata) : Type 0 where

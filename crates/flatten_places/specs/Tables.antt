@@ -4,14 +4,15 @@ use mathlib.Core.Path.{_≡_}
 use mathlib.Core.Bool.{Bool, true, false, cond, _&&_}
 use mathlib.Core.List.{List, map}
 use lib.ListN.{getD, length, take}
-use Rattle.lists.specs.Lists.{bitsOf}
+use Rattle.lists.specs.Lists.{has, bitsOf}
 use Rattle.reading.specs.Answer.{done}
-use Rattle.chart_records.specs.Chart.{Chart, Transition, transitionAt}
-use Rattle.chart_records.specs.Tree.{sequentials}
+use Rattle.chart_records.specs.Chart.{Chart, Transition, stateAt, transitionAt}
+use Rattle.chart_records.specs.Tree.{sequentials, fixed, shares}
 use Rattle.chart_records.specs.Rules.{chartOf}
 use Rattle.flattening.specs.Flatten.{Pair, Place, idle, child, pre, post, placeHome, automaton, allPlaces, atExit, number, arrival, departure}
 use Rattle.flatten_places.specs.declared.transition.Transitions.{Transitions}
 use Rattle.flatten_places.specs.declared.automaton.Automata.{Automata}
+use Rattle.flatten_places.specs.declared.fixed.Fixed.{Fixed}
 use Rattle.flatten_places.specs.declared.pair.Pairs.{Pairs}
 use Rattle.flatten_places.specs.declared.place.Places.{Places}
 
@@ -30,6 +31,15 @@ pub record Columned (c : Chart) (t : Transitions) : Type 0 where
   pub destination : ColumnOf (λ u. u .destination) c (t .destinations)
   pub exit : ColumnOf (λ u. u .exit) c (t .exits)
   pub entry : ColumnOf (λ u. u .entry) c (t .entries)
+
+-- the exits that each fixed state is at; no other state is at any
+abbrev pub AtExits : Chart → List ℕ → Type 0
+AtExits c l = (s e : ℕ) → s < length (c .states) → e < 8 → has (getD l s 0) e ≡ (fixed c s && shares c e s)
+
+-- the kinds of the states, with 0 for each that is fixed, and the exits that they are at
+pub record FixedIn (c : Chart) (f : Fixed) : Type 0 where
+  pub kind : (s : ℕ) → s < 48 → getD (f .kinds) s 0 ≡ cond (fixed c s) 0 (stateAt c s .kind)
+  pub exits : AtExits c (f .exits)
 
 -- the sequential states in order, and the number of each
 pub record Automated (c : Chart) (a : Automata) : Type 0 where

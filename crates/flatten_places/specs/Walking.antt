@@ -1,15 +1,20 @@
 -- The tables that the walk over a chart's places looks up.
 use Prim.Native.Nat.{ℕ, _+_, _<_}
 use mathlib.Core.Path.{_≡_}
+use mathlib.Core.Bool.{_&&_}
 use mathlib.Core.List.{List, map, List·Memᴰ as Mem}
 use lib.ListN.{getD, length, take}
-use Rattle.lists.specs.Lists.{has}
-use Rattle.chart_records.specs.Chart.{Chart}
-use Rattle.chart_records.specs.Tree.{sequentials}
+use Rattle.lists.specs.Lists.{has, any}
+use Rattle.chart_records.specs.Chart.{Chart, states}
+use Rattle.chart_records.specs.Tree.{under, sequentials}
 use Rattle.chart_tree.specs.Table.{Tabled}
 use Rattle.flattening.specs.Flatten.{Place, idle, child, enterPairs, exitPairs, allPlaces, number, automaton, placeHome, initialPlace, marksBelow}
-use Rattle.flatten_places.specs.Tables.{Chartered, Columned, Automated, Paired, Departing, Arriving, exitsAt}
+use Rattle.flatten_places.specs.Tables.{Chartered, FixedIn, Columned, Automated, Paired, Departing, Arriving, exitsAt}
 use Rattle.flatten_places.specs.declared.walk.Tables.{Tables}
+
+-- the bits that states at or below each state have in a table
+abbrev pub Gathered : Chart → List ℕ → List ℕ → Type 0
+Gathered c marks l = (s e : ℕ) → s < length (c .states) → has (getD l s 0) e ≡ any (λ b. under c s b && has (getD marks b 0) e) (states c)
 
 -- the exits that basic states at or below each state are marked with
 abbrev pub MarkedBelow : Chart → List ℕ → Type 0
@@ -27,6 +32,7 @@ NumberOfEach c place l = (a : ℕ) → a < length (sequentials c) → getD l a 0
 pub record Tabulated (c : Chart) (t : Tables) : Type 0 where
   pub chart : Chartered c
   pub tree : Tabled c (t .tree)
+  pub fixed : FixedIn c (t .fixed)
   pub transitions : Columned c (t .transitions)
   pub automata : Automated c (t .automata)
   pub enters : Paired (enterPairs c) (t .enters)

@@ -1,18 +1,19 @@
-// The exits that are marked below states.
+// What is marked below states.
+ghost use mathlib.Core.Path.{_≡_};
+ghost use lib.ListN.{length};
 ghost use Rattle.chart_records.specs.Chart.{Chart};
-ghost use Rattle.chart_tree.specs.Table.{Tabled};
+ghost use Rattle.chart_tree.specs.Table.{Rooted, Tabled};
 ghost use Rattle.flatten_places.specs.Tables.{Chartered};
-ghost use Rattle.flatten_places.specs.Walking.{MarkedBelow};
+ghost use Rattle.flatten_places.specs.Walking.{Gathered, MarkedBelow};
 use chart_tree::table::Tree;
 
-// Of each state the exits that basic states at or below it are marked with: from the last state up each adds its own to
-// its parent's, whose number is smaller.
-pub fn marked_below(tree: Tree) -> [u8; 48]
-    ensures { λ r. ⌜ ((c : Chart) → Chartered c → Tabled c tree → MarkedBelow c r) ⌝ }
+// Of each state the bits that states at or below it have in a table: from the last state up each adds its own to its
+// parent's, whose number is smaller.
+pub fn gathered(parents: [u8; 48], states: u8, marks: [u8; 48]) -> [u8; 48]
+    ensures { λ r. ⌜ ((c : Chart) → Rooted c parents → states ≡ length (c .states) → Gathered c marks r) ⌝ }
 {
-    let parents = tree.parents;
-    let mut below = tree.exits;
-    let mut s = tree.states;
+    let mut below = marks;
+    let mut s = states;
     if s > 48 {
         return below;
     }
@@ -23,4 +24,13 @@ pub fn marked_below(tree: Tree) -> [u8; 48]
         below[above] = below[above] | below[x];
     }
     below
+}
+
+// Of each state the exits that basic states at or below it are marked with.
+pub fn marked_below(tree: Tree) -> [u8; 48]
+    ensures { λ r. ⌜ ((c : Chart) → Chartered c → Tabled c tree → MarkedBelow c r) ⌝ }
+{
+    let parents = tree.parents;
+    let exits = tree.exits;
+    gathered(parents, tree.states, exits)
 }

@@ -1,6 +1,7 @@
 // The places of a chart to be flattened: its automata, pairs and transitions, as tables.
 pub mod automaton;
 pub mod below;
+pub mod fixed;
 pub mod pair;
 pub mod place;
 pub mod transition;

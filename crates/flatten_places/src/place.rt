@@ -10,9 +10,10 @@ ghost use Rattle.chart_records.specs.Chart.{Chart, home};
 ghost use Rattle.chart_records.specs.Tree.{children};
 ghost use Rattle.chart_tree.specs.Table.{Tabled};
 ghost use Rattle.flattening.specs.Flatten.{Place, child, pre, post, pairs, entersBy, hasExit, places, allPlaces, automaton, enterPairs};
-ghost use Rattle.flatten_places.specs.Tables.{Chartered, Columned, Automated, Paired, Listed};
+ghost use Rattle.flatten_places.specs.Tables.{Chartered, FixedIn, Columned, Automated, Paired, Listed};
 ghost use Rattle.flatten_places.specs.Filling.{tableOf, Puts, Rowed, leaving};
 use crate::automaton::Automata;
+use crate::fixed::Fixed;
 use crate::pair::Pairs;
 use crate::transition::Transitions;
 use chart_tree::table::Tree;
@@ -93,16 +94,17 @@ fn put_children(
     exits: &mut [u8; 192],
     count: u8,
     tree: Tree,
+    fixed: Fixed,
     q: u8,
     a: u8,
 ) -> u8
-    ensures { λ r. ⌜ ((c : Chart) → Chartered c → Tabled c tree → a ≡ automaton c q
+    ensures { λ r. ⌜ ((c : Chart) → Tabled c tree → FixedIn c fixed → a ≡ automaton c q
         → Puts c (map child (children c q)) []
         (tableOf (now (kinds .entry)) (now (values .entry)) (now (marks .entry)) (now (automata .entry)) (now (exits .entry)) count)
         (tableOf (now (kinds .exit)) (now (values .exit)) (now (marks .exit)) (now (automata .exit)) (now (exits .exit)) r)) ⌝ }
 {
     let parents = tree.parents;
-    let left = tree.exits;
+    let left = fixed.exits;
     let mut next = count;
     let mut s = 0;
     while s < tree.states {
@@ -217,12 +219,13 @@ fn put_places(
     exits: &mut [u8; 192],
     count: u8,
     tree: Tree,
+    fixed: Fixed,
     transitions: Transitions,
     enters: Pairs,
     q: u8,
     a: u8,
 ) -> u8
-    ensures { λ r. ⌜ ((c : Chart) → Chartered c → Tabled c tree → Columned c transitions → Paired (enterPairs c) enters → a ≡ automaton c q
+    ensures { λ r. ⌜ ((c : Chart) → Chartered c → Tabled c tree → FixedIn c fixed → Columned c transitions → Paired (enterPairs c) enters → a ≡ automaton c q
         → Puts c (places c q) []
         (tableOf (now (kinds .entry)) (now (values .entry)) (now (marks .entry)) (now (automata .entry)) (now (exits .entry)) count)
         (tableOf (now (kinds .exit)) (now (values .exit)) (now (marks .exit)) (now (automata .exit)) (now (exits .exit)) r)) ⌝ }
@@ -235,7 +238,7 @@ fn put_places(
         exits: 0, // an idle automaton is at no exit
     };
     let n = put(kinds, values, marks, automata, exits, count, row);
-    let m = put_children(kinds, values, marks, automata, exits, n, tree, q, a);
+    let m = put_children(kinds, values, marks, automata, exits, n, tree, fixed, q, a);
     let k = put_pres(kinds, values, marks, automata, exits, m, tree, enters, q, a);
     put_posts(
         kinds,
@@ -252,8 +255,14 @@ fn put_places(
 }
 
 // The places of all automata.
-pub fn places_of(tree: Tree, transitions: Transitions, automata: Automata, enters: Pairs) -> Places
-    ensures { λ r. ⌜ ((c : Chart) → Chartered c → Tabled c tree → Columned c transitions → Automated c automata → Paired (enterPairs c) enters → Listed c (allPlaces c) r) ⌝ }
+pub fn places_of(
+    tree: Tree,
+    fixed: Fixed,
+    transitions: Transitions,
+    automata: Automata,
+    enters: Pairs,
+) -> Places
+    ensures { λ r. ⌜ ((c : Chart) → Chartered c → Tabled c tree → FixedIn c fixed → Columned c transitions → Automated c automata → Paired (enterPairs c) enters → Listed c (allPlaces c) r) ⌝ }
 {
     let states = automata.states;
     let mut kinds = [0; 192];
@@ -273,6 +282,7 @@ pub fn places_of(tree: Tree, transitions: Transitions, automata: Automata, enter
             &mut exits,
             count,
             tree,
+            fixed,
             transitions,
             enters,
             q,

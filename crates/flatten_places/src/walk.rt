@@ -2,16 +2,19 @@
 ghost use mathlib.Core.Path.{_≡_};
 ghost use lib.ListN.{getD};
 use crate::automaton::Automata;
+use crate::fixed::Fixed;
 use crate::pair::Pairs;
 use crate::transition::Transitions;
 use chart_tree::table::Tree;
 use reading::field::byte_at;
 
-// The chart's states and transitions, the automata and the pairs; of each state its number as a child's place, and the
-// exits that basic states at or below it are marked with; of each transition the numbers of the places where it departs
-// to and arrives; of each automaton the numbers of its idle and its initial place; how many channels the chart has.
+// The chart's states, which of them are fixed, its transitions, the automata and the pairs; of each state its number as
+// a child's place, and the exits that basic states at or below it are marked with; of each transition the numbers of the
+// places where it departs to and arrives; of each automaton the numbers of its idle and its initial place; how many
+// channels the chart has.
 pub struct Tables {
     pub tree: Tree,
+    pub fixed: Fixed,
     pub transitions: Transitions,
     pub automata: Automata,
     pub enters: Pairs,

@@ -19,7 +19,7 @@ chosen-requires : tie.Need-chosen-requires
 chosen-requires c κs = search needs
 
 returns : tie.Need-returns
-returns c d h T A l b n = c .chosen .ensures d (choosing-of d _ _ _ h T A l b) n
+returns c d h T F A l e n = c .chosen .ensures d (choosing-of d _ _ _ _ h T F A l) e n
 
 pub alternatives-spec : {M : Type 1} → statement M
 alternatives-spec =

@@ -1,74 +1,15 @@
-use Rattle.flatten_places.specs.Tables.{Chartered}
-use Rattle.flatten_places.proofs.Underneath.{SeenFrom, seen-none, seen-more, seen-all}
+use Rattle.flatten_places.proofs.Underneath.{exits-below}
 use Rattle.flatten_places.proofs.Chartered.{parents-of}
 use Rattle.chart_tree.proofs.Tables.{rooted-of}
-use Rattle.chart_tree.specs.Table.{Column, Rooted}
-use Rattle.chart_records.specs.Chart.{Chart}
-use lib.ListN.{length, length-set}
-use native.Mathlib.Omega.{arith}
-use Prim.Native.Nat.{_≤_}
-use mathlib.Core.Path.{_≡_, refl}
 use borrow.Author.Needs.{needs}
 use Rattle.flatten_places.proofs.below.marked_below.Statement.{statement}
 use Rattle.flatten_places.proofs.below.marked_below.Tie as tie
 
-abbrev Inv-loop : tie.InvT-loop
-Inv-loop parents below₀ s₀ below s = (length below ≡ 48) × (s ≤ s₀) × (s₀ ≤ 48) × ((c : Chart) → Chartered c → Rooted c parents → Column (λ x. x .exits) c below₀ → s₀ ≡ length (c .states) → SeenFrom c below s)
+gathered-requires : tie.Need-gathered-requires
+gathered-requires c κs = search needs
 
-abbrev μ-loop : tie.MeasureT-loop
-μ-loop parents below₀ s₀ below s = s
-
-returns : tie.Need-returns Inv-loop μ-loop
-returns c = λ d K T. absurd (omega (arith, c .if1 .taken, T .count, T .few))
-
-loop-holds : tie.Need-loop-holds Inv-loop μ-loop
-loop-holds c = (search needs, omega arith, c .if1 .left, λ d K R X N. seen-none d K _ _ _ R X N)
-
-sub-s : tie.Need-sub-s Inv-loop μ-loop
-sub-s c = omega arith
-
-cast-x : tie.Need-cast-x Inv-loop μ-loop
-cast-x c = search needs
-
-array-read-above : tie.Need-array-read-above Inv-loop μ-loop
-array-read-above c = omega arith
-
-cast-above : tie.Need-cast-above Inv-loop μ-loop
-cast-above c = search needs
-
-array-read-below : tie.Need-array-read-below Inv-loop μ-loop
-array-read-below c = omega arith
-
-array-read-below-2 : tie.Need-array-read-below-2 Inv-loop μ-loop
-array-read-below-2 c = omega arith
-
-array-write-below : tie.Need-array-write-below Inv-loop μ-loop
-array-write-below c = omega arith
-
-loop-less : tie.Need-loop-less Inv-loop μ-loop
-loop-less c = omega arith
-
-loop-again : tie.Need-loop-again Inv-loop μ-loop
-loop-again c = let w = c .before .loop .inv in (simp length-set (w .0), omega arith, w .2, λ d K R X N. seen-more d K _ (c .before .before .before .before .before .args .tree .exits) _ R X N _ _ (w .3 d K R X N) (w .0) (c .loop-test .taken) (w .1) refl)
-
-returns-2 : tie.Need-returns-2 Inv-loop μ-loop
-returns-2 c = λ d K T. seen-all d K _ (c .before .before .before .before .before .args .tree .exits) _ (rooted-of d _ T (parents-of K)) (T .exits) (T .count) _ _ (c .before .loop .inv .3 d K (rooted-of d _ T (parents-of K)) (T .exits) (T .count)) (c .loop-test .left)
+returns : tie.Need-returns
+returns c = λ d K T. exits-below K T (c .gathered .result) (c .gathered .ensures d (rooted-of d _ T (parents-of K)) (T .count))
 
 pub marked-below-spec : {M : Type 1} → statement M
-marked-below-spec =
-    tie.close
-    (tie.spec
-    Inv-loop
-    μ-loop
-    returns
-    loop-holds
-    sub-s
-    cast-x
-    array-read-above
-    cast-above
-    array-read-below
-    array-read-below-2
-    array-write-below
-    loop-less
-    loop-again
-    returns-2)
+marked-below-spec = tie.close (tie.spec gathered-requires returns)

@@ -1,8 +1,8 @@
 use borrow.Author.Needs.{needs}
 use Rattle.lists.specs.Lists.{has}
 use Rattle.flatten_alternatives.proofs.Keeping.{kept-if, kept-unless}
-use Rattle.flatten_alternatives.proofs.alternative.with_basic.Statement.{statement}
-use Rattle.flatten_alternatives.proofs.alternative.with_basic.Tie as tie
+use Rattle.flatten_alternatives.proofs.alternative.with_fixed.Statement.{statement}
+use Rattle.flatten_alternatives.proofs.alternative.with_fixed.Tie as tie
 
 byte-at-requires : tie.Need-byte-at-requires
 byte-at-requires c κs = search needs
@@ -24,7 +24,7 @@ returns c xs ys k l a =
 returns-2 : tie.Need-returns-2
 returns-2 c xs ys k l a = kept-unless _ _ (c .before .before .before .before .args .own) xs ys (c .before .has .ensures) (c .before .before .byte-at .ensures) (c .if1 .left) l
 
-pub with-basic-spec : {M : Type 1} → statement M
-with-basic-spec =
+pub with-fixed-spec : {M : Type 1} → statement M
+with-fixed-spec =
     tie.close
     (tie.spec byte-at-requires cast-has has-requires with-each-requires returns returns-2)
