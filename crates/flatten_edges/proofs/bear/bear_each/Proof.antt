@@ -33,6 +33,9 @@ mul-tested c = search needs
 element-copy-out-tested : tie.Need-element-copy-out-tested Inv-loop μ-loop
 element-copy-out-tested c = search needs
 
+exit-tested-requires : tie.Need-exit-tested-requires Inv-loop μ-loop
+exit-tested-requires c κs = search needs
+
 bearing-head-requires : tie.Need-bearing-head-requires Inv-loop μ-loop
 bearing-head-requires c κs = search needs
 
@@ -46,7 +49,7 @@ loop-less : tie.Need-loop-less Inv-loop μ-loop
 loop-less c = omega arith
 
 loop-again : tie.Need-loop-again Inv-loop μ-loop
-loop-again c = λ d p q l xs B. set-more d p q l xs _ _ _ _ _ _ _ B _ _ _ (c .before .before .before .before .before .loop .inv d p q l xs B) (c .before .before .before .before .loop-test .taken) refl refl (c .before .before .bearing-head .ensures) (c .push .ensures)
+loop-again c = λ d p q l xs B. set-more d p q l xs _ _ _ _ _ _ _ B _ _ _ _ (c .before .before .before .before .before .before .loop .inv d p q l xs B) (c .before .before .before .before .before .loop-test .taken) refl (c .before .before .before .exit-tested .ensures) refl (c .before .before .bearing-head .ensures) (c .push .ensures)
 
 returns-2 : tie.Need-returns-2 Inv-loop μ-loop
 returns-2 c = λ d p q l xs B. set-all d p q l xs _ _ _ _ _ _ _ B _ (c .before .loop .inv d p q l xs B) (c .loop-test .left)
@@ -61,6 +64,7 @@ bear-each-spec =
     loop-holds
     mul-tested
     element-copy-out-tested
+    exit-tested-requires
     bearing-head-requires
     push-requires
     add-k
