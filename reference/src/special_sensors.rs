@@ -84,9 +84,9 @@ pub fn sensor_in_a_choice() -> Chart {
     with_one_clock(2, states, transitions)
 }
 
-/// A sequential state with a plain parallel child and a basic one, below a composite that is left: the
-/// child is "at" exit 0, which its states share, and not at exit 1. A plain parallel state beside the
-/// sequential one lacks exit 1 too.
+/// A sequential state with a plain parallel child and a basic one, below a composite that is left. The
+/// plain child is "at" exit 0, which its states share, and the basic one is marked with exit 1. By
+/// exit 1 there is no alternative all the same: a plain state beside the sequential one lacks it.
 pub fn plain_in_a_choice() -> Chart {
     let states = vec![
         state(NONE, Kind::Sequential, 1, 0),
@@ -95,7 +95,7 @@ pub fn plain_in_a_choice() -> Chart {
         state(2, Kind::Parallel, 1, 0),
         state(3, Kind::Basic, 1, 3),
         state(3, Kind::Basic, 1, 1),
-        state(2, Kind::Basic, 0, 0),
+        state(2, Kind::Basic, 0, 2),
         bounded(1, Kind::Parallel, 1, 0, 8),
         bounded(7, Kind::Basic, 1, 3, 5),
         state(7, Kind::Basic, 1, 1),

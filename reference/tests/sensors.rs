@@ -158,7 +158,15 @@ fn a_plain_state_counts_as_a_basic_one_with_the_exits_that_its_states_share() {
         panic!("one edge bears transition 2");
     };
     assert_eq!((edge.exit_tested, edge.automata_tested), (Some(0), 2));
+    // By exit 1 the other plain state drops the choice of the basic child, which is marked.
     assert!(bearing(&network, 3).is_empty());
+    let mut shared = chart.clone();
+    shared.states[9].exit_marks = 3;
+    let shared = network_of(&shared).unwrap();
+    let [edge] = bearing(&shared, 3)[..] else {
+        panic!("one edge bears transition 3 once the exit is shared");
+    };
+    assert_eq!((edge.exit_tested, edge.automata_tested), (Some(1), 2));
     // A child with one sensor so marked hears the exit, though it is never left by it.
     let layout = Layout::of(&chart);
     let heard = layout.exit_channel[&(1, 1)];

@@ -272,29 +272,53 @@ fn without_states_below(machines: &Machines, child: usize) -> Bounds {
 }
 
 /// Sensors' bounds that are carried down, but do not stand where the parallel state is a location.
-#[test]
-fn sensor_bounds_that_are_only_carried_down_are_noticed() {
-    let shown = seeds_with_sensors_that_show(|machines| {
-        for (location, place) in machines.layout.places.iter().enumerate() {
-            if let Place::Child(child) = *place {
-                machines.network.locations[location].bounds = without_states_below(machines, child);
-            }
+fn carry_bounds_down_only(machines: &mut Machines) {
+    for (location, place) in machines.layout.places.iter().enumerate() {
+        if let Place::Child(child) = *place {
+            machines.network.locations[location].bounds = without_states_below(machines, child);
         }
-    });
-    assert!(shown > 10, "{shown}");
+    }
 }
 
 /// Alternatives that an unmarked sensor, or a plain state that does not share the exit, would drop.
+fn keep_every_choice(machines: &mut Machines) {
+    let marked = network_of(&with_marked_choices(&machines.chart)).unwrap();
+    let edges = &mut machines.network.edges;
+    edges.retain(|edge| edge.transition.is_none());
+    edges.extend(marked.edges.into_iter().filter(|edge| edge.transition.is_some()));
+    edges.sort_by_key(reference::network::Edge::sort_key);
+}
+
+#[test]
+fn sensor_bounds_that_are_only_carried_down_are_noticed() {
+    let shown = seeds_with_sensors_that_show(carry_bounds_down_only);
+    assert!(shown > 10, "{shown}");
+}
+
 #[test]
 fn choices_that_are_not_dropped_are_noticed() {
-    let shown = seeds_with_sensors_that_show(|machines| {
-        let marked = network_of(&with_marked_choices(&machines.chart)).unwrap();
-        let edges = &mut machines.network.edges;
-        edges.retain(|edge| edge.transition.is_none());
-        edges.extend(marked.edges.into_iter().filter(|edge| edge.transition.is_some()));
-        edges.sort_by_key(reference::network::Edge::sort_key);
-    });
+    let shown = seeds_with_sensors_that_show(keep_every_choice);
     assert!(shown > 5, "{shown}");
+}
+
+/// On small charts every run shows the two.
+#[test]
+fn both_are_noticed_in_every_run_of_charts_made_by_hand() {
+    let shows = |chart: &Chart, put_fault: fn(&mut Machines)| {
+        (0..20).all(|seed| {
+            let mut machines = machines(chart.clone());
+            put_fault(&mut machines);
+            run(&machines, seed, CALLS).is_err()
+        })
+    };
+    let (sensor, plain) =
+        (special_sensors::sensor_in_a_choice(), special_sensors::plain_in_a_choice());
+    for chart in [&special_sensors::plain_between(), &sensor, &plain] {
+        assert!(shows(chart, carry_bounds_down_only));
+    }
+    for chart in [&sensor, &plain] {
+        assert!(shows(chart, keep_every_choice));
+    }
 }
 
 /// Plain states that are at no exit, so that nothing below which they lie is left through them.
