@@ -21,7 +21,7 @@ type Rule = fn(&Chart) -> bool;
 const RULES: [(Rule, Refusal); 10] = [
     (parents_form_a_tree, Refusal::Parent),
     (few_sequential_states, Refusal::SequentialCount),
-    (no_basic_child_in_parallel, Refusal::BasicInParallel),
+    (some_sequential_state, Refusal::NoSequential),
     (entry_marks_fit, Refusal::EntryMarks),
     (exit_marks_on_basic_only, Refusal::ExitMarks),
     (ends_share_a_sequential_parent, Refusal::TransitionEnds),
@@ -51,11 +51,8 @@ fn few_sequential_states(chart: &Chart) -> bool {
     sequential.count() <= AUTOMATA
 }
 
-fn no_basic_child_in_parallel(chart: &Chart) -> bool {
-    (0..chart.states.len())
-        .filter(|&number| chart.states[number].kind == Kind::Parallel)
-        .flat_map(|number| &chart.children[number])
-        .all(|&child| chart.states[child].is_composite())
+fn some_sequential_state(chart: &Chart) -> bool {
+    chart.states.iter().any(|state| state.kind == Kind::Sequential)
 }
 
 fn entry_marks_fit(chart: &Chart) -> bool {

@@ -5,6 +5,7 @@ use std::collections::{BTreeMap, BTreeSet};
 use crate::chart::{Chart, Transition};
 use crate::chart_machine;
 use crate::check::check;
+use crate::coverage_sensors;
 use crate::expression::Expression;
 use crate::flatten::network_of;
 use crate::guard::Guard;
@@ -16,6 +17,7 @@ use crate::network_machine;
 use crate::refusal::Refusal;
 use crate::request::{Request, Success};
 use crate::run_request::{Read, RunRequest, View};
+use crate::sensors::has_sensors;
 use crate::side_by_side::{Call, Machines};
 use crate::update::{Advance, Update};
 use crate::values::Values;
@@ -57,6 +59,7 @@ pub fn features(request: &Request, layout: Option<&Layout>) -> Features {
                 for transition in &chart.transitions {
                     add_label_parts(&transition.label, &mut found);
                 }
+                coverage_sensors::add_states(&chart, &mut found);
             }
         }
         Request::Flatten(file, _) if answer.is_ok() => {
@@ -70,6 +73,21 @@ pub fn features(request: &Request, layout: Option<&Layout>) -> Features {
                 let active =
                     known.filter(|transition| configuration.active[transition.source]).collect();
                 add_chart_step_features(&chart, active, &configuration.values, &answer, &mut found);
+                coverage_sensors::add_chart_step(&chart, configuration, list, &answer, &mut found);
+            }
+        }
+        Request::ChartStart(file) if check(file).is_ok_and(|chart| has_sensors(&chart)) => {
+            found.insert("sensors".to_string());
+        }
+        Request::ChartWait(file, configuration, ticks) => {
+            if let Ok(chart) = check(file) {
+                coverage_sensors::add_chart_wait(
+                    &chart,
+                    configuration,
+                    *ticks,
+                    &answer,
+                    &mut found,
+                );
             }
         }
         Request::NetworkStep(file, configuration, list) => {
@@ -134,6 +152,7 @@ fn add_call_features(machines: &Machines, call: &Call, view: &View, found: &mut 
         None => format!("{name} ok"),
         Some(refusal) => format!("{name} refused {}", refusal.number()),
     });
+    coverage_sensors::add_call(machines, call, view, found);
     let (Call::Step(list), None) = (call, view.refusal) else {
         return;
     };
@@ -205,6 +224,7 @@ fn add_network_step_features(
             if let Some(layout) = layout {
                 found.insert(format!("leaves {}", place_name(layout.places[edge.source])));
                 found.insert(format!("reaches {}", place_name(layout.places[edge.target])));
+                coverage_sensors::add_edge(layout, edge, found);
             }
         }
     }
@@ -222,6 +242,7 @@ fn add_flatten_features(chart: &Chart, found: &mut Features) {
         add_label_parts(&edge.label, found);
         add_flag_parts(edge, found);
     }
+    coverage_sensors::add_network(chart, &network, found);
     for place in Layout::of(chart).places {
         found.insert(format!("has {}", place_name(place)));
     }

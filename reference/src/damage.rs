@@ -2,7 +2,7 @@
 
 use std::rc::Rc;
 
-use crate::chart::{Chart, Kind};
+use crate::chart::{Chart, Kind, State};
 use crate::chart_machine::ChartConfiguration;
 use crate::expression::Expression;
 use crate::label::{Label, Signal};
@@ -243,11 +243,12 @@ pub fn damage_chart(chart: &Chart, random: &mut Random) -> Chart {
     let count = states.len();
     let state = random.below(count);
     if transitions.is_empty() || random.chance(45) {
-        match random.below(5) {
+        match random.below(6) {
             0 => states[state].parent = random.below(count + 1) as u8,
             1 => states[state].kind = random.pick(&Kind::ALL),
             2 => states[state].entry_marks ^= 1 << random.below(chart.entries),
             3 if chart.exits > 0 => states[state].exit_marks ^= 1 << random.below(chart.exits),
+            4 if random.chance(40) => make_parallel(&mut states),
             _ => states.truncate(count - 1),
         }
         transitions.retain(|one| one.source < states.len() && one.destination < states.len());
@@ -264,6 +265,13 @@ pub fn damage_chart(chart: &Chart, random: &mut Random) -> Chart {
         }
     }
     Chart::new(chart.version, chart.declared, chart.entries, chart.exits, states, transitions)
+}
+
+/// Leaves no sequential state.
+fn make_parallel(states: &mut [State]) {
+    for state in states.iter_mut().filter(|state| state.kind == Kind::Sequential) {
+        state.kind = Kind::Parallel;
+    }
 }
 
 fn one_or_none(count: usize, random: &mut Random) -> Option<usize> {

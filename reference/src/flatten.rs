@@ -50,7 +50,7 @@ fn all_edges(chart: &Chart, layout: &Layout) -> Result<Vec<Edge>, Refusal> {
 
     // The alternatives are counted before they are listed.
     let by_exit: Vec<Alternatives> =
-        (0..chart.exits).map(|exit| Alternatives::of(chart, &layout.automaton, exit)).collect();
+        (0..chart.exits).map(|exit| Alternatives::of(chart, layout, exit)).collect();
     let transition_edges = chart.transitions.iter().map(|transition| match transition.exit {
         Some(exit) => by_exit[exit].count(transition.source),
         None => 1,
@@ -85,7 +85,8 @@ fn signal_edge(layout: &Layout, source: usize, target: usize, signal: Signal) ->
     edge(layout, source, target, Rc::new(Label::of_signal(signal)))
 }
 
-/// A transition has one edge, or with an exit one edge to post for each alternative.
+/// A transition has one edge, or with an exit one edge to post for each alternative. Where no
+/// automaton is tested, no exit is.
 fn add_transition_edges(
     chart: &Chart,
     layout: &Layout,
@@ -108,7 +109,7 @@ fn add_transition_edges(
             .fold(0, |values, automaton| values | (1 << automaton));
         for automata_tested in by_exit[exit].list(transition.source) {
             edges.push(Edge {
-                exit_tested: Some(exit),
+                exit_tested: (automata_tested != 0).then_some(exit),
                 automata_tested,
                 values_needed: values_at & automata_tested,
                 ..plain.clone()

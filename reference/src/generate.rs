@@ -4,10 +4,12 @@ use std::rc::Rc;
 
 use crate::chart::{Chart, Kind, State, Transition, MAIN_ENTRY};
 use crate::expression::Expression;
+use crate::generate_sensors::add_sensors;
 use crate::generate_updates::Writable;
 use crate::guard::{Guard, Relation};
 use crate::label::{Declared, Label, Signal};
-use crate::limits::{AUTOMATA, NONE, STATES, TRANSITIONS};
+use crate::limits::{AUTOMATA, FEWEST_STATES, NONE, STATES, TRANSITIONS};
+use crate::plain::Plain;
 use crate::random::Random;
 use crate::values::Bounds;
 use crate::version::Version;
@@ -20,6 +22,9 @@ pub struct Wish {
     /// children and a basic one; otherwise a random tree.
     pub regions: usize,
     pub states: usize,
+    /// How many of the states are basic states directly in parallel ones, or belong to parallel
+    /// states with no sequential state below them. If 0, there are none of either.
+    pub sensors: usize,
     pub sequential: usize,
     /// That a child large enough to be composite is composite.
     pub composite: usize,
@@ -64,6 +69,7 @@ impl Wish {
         version: Version::One,
         regions: 0,
         states: 20,
+        sensors: 0,
         sequential: 8,
         composite: 50,
         parallel: 40,
@@ -89,7 +95,7 @@ impl Wish {
     };
 
     /// The wish that belongs to a seed: seeds run through all kinds of charts in turn, first in one
-    /// version, then in the next.
+    /// version, then in the next, and then through all that again with sensors.
     pub fn from_seed(seed: u64) -> Wish {
         let mut random = Random::new(seed ^ 0x5741_4E54);
         let ordinary = Wish::ORDINARY;
@@ -202,7 +208,24 @@ impl Wish {
         };
         let version = Version::ALL[(seed / 8) as usize % Version::ALL.len()];
         let wish = Wish { transitions: wish.transitions.min(TRANSITIONS), version, ..wish };
-        wish.with_more_updates(&mut random)
+        let wish = wish.with_more_updates(&mut random);
+        if (seed / 16) % 2 == 1 {
+            wish.with_sensors(&mut random)
+        } else {
+            wish
+        }
+    }
+
+    /// With sensors, from one to about half of the states, and mostly with an exit for them.
+    fn with_sensors(self, random: &mut Random) -> Wish {
+        let states = self.states.max(5);
+        let sensors = random.between(1, 2 + states / 2);
+        let exits = self.exits.max(random.between(0, 1));
+        let transitions = self.transitions.max(4);
+        let parallel = self.parallel.max(60);
+        // So that it is often a sensor alone that keeps an exit shut.
+        let exit_marks = self.exit_marks.max(80);
+        Wish { states, sensors, exits, transitions, parallel, exit_marks, ..self }
     }
 
     /// Where there are advances, more transitions assign, so that runs make many advances.
@@ -230,9 +253,15 @@ pub fn chart_from_wish(wish: &Wish, seed: u64) -> Chart {
         broadcast: wish.broadcast,
     };
     let mut states = match wish.regions {
-        0 => tree(wish, &mut random),
+        0 => {
+            let others = wish.states.saturating_sub(wish.sensors).max(FEWEST_STATES);
+            tree(&Wish { states: others, ..*wish }, &mut random)
+        }
         count => regions(count),
     };
+    if wish.sensors > 0 {
+        add_sensors(wish.sensors, &mut random, &mut states);
+    }
     mark_entries(wish, &mut random, &mut states);
     mark_exits(wish, &mut random, &mut states);
     set_bounds(wish, &mut random, &mut states);
@@ -244,21 +273,21 @@ pub fn chart_from_wish(wish: &Wish, seed: u64) -> Chart {
 }
 
 /// A state without marks and bounds.
-fn plain(parent: u8, kind: Kind) -> State {
+pub fn unmarked(parent: u8, kind: Kind) -> State {
     State { parent, kind, entry_marks: 0, exit_marks: 0, bounds: Bounds::NONE }
 }
 
 /// The states of a chart with regions.
 fn regions(count: usize) -> Vec<State> {
-    let mut states = vec![plain(NONE, Kind::Parallel)];
+    let mut states = vec![unmarked(NONE, Kind::Parallel)];
     for _ in 0..count {
         let region = states.len() as u8;
-        states.push(plain(0, Kind::Sequential));
-        states.push(plain(region, Kind::Basic));
+        states.push(unmarked(0, Kind::Sequential));
+        states.push(unmarked(region, Kind::Basic));
         for _ in 0..2 {
             let inner = states.len() as u8;
-            states.push(plain(region, Kind::Sequential));
-            states.extend([plain(inner, Kind::Basic), plain(inner, Kind::Basic)]);
+            states.push(unmarked(region, Kind::Sequential));
+            states.extend([unmarked(inner, Kind::Basic), unmarked(inner, Kind::Basic)]);
         }
     }
     states
@@ -277,9 +306,14 @@ fn tree(wish: &Wish, random: &mut Random) -> Vec<State> {
     let mut sequential_left = wish.sequential.clamp(1, AUTOMATA);
     let mut states = Vec::new();
     let mut open = Vec::new();
-    let root_is_parallel = wish.states >= 7 && sequential_left >= 2 && random.chance(wish.parallel);
+    // With sensors one sequential child is enough, and a parallel state that can be left is wanted
+    // more than a parallel root.
+    let (fewest_regions, fewest_states, root_chance) =
+        if wish.sensors > 0 { (1, 3, wish.parallel * 2 / 3) } else { (2, 7, wish.parallel) };
+    let root_may_be_parallel = wish.states >= fewest_states && sequential_left >= fewest_regions;
+    let root_is_parallel = root_may_be_parallel && random.chance(root_chance);
     let root_kind = if root_is_parallel { Kind::Parallel } else { Kind::Sequential };
-    states.push(plain(NONE, root_kind));
+    states.push(unmarked(NONE, root_kind));
     sequential_left -= usize::from(root_kind == Kind::Sequential);
     open_children(wish, random, 0, root_kind, wish.states - 1, &mut sequential_left, &mut open);
     while !open.is_empty() {
@@ -287,14 +321,14 @@ fn tree(wish: &Wish, random: &mut Random) -> Vec<State> {
         let number = states.len();
         // A sequential state that a parallel parent needs was taken from the number left already.
         let may_be_sequential = must_be_composite || (size >= 2 && sequential_left >= 1);
-        let may_be_parallel = size >= 5 && sequential_left >= 2;
+        let may_be_parallel = size > 2 * fewest_regions && sequential_left >= fewest_regions;
         let composite = must_be_composite || (may_be_sequential && random.chance(wish.composite));
         let kind = match (composite, may_be_parallel && random.chance(wish.parallel)) {
             (false, _) => Kind::Basic,
             (true, false) => Kind::Sequential,
             (true, true) => Kind::Parallel,
         };
-        states.push(plain(parent as u8, kind));
+        states.push(unmarked(parent as u8, kind));
         match (kind, must_be_composite) {
             (Kind::Sequential, false) => sequential_left -= 1,
             (Kind::Parallel, true) => sequential_left += 1,
@@ -308,7 +342,7 @@ fn tree(wish: &Wish, random: &mut Random) -> Vec<State> {
     let sequential: Vec<usize> =
         (0..states.len()).filter(|&number| states[number].kind == Kind::Sequential).collect();
     while states.len() < wish.states {
-        states.push(plain(random.pick(&sequential) as u8, Kind::Basic));
+        states.push(unmarked(random.pick(&sequential) as u8, Kind::Basic));
     }
     states
 }
@@ -373,11 +407,21 @@ fn mark_entries(wish: &Wish, random: &mut Random, states: &mut [State]) {
     }
 }
 
+/// Sensors are marked more often than others, since one that is not keeps an exit shut.
 fn mark_exits(wish: &Wish, random: &mut Random, states: &mut [State]) {
-    for state in states.iter_mut().filter(|state| state.kind == Kind::Basic) {
+    for number in 0..states.len() {
+        if states[number].kind != Kind::Basic {
+            continue;
+        }
+        let in_parallel = states[usize::from(states[number].parent)].kind == Kind::Parallel;
+        let chance = match in_parallel {
+            true if random.chance(5) => 0,
+            true => wish.exit_marks.max(85),
+            false => wish.exit_marks,
+        };
         for exit in 0..wish.exits {
-            if random.chance(wish.exit_marks) {
-                state.exit_marks |= 1 << exit;
+            if random.chance(chance) {
+                states[number].exit_marks |= 1 << exit;
             }
         }
     }
@@ -437,7 +481,7 @@ fn one_transition(
     let destination = if random.chance(wish.self_loops) { source } else { destination };
     let exit = match chart.states[source].is_composite() {
         true if wish.exits == 0 => return None,
-        true => Some(random.below(wish.exits)),
+        true => Some(one_exit(wish, random, chart, source)),
         false => None,
     };
     let entry = match chart.states[destination].is_composite() {
@@ -457,6 +501,17 @@ fn one_transition(
         if random.chance(chance) { one_signal(wish, random, chart, parent) } else { Signal::None };
     let label = Rc::new(one_label(wish, writable, random, signal));
     Some(Transition { source, destination, exit, entry, label })
+}
+
+/// Any exit; for a plain source mostly one that all its states share, if there is one.
+fn one_exit(wish: &Wish, random: &mut Random, chart: &Chart, source: usize) -> usize {
+    let exits = Plain::of(chart).exits(source);
+    let shared: Vec<usize> = (0..wish.exits).filter(|&exit| exits & (1 << exit) != 0).collect();
+    if !shared.is_empty() && random.chance(70) {
+        random.pick(&shared)
+    } else {
+        random.below(wish.exits)
+    }
 }
 
 /// A signal on a channel that no transition above or below `parent` uses, or none.

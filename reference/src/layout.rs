@@ -6,6 +6,7 @@ use crate::chart::{Chart, Kind, ROOT};
 use crate::chart_machine;
 use crate::limits::STATES;
 use crate::network::Location;
+use crate::plain::Plain;
 use crate::values::Bounds;
 
 /// What a location of the network stands for.
@@ -26,10 +27,13 @@ pub struct Layout {
     pub sequential: Vec<usize>,
     /// The automaton of each state that is sequential.
     pub automaton: Vec<Option<usize>>,
+    /// The states without a sequential state at or below them, their exits, and all own bounds.
+    pub plain: Plain,
     /// What each location stands for.
     pub places: Vec<Place>,
     pub locations: Vec<Location>,
-    /// The exits that each location is "at": those marked on a basic child.
+    /// The exits that each location is "at": those marked on a basic child, and those that all
+    /// basic states below a plain one share.
     pub at: Vec<u8>,
     /// The idle location of each automaton.
     pub idle: Vec<usize>,
@@ -60,6 +64,7 @@ impl Layout {
         let mut layout = Layout {
             sequential,
             automaton,
+            plain: Plain::of(chart),
             places: Vec::new(),
             locations: Vec::new(),
             at: Vec::new(),
@@ -81,10 +86,11 @@ impl Layout {
     /// Adds the locations of an automaton in order: idle, children, pre, post.
     fn add_automaton(&mut self, chart: &Chart, number: usize, initially_active: &[bool; STATES]) {
         let sequential = self.sequential[number];
-        let idle = self.add(chart, number, Place::Idle, Bounds::NONE);
+        let idle = self.add(number, Place::Idle, Bounds::NONE);
         self.idle.push(idle);
         for &child in &chart.children[sequential] {
-            let location = self.add(chart, number, Place::Child(child), carried(chart, child));
+            let bounds = carried(chart, &self.plain, child);
+            let location = self.add(number, Place::Child(child), bounds);
             self.child[child] = Some(location);
         }
         let own_pairs: Vec<(usize, usize)> = self
@@ -94,15 +100,15 @@ impl Layout {
             .filter(|&(destination, _)| chart.parent(destination) == Some(sequential))
             .collect();
         for pair in own_pairs {
-            let bounds = bounds_on_entering(chart, pair.0, pair.1);
-            let location = self.add(chart, number, Place::Pre(pair.0, pair.1), bounds);
+            let bounds = bounds_on_entering(chart, &self.plain, pair.0, pair.1);
+            let location = self.add(number, Place::Pre(pair.0, pair.1), bounds);
             self.pre.insert(pair, location);
         }
         for transition in 0..chart.transitions.len() {
             let has_exit = chart.transitions[transition].exit.is_some();
             if has_exit && chart.parent_of_transition(transition) == sequential {
                 let bounds = self.locations[self.after_exit(chart, transition)].bounds;
-                let location = self.add(chart, number, Place::Post(transition), bounds);
+                let location = self.add(number, Place::Post(transition), bounds);
                 self.post[transition] = Some(location);
             }
         }
@@ -115,12 +121,12 @@ impl Layout {
         self.initial.push(initial);
     }
 
-    fn add(&mut self, chart: &Chart, automaton: usize, place: Place, bounds: Bounds) -> usize {
+    fn add(&mut self, automaton: usize, place: Place, bounds: Bounds) -> usize {
         let urgent = matches!(place, Place::Pre(..) | Place::Post(_));
         self.locations.push(Location { automaton, urgent, initial: false, bounds });
         self.places.push(place);
         self.at.push(match place {
-            Place::Child(child) => chart.states[child].exit_marks,
+            Place::Child(child) => self.plain.exits(child),
             _ => 0,
         });
         self.locations.len() - 1
@@ -181,8 +187,8 @@ fn added_channels(chart: &Chart) -> (PairChannels, PairChannels) {
 
 /// A state's bounds, joined with those of each state above it for as long as that one is the
 /// root or a parallel state's child.
-fn carried(chart: &Chart, state: usize) -> Bounds {
-    let mut bounds = chart.states[state].bounds;
+fn carried(chart: &Chart, plain: &Plain, state: usize) -> Bounds {
+    let mut bounds = *plain.own_bounds(state);
     let mut next = chart.parent(state);
     while let Some(above) = next {
         next = chart.parent(above);
@@ -191,16 +197,16 @@ fn carried(chart: &Chart, state: usize) -> Bounds {
         if above != ROOT && !child_of_parallel {
             break;
         }
-        bounds = bounds.join(&chart.states[above].bounds);
+        bounds = bounds.join(plain.own_bounds(above));
     }
     bounds
 }
 
 /// The joined bounds of all states that the entry enters, the destination included, each with
 /// what it carries from above.
-fn bounds_on_entering(chart: &Chart, destination: usize, entry: usize) -> Bounds {
+fn bounds_on_entering(chart: &Chart, plain: &Plain, destination: usize, entry: usize) -> Bounds {
     chart
         .entered(destination, entry)
         .into_iter()
-        .fold(Bounds::NONE, |bounds, state| bounds.join(&carried(chart, state)))
+        .fold(Bounds::NONE, |bounds, state| bounds.join(&carried(chart, plain, state)))
 }

@@ -16,8 +16,8 @@ pub enum Refusal {
     Parent = 5,
     /// There are more than 16 sequential states.
     SequentialCount = 6,
-    /// A parallel state has a basic child.
-    BasicInParallel = 7,
+    /// There is no sequential state.
+    NoSequential = 7,
     /// The entry marks are inconsistent.
     EntryMarks = 8,
     /// A composite state has exit marks.
@@ -67,7 +67,7 @@ impl Refusal {
         Refusal::ChartField,
         Refusal::Parent,
         Refusal::SequentialCount,
-        Refusal::BasicInParallel,
+        Refusal::NoSequential,
         Refusal::EntryMarks,
         Refusal::ExitMarks,
         Refusal::TransitionEnds,

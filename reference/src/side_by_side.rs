@@ -16,6 +16,8 @@ use crate::network_machine::{self, NetworkConfiguration};
 use crate::picture::picture;
 use crate::random::Random;
 use crate::refusal::Refusal;
+use crate::sensor_tally::{SensorFacts, SensorTally};
+use crate::sensors::tests_nothing;
 use crate::take_up::{sole_advances, TakeUps};
 use crate::update::Advance;
 
@@ -30,6 +32,7 @@ pub struct Machines {
     /// The advances that alone write their variables, in the chart and in the network.
     pub chart_advances: Vec<Advance>,
     pub network_advances: Vec<Advance>,
+    pub sensors: SensorFacts,
 }
 
 impl Machines {
@@ -42,6 +45,7 @@ impl Machines {
             layout: Layout::of(&chart),
             chart_advances: sole_advances(chart_labels),
             network_advances: sole_advances(network_labels),
+            sensors: SensorFacts::of(&chart, &network),
             chart,
             network,
         })
@@ -87,6 +91,7 @@ pub struct Tally {
     pub take_ups: u64,
     /// The most times that such an advance was made in one run.
     pub most_advances: u64,
+    pub sensors: SensorTally,
 }
 
 impl Tally {
@@ -105,6 +110,7 @@ impl Tally {
         self.most_owed = self.most_owed.max(other.most_owed);
         self.take_ups += other.take_ups;
         self.most_advances = self.most_advances.max(other.most_advances);
+        self.sensors.add(&other.sensors);
     }
 }
 
@@ -169,6 +175,17 @@ pub fn run_chart_list(
     })
 }
 
+/// A random network list and a random chart list, each of this length.
+pub fn run_both_lists(
+    machines: &Machines,
+    calls: usize,
+    random: &mut Random,
+) -> Result<Tally, Failure> {
+    let mut tally = run_network_list(machines, calls, random)?;
+    tally.add(&run_chart_list(machines, calls, random)?);
+    Ok(tally)
+}
+
 /// Makes so many calls, and tests every clause before the first and after each.
 fn run_list(
     machines: &Machines,
@@ -199,7 +216,11 @@ impl<'a> Moment<'a> {
             chart_list: Vec::new(),
             chart_take_ups: TakeUps::none_made(&machines.chart_advances),
             network_take_ups: TakeUps::none_made(&machines.network_advances),
-            tally: Tally { runs: 1, ..Tally::default() },
+            tally: Tally {
+                runs: 1,
+                sensors: machines.sensors.at_start.clone(),
+                ..Tally::default()
+            },
         }
     }
 
@@ -228,6 +249,7 @@ impl<'a> Moment<'a> {
             Err(refusal) => {
                 // A refused call adds nothing, and what it was given stays as it is.
                 self.tally.network_refusals[usize::from(refusal.number())] += 1;
+                self.count_refused_wait(call, refusal);
                 return Ok(Some(refusal));
             }
         };
@@ -270,7 +292,32 @@ impl<'a> Moment<'a> {
             self.owed += usize::from(transition.entry.is_some());
         }
         self.tally.most_owed = self.tally.most_owed.max(self.owed);
+        self.count_sensors_of_move(list, &carried);
         self.add_to_chart_list(Call::Step(carried))
+    }
+
+    fn count_sensors_of_move(&mut self, list: &[u16], carried: &[u16]) {
+        let Machines { chart, network, sensors, .. } = self.machines;
+        let tests_nothing =
+            |&number: &u16| tests_nothing(chart, &network.edges[usize::from(number)]);
+        let to_plain = |&number: &u16| sensors.leads_to_plain(chart, usize::from(number));
+        let tally = &mut self.tally.sensors;
+        tally.moves_without_test += u64::from(list.iter().any(tests_nothing));
+        tally.moves_to_plain += u64::from(carried.iter().any(to_plain));
+    }
+
+    fn count_exits_shut(&mut self) {
+        let Machines { chart, sensors, .. } = self.machines;
+        let (of_plain, of_others) = sensors.exits_shut(chart, &self.chart);
+        self.tally.sensors.plain_exits_shut += of_plain;
+        self.tally.sensors.exits_shut += of_others;
+    }
+
+    fn count_refused_wait(&mut self, call: &Call, refusal: Refusal) {
+        if let (Call::Wait(ticks), Refusal::BoundBroken) = (call, refusal) {
+            let by_sensor = self.machines.sensors.refuse_wait(&self.chart, *ticks);
+            self.tally.sensors.waits_refused += u64::from(by_sensor);
+        }
     }
 
     /// Each addition is called on the chart at once and must be accepted.
@@ -297,6 +344,7 @@ impl<'a> Moment<'a> {
         if let Err(refusal) = self.chart_answer(call) {
             self.tally.chart_calls += 1;
             self.tally.chart_refusals[usize::from(refusal.number())] += 1;
+            self.count_refused_wait(call, refusal);
             // No network move carries a list that the chart refuses; a wait is refused alike.
             return self.test_chart_call(call);
         }
@@ -365,6 +413,7 @@ impl<'a> Moment<'a> {
             self.network == picture(&self.machines.chart, &self.machines.layout, &self.chart),
             "with none owed, the network's configuration is not the picture of the chart's",
         )?;
+        self.count_exits_shut();
         let mut lists = Vec::new();
         for list in &moves {
             let carried = self.carried(list);

@@ -19,6 +19,7 @@ use crate::request::Request;
 use crate::run_request::RunRequest;
 use crate::side_by_side::{random_network_list, Call, Machines};
 use crate::special;
+use crate::special_sensors;
 use crate::update::{Advance, Update};
 use crate::values::Values;
 use crate::walk::{chart_requests, network_requests};
@@ -171,7 +172,7 @@ fn longest() -> Part {
 }
 
 fn special_charts() -> Vec<Chart> {
-    vec![
+    let mut charts = vec![
         special::sample_1(),
         special::sample_3(),
         special::dense(),
@@ -182,7 +183,10 @@ fn special_charts() -> Vec<Chart> {
         special::nested_channel(),
         special::chart_with_sequential_children(15),
         special::chart_with_sequential_children(16),
-    ]
+        special_sensors::no_sequential_state(),
+    ];
+    charts.extend(special_sensors::with_sensors());
+    charts
 }
 
 /// Wishes for charts that are small enough for many requests to fit.
@@ -192,6 +196,7 @@ fn small_wish(seed: u64) -> Wish {
     let variables = if wish.version.has_advances() { 4 } else { 3 };
     Wish {
         states: wish.states.min(14),
+        sensors: wish.sensors.min(7),
         transitions: wish.transitions.min(8),
         entries: wish.entries.min(3),
         exits: wish.exits.min(2),

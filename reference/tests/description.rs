@@ -45,7 +45,7 @@ fn generated_charts_and_their_networks_come_back() {
 
 #[test]
 fn the_samples_are_what_their_texts_say_and_pass() {
-    let samples: [(&str, &[u8]); 5] = [
+    let samples: [(&str, &[u8]); 6] = [
         (
             include_str!("../../samples/one_step.txt"),
             include_bytes!("../../samples/one_step.chart"),
@@ -57,6 +57,7 @@ fn the_samples_are_what_their_texts_say_and_pass() {
             include_str!("../../samples/fractional.txt"),
             include_bytes!("../../samples/fractional.chart"),
         ),
+        (include_str!("../../samples/sensors.txt"), include_bytes!("../../samples/sensors.chart")),
     ];
     for (text, file) in samples {
         assert_eq!(assemble(text).as_deref(), Ok(file), "{text}");

@@ -3,6 +3,7 @@
 use std::collections::BTreeMap;
 
 use reference::chart::{Chart, Kind};
+use reference::chart_machine;
 use reference::check::check;
 use reference::expression::Expression;
 use reference::flatten::network_of;
@@ -10,8 +11,10 @@ use reference::generate::{chart_from_seed, chart_from_wish, Wish};
 use reference::label::Signal;
 use reference::limits::{CLOCKS, STATES, VARIABLES};
 use reference::network::Network;
+use reference::sensors::{has_sensors, is_in, is_sensor, plain_states};
 use reference::take_up::sole_advances;
 use reference::update::{Advance, Update};
+use reference::values::Bounds;
 use reference::version::Version;
 
 const CHARTS: u64 = 4_000;
@@ -200,6 +203,64 @@ fn half_of_the_charts_have_version_2_and_advances_of_every_kind() {
         assert!(denominators[&denominator] > 100, "{denominator}");
     }
     assert!(numerators.len() > 500 && denominators.len() > 500);
+}
+
+#[test]
+fn half_of_the_charts_have_sensors_at_every_place() {
+    let (mut with_sensors, mut sensors_of_roots) = (0, 0);
+    let mut depths = [0; STATES];
+    // By whether they have bounds, and by whether they have marks.
+    let mut kinds = BTreeMap::new();
+    for seed in 0..CHARTS {
+        let chart = chart_from_seed(seed);
+        if (seed / 16) % 2 == 0 {
+            assert!(!has_sensors(&chart) && plain_states(&chart).is_empty(), "seed {seed}");
+        }
+        with_sensors += u64::from(has_sensors(&chart));
+        for state in (0..chart.states.len()).filter(|&state| is_sensor(&chart, state)) {
+            depths[depth(&chart, state)] += 1;
+            let one = &chart.states[state];
+            let kind = (one.bounds != Bounds::NONE, one.exit_marks != 0);
+            *kinds.entry(kind).or_insert(0) += 1;
+            sensors_of_roots += u64::from(chart.parent(state) == Some(0));
+        }
+    }
+    println!("{with_sensors} charts with sensors, {sensors_of_roots} sensors of roots");
+    println!("sensors by depth {depths:?}, by bounds and marks {kinds:?}");
+    assert!(with_sensors > CHARTS * 2 / 5 && sensors_of_roots > 500);
+    assert!(depths[1..8].iter().all(|&count| count > 100) && depths[10] > 0);
+    assert!(kinds.len() == 4 && kinds.values().all(|&count| count > 200));
+}
+
+#[test]
+fn plain_states_are_drawn_at_every_place() {
+    let mut places = BTreeMap::new();
+    for seed in 0..CHARTS {
+        let chart = chart_from_seed(seed);
+        for state in plain_states(&chart) {
+            let root_is = chart.states[0].kind;
+            let in_root = chart.parent(state) == Some(0);
+            let is_end = |end: usize| end == state;
+            let cases = [
+                ("in a sequential state", is_in(&chart, state, Kind::Sequential)),
+                ("in a parallel state", is_in(&chart, state, Kind::Parallel)),
+                ("in a sequential root", in_root && root_is == Kind::Sequential),
+                ("in a parallel root", in_root && root_is == Kind::Parallel),
+                ("with a plain state in it", {
+                    let mut below = plain_states(&chart).into_iter();
+                    below.any(|other| chart.parent(other) == Some(state))
+                }),
+                ("source", chart.transitions.iter().any(|one| is_end(one.source))),
+                ("destination", chart.transitions.iter().any(|one| is_end(one.destination))),
+                ("active at the start", chart_machine::start(&chart).active[state]),
+            ];
+            for (name, _) in cases.into_iter().filter(|(_, holds)| *holds) {
+                *places.entry(name).or_insert(0) += 1;
+            }
+        }
+    }
+    println!("plain states: {places:?}");
+    assert!(places.len() == 8 && places.values().all(|&count| count > 100), "{places:?}");
 }
 
 /// The ordinary input of the benchmark is one of these, and its times are compared across changes: a

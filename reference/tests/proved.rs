@@ -5,7 +5,9 @@
 use reference::binary_form::{requests_from_bytes, AnyRequest};
 use reference::compare::Agreed;
 use reference::random::Random;
+use reference::request::Request;
 use reference::special;
+use reference::special_sensors;
 use reference::text_form::request_from_text;
 
 #[test]
@@ -44,10 +46,15 @@ fn charts_at_the_limits_agree() {
         special::chart_with_edges(1025),
         special::most_alternatives(),
         special::most_advances(),
+        special_sensors::most_sensors(),
     ];
-    for chart in charts {
+    for chart in charts.into_iter().chain(special_sensors::with_sensors()) {
         agreed.compare_chart(&chart, 40, &mut random);
     }
     agreed.compare_chart(&special::longest_network(), 1, &mut random);
+    let refused = special_sensors::no_sequential_state().write();
+    agreed.compare(&Request::Check(refused.clone()));
+    agreed.compare(&Request::Flatten(refused.clone(), 1_000));
+    agreed.compare(&Request::ChartStart(refused));
     println!("{agreed}");
 }

@@ -10,13 +10,16 @@ use reference::damage::damage_chart;
 use reference::flatten::network_of;
 use reference::generate::chart_from_seed;
 use reference::label::{Label, Signal};
-use reference::layout::Place;
+use reference::layout::{Layout, Place};
 use reference::limits::NONE;
 use reference::network_machine;
 use reference::random::Random;
-use reference::side_by_side::{run_chart_list, run_network_list, Failure, Machines, Tally};
+use reference::sensors::{has_sensors, plain_states, with_marked_choices};
+use reference::side_by_side::{run_both_lists, Failure, Machines, Tally};
 use reference::special;
+use reference::special_sensors;
 use reference::update::{Advance, Update};
+use reference::values::Bounds;
 use reference::version::Version;
 
 const CHARTS: u64 = 2_000;
@@ -28,10 +31,7 @@ fn machines(chart: Chart) -> Machines {
 
 /// One network list and one chart list.
 fn run(machines: &Machines, seed: u64, calls: usize) -> Result<Tally, Failure> {
-    let mut random = Random::new(seed);
-    let mut tally = run_network_list(machines, calls, &mut random)?;
-    tally.add(&run_chart_list(machines, calls, &mut random)?);
-    Ok(tally)
+    run_both_lists(machines, calls, &mut Random::new(seed))
 }
 
 #[test]
@@ -59,6 +59,22 @@ fn every_clause_holds_on_random_runs() {
     }
     assert!(tally.network_refusals[27] > 100);
     assert!(tally.most_owed >= 6);
+    let sensors = tally.sensors;
+    assert!(sensors.with_sensors > 1_500 && sensors.with_sensors < tally.runs * 2 / 3);
+    for with in [
+        sensors.with_bounded_sensors,
+        sensors.with_plain_in_sequential,
+        sensors.with_plain_in_parallel,
+        sensors.with_plain_in_root,
+        sensors.with_plain_sources,
+        sensors.with_plain_destinations,
+    ] {
+        assert!(with > 500, "{sensors:#?}");
+    }
+    assert!(sensors.with_dropped_choices > 100 && sensors.dropped_choices > 500);
+    assert!(sensors.edges_without_test > 5_000 && sensors.moves_without_test > 1_500);
+    assert!(sensors.moves_to_plain > 1_500 && sensors.plain_exits_shut > 5_000);
+    assert!(sensors.waits_refused > 500);
 }
 
 #[test]
@@ -72,9 +88,10 @@ fn every_clause_holds_on_special_charts() {
         special::many_equal_choices(),
         special::chart_with_sequential_children(15),
         special::most_advances(),
+        special_sensors::most_sensors(),
     ];
     let mut most_owed = 0;
-    for chart in charts {
+    for chart in charts.into_iter().chain(special_sensors::with_sensors()) {
         let machines = machines(chart);
         for seed in 0..5 {
             let tally = run(&machines, seed, CALLS).unwrap_or_else(|failure| panic!("{failure}"));
@@ -108,7 +125,17 @@ fn seeds_that_show(put_fault: impl Fn(&mut Machines)) -> usize {
         put_fault(&mut machines);
         run(&machines, seed, CALLS).is_err()
     };
-    (0..120).filter(shows).count()
+    (0..300).filter(shows).count()
+}
+
+/// The same of charts with sensors.
+fn seeds_with_sensors_that_show(put_fault: impl Fn(&mut Machines)) -> usize {
+    let shows = |&seed: &u64| {
+        let mut machines = machines(chart_from_seed(seed));
+        put_fault(&mut machines);
+        has_sensors(&machines.chart) && run(&machines, seed, CALLS).is_err()
+    };
+    (0..400).filter(shows).count()
 }
 
 /// Puts the same change into the labels of a chart and of its network, so that the two still agree.
@@ -232,6 +259,101 @@ fn dropped_bounds_of_parallel_parents_are_noticed() {
         }
     });
     assert!(shown > 5, "{shown}");
+}
+
+/// The bounds that the location of a parallel child has if those of the states below it do not count.
+fn without_states_below(machines: &Machines, child: usize) -> Bounds {
+    let mut chart = machines.chart.clone();
+    for state in chart.at_or_below(child).into_iter().skip(1) {
+        chart.states[state].bounds = Bounds::NONE;
+    }
+    let layout = Layout::of(&chart);
+    layout.locations[layout.location_of_child(child)].bounds
+}
+
+/// Sensors' bounds that are carried down, but do not stand where the parallel state is a location.
+fn carry_bounds_down_only(machines: &mut Machines) {
+    for (location, place) in machines.layout.places.iter().enumerate() {
+        if let Place::Child(child) = *place {
+            machines.network.locations[location].bounds = without_states_below(machines, child);
+        }
+    }
+}
+
+/// Alternatives that an unmarked sensor, or a plain state that does not share the exit, would drop.
+fn keep_every_choice(machines: &mut Machines) {
+    let marked = network_of(&with_marked_choices(&machines.chart)).unwrap();
+    let edges = &mut machines.network.edges;
+    edges.retain(|edge| edge.transition.is_none());
+    edges.extend(marked.edges.into_iter().filter(|edge| edge.transition.is_some()));
+    edges.sort_by_key(reference::network::Edge::sort_key);
+}
+
+#[test]
+fn sensor_bounds_that_are_only_carried_down_are_noticed() {
+    let shown = seeds_with_sensors_that_show(carry_bounds_down_only);
+    assert!(shown > 10, "{shown}");
+}
+
+#[test]
+fn choices_that_are_not_dropped_are_noticed() {
+    let shown = seeds_with_sensors_that_show(keep_every_choice);
+    assert!(shown > 5, "{shown}");
+}
+
+/// On small charts every run shows the two.
+#[test]
+fn both_are_noticed_in_every_run_of_charts_made_by_hand() {
+    let shows = |chart: &Chart, put_fault: fn(&mut Machines)| {
+        (0..20).all(|seed| {
+            let mut machines = machines(chart.clone());
+            put_fault(&mut machines);
+            run(&machines, seed, CALLS).is_err()
+        })
+    };
+    let (sensor, plain) =
+        (special_sensors::sensor_in_a_choice(), special_sensors::plain_in_a_choice());
+    for chart in [&special_sensors::plain_between(), &sensor, &plain] {
+        assert!(shows(chart, carry_bounds_down_only));
+    }
+    for chart in [&sensor, &plain] {
+        assert!(shows(chart, keep_every_choice));
+    }
+}
+
+/// Plain states that are at no exit, so that nothing below which they lie is left through them.
+#[test]
+fn plain_states_that_do_not_count_are_noticed() {
+    let shown = seeds_with_sensors_that_show(|machines| {
+        let mut chart = machines.chart.clone();
+        for plain in plain_states(&chart) {
+            for state in chart.at_or_below(plain) {
+                chart.states[state].exit_marks = 0;
+            }
+        }
+        machines.layout = Layout::of(&chart);
+        machines.network = network_of(&chart).unwrap();
+    });
+    assert!(shown > 10, "{shown}");
+}
+
+/// A plain state at every exit that one of its states is marked with.
+#[test]
+fn exits_that_one_state_lacks_are_noticed() {
+    let shown = seeds_with_sensors_that_show(|machines| {
+        let mut chart = machines.chart.clone();
+        for plain in plain_states(&chart) {
+            let below = chart.at_or_below(plain);
+            let marks = below.iter().fold(0, |marks, &one| marks | chart.states[one].exit_marks);
+            for state in below {
+                let basic = !chart.states[state].is_composite();
+                chart.states[state].exit_marks = if basic { marks } else { 0 };
+            }
+        }
+        machines.layout = Layout::of(&chart);
+        machines.network = network_of(&chart).unwrap();
+    });
+    assert!(shown > 10, "{shown}");
 }
 
 #[test]

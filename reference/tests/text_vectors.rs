@@ -2,10 +2,12 @@
 
 use std::collections::BTreeSet;
 
+use reference::chart::Chart;
 use reference::coverage::operation_name;
 use reference::faulty::all_faulty;
 use reference::refusal::Refusal;
 use reference::request::Request;
+use reference::special_sensors;
 use reference::text_form::{answer_line, request_from_text, request_to_text, MALFORMED};
 
 const REQUESTS: &str = include_str!("../vectors/text.requests");
@@ -55,6 +57,20 @@ fn both_versions_and_every_fault_of_an_advance_are_there() {
         .collect();
     // Eight operations in two versions.
     assert_eq!(kinds.len(), 8 * 2, "{kinds:?}");
+}
+
+#[test]
+fn sensors_and_a_chart_without_a_sequential_state_are_there() {
+    let answer = |chart: Chart| {
+        let line = request_to_text(&Request::Check(chart.write()));
+        let found = REQUESTS.lines().zip(ANSWERS.lines()).find(|(other, _)| *other == line);
+        found.unwrap_or_else(|| panic!("{line}")).1
+    };
+    assert_eq!(answer(special_sensors::no_sequential_state()), "7");
+    for chart in special_sensors::with_sensors() {
+        assert_eq!(answer(chart), "0");
+    }
+    assert_eq!(answer(special_sensors::most_sensors()), "0");
 }
 
 #[test]

@@ -1,6 +1,6 @@
 //! The vector file for programs: what is in the repository is what is written, and it covers every
-//! refusal, every kind of guard, relation, signal and place, and both versions with every kind of
-//! advance and every fault of one.
+//! refusal, every kind of guard, relation, signal and place, both versions with every kind of
+//! advance and every fault of one, and sensors and plain parallel states at every place.
 
 use std::fs;
 use std::path::Path;
@@ -108,6 +108,34 @@ fn faults(operation: &str, number: impl Fn(&Faulty) -> Refusal) -> Vec<String> {
     all_faulty().iter().map(name).collect()
 }
 
+/// The sensors and plain parallel states of a chart.
+const SENSORS: [&str; 11] = [
+    "sensor with bounds, with marks",
+    "sensor with bounds, without marks",
+    "sensor without bounds, with marks",
+    "sensor without bounds, without marks",
+    "sensor in the root",
+    "plain in a sequential state",
+    "plain in a parallel state",
+    "plain in a sequential root",
+    "plain in a parallel root",
+    "plain source",
+    "plain destination",
+];
+
+/// What flattening makes of them.
+const FLATTENED_SENSORS: [&str; 9] = [
+    "sensor's bound at a parallel state",
+    "sensor's bound carried down",
+    "sensor's bound in pre",
+    "sensor's bound in post",
+    "choice dropped",
+    "edge to post that tests no exit",
+    "plain source without an edge",
+    "plain at no exit",
+    "plain at an exit",
+];
+
 const SETS: [&str; 6] = [
     "set without signal",
     "set on a rendezvous channel",
@@ -182,6 +210,12 @@ fn the_chart_requests_cover_everything() {
     assert_covered(counts, parts("chart step", &ends));
     assert_covered(counts, refusals("chart wait", [17, 21, 22]));
     assert_covered(counts, parts("chart wait", &["ok"]));
+    assert_covered(counts, parts("check", &SENSORS));
+    assert_covered(counts, parts("chart start", &["sensors"]));
+    let sensors = ["from plain", "to plain", "exit shut by a sensor"];
+    assert_covered(counts, parts("chart step", &sensors));
+    assert_covered(counts, parts("chart step", &["refused by a sensor's bound"]));
+    assert_covered(counts, parts("chart wait", &["refused by a sensor's bound"]));
 }
 
 #[test]
@@ -189,6 +223,8 @@ fn the_flatten_requests_cover_everything() {
     let counts = &part("flatten").counts;
     assert_covered(counts, refusals("flatten", 1..=16));
     assert_covered(counts, parts("flatten", &LABEL_PARTS));
+    assert_covered(counts, parts("flatten", &SENSORS));
+    assert_covered(counts, parts("flatten", &FLATTENED_SENSORS));
     assert_covered(counts, parts("flatten", &["version 1", "version 2"]));
     assert_covered(counts, parts("flatten", &ADVANCES));
     assert_covered(counts, faults("flatten", |one| one.chart_refusal));
@@ -232,6 +268,7 @@ fn the_network_requests_cover_everything() {
     let reaches = places.map(|place| format!("network step: reaches {place}"));
     assert_covered(counts, leaves);
     assert_covered(counts, reaches);
+    assert_covered(counts, parts("network step", &["edge to post that tests no exit"]));
     let flags = [
         "flag test false",
         "flag test of 0: true, of 1: false",
@@ -248,6 +285,8 @@ fn the_runs_cover_everything() {
     assert_covered(counts, refusals("side by side", 1..=15));
     assert_covered(counts, parts("side by side", &["version 1", "version 2"]));
     assert_covered(counts, parts("side by side", &["move with an advance"]));
+    let sensors = ["move that tests no exit", "move to plain", "wait refused by a sensor's bound"];
+    assert_covered(counts, parts("side by side", &sensors));
     assert_covered(counts, faults("side by side", |one| one.chart_refusal));
     let refused = |call, numbers: &[u8]| -> Vec<String> {
         numbers.iter().map(|number| format!("side by side: {call} refused {number}")).collect()

@@ -14,7 +14,7 @@ fn of_states(k: u8) {
         4 => text(b"a field is out of range"),
         5 => text(b"a parent is not a composite of smaller number, or a composite has no child"),
         6 => text(b"there are over 16 sequential states"),
-        7 => text(b"a parallel state has a basic child"),
+        7 => text(b"there is no sequential state"),
         8 => text(b"entry marks do not fit together"),
         9 => text(b"a composite has exit marks"),
         _ => {}

@@ -1,9 +1,10 @@
-//! Times every operation on a small, an ordinary and the largest input and on one with many advances,
-//! and flattening on more, and prints two tables.
+//! Times every operation on a small, an ordinary and the largest input, on one with many advances and
+//! on one with many sensors, and flattening on more, and prints two tables.
 //!
 //! Each operation reads its file anew, as its description says. Implementations are compared in
 //! one run over the same inputs: the first of the list is this one; with the feature `proved` the
-//! other is the proved one, and the tables give the ratio of its times to the first.
+//! other is the proved one, and the tables give the ratio of its times to the first. A size whose
+//! chart one of them refuses, as a library from before there were sensors does, is left out.
 
 use std::hint::black_box;
 use std::time::{Duration, Instant};
@@ -17,6 +18,7 @@ use reference::random::Random;
 use reference::refusal::Refusal;
 use reference::request::{Request, Success};
 use reference::special;
+use reference::special_sensors;
 use reference::walk::{chart_requests, network_requests};
 
 /// Something that answers requests, and flattens into a buffer.
@@ -42,12 +44,14 @@ const LEAST_TIME: Duration = Duration::from_millis(1);
 const ROUNDS: usize = 200;
 
 fn main() {
-    let charts = [
+    let mut charts = vec![
         ("small", special::sample_3()),
         ("ordinary", ordinary()),
         ("largest", special::largest()),
         ("advances", special::most_advances()),
+        ("sensors", special_sensors::most_sensors()),
     ];
+    charts.retain(|(size, chart)| passes_everywhere(size, chart));
     time_operations(&charts);
     println!();
     time_flattening(charts.into_iter().chain([
@@ -55,6 +59,18 @@ fn main() {
         ("refused", special::most_alternatives()),
         ("longest", special::longest_network()),
     ]));
+}
+
+/// Whether every implementation accepts a chart. If not, it is said which one refuses it.
+fn passes_everywhere(size: &str, chart: &Chart) -> bool {
+    let request = Request::Check(chart.write());
+    let answers = IMPLEMENTATIONS.iter().map(|one| (one.name, (one.answer)(&request)));
+    let refusing = answers.filter_map(|(name, answer)| Some((name, answer.err()?)));
+    let refusing: Vec<(&str, Refusal)> = refusing.collect();
+    for (name, refusal) in &refusing {
+        println!("{size} is left out: {name} refuses the chart with {}", refusal.number());
+    }
+    refusing.is_empty()
 }
 
 /// Every operation but flattening.
