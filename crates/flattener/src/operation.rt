@@ -16,6 +16,7 @@ use chart_records::header::Counts;
 use chart_tree::table::Tree;
 use flatten_edges::edge::all_edges;
 use flatten_places::automaton::automata_of;
+use flatten_places::fixed::fixed_of;
 use flatten_places::pair::enter_pairs;
 use flatten_places::place::places_of;
 use flatten_places::transition::columns;
@@ -53,7 +54,7 @@ fn deliver(
     }
     let counts = summary.counts;
     let tree = summary.tree;
-    let rows = joined_bounds(rest, counts, tree);
+    let rows = joined_bounds(rest, counts, tree, summary.fixed);
     write_network(out, size, summary, rows, heads, edges, rest, offsets);
     Flattened::Length(5 + size)
 }
@@ -69,10 +70,11 @@ fn flatten_checked(
     ensures { λ r. ⌜ ((c : Chart) → Chartered c → Ready (now (rest .entry)) counts (now (offsets .entry)) tree c → Answered (networkFor (length (now (out .entry))) c) (now (out .entry)) r (now (out .exit))) ⌝ }
 {
     let transitions = columns(rest, counts, offsets);
+    let fixed = fixed_of(tree);
     let automata = automata_of(tree);
     let enters = enter_pairs(transitions, counts.states, counts.entries);
-    let places = places_of(tree, transitions, automata, enters);
-    let tables = tables_of(counts, tree, transitions, automata, enters, places);
+    let places = places_of(tree, fixed, transitions, automata, enters);
+    let tables = tables_of(counts, tree, fixed, transitions, automata, enters, places);
     let summary = summary_of(counts, tables, places);
     let mut heads = [0; 13312];
     let edges = all_edges(&mut heads, tables, places, rest, offsets);

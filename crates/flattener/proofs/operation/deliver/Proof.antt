@@ -32,7 +32,7 @@ returns-3 c d S R G =
     let few = c .before .before .before .before .before .before .before .before .before .before .before .if1 .left in
     let W = delivered-writable d _ S G (c .before .before .before .before .before .before .before .before .before .before .before .before .before .before .before .args .out .now) few R in
     let e = c .before .before .before .before .before .before .before .before .before .content-length .ensures .0 d S W in
-    delivered-all d _ S G _ few e (c .before .before .before .before .before .before .before .before .if2 .left) (c .before .before .write-network .ensures d S (c .before .before .before .before .before .joined-bounds .ensures d (R .laid .stated) (R .tabled) (R .parents) (R .entry-marks)) W e)
+    delivered-all d _ S G _ few e (c .before .before .before .before .before .before .before .before .if2 .left) (c .before .before .write-network .ensures d S (c .before .before .before .before .before .joined-bounds .ensures d (R .laid .stated) (R .tabled) (R .parents) (R .entry-marks) (S .fixed)) W e)
 
 pub deliver-spec : {M : Type 1} → statement M
 deliver-spec =

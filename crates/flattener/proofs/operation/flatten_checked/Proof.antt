@@ -7,6 +7,9 @@ use Rattle.flattener.proofs.operation.flatten_checked.Tie as tie
 columns-requires : tie.Need-columns-requires
 columns-requires c κs = search needs
 
+fixed-of-requires : tie.Need-fixed-of-requires
+fixed-of-requires c κs = search needs
+
 automata-of-requires : tie.Need-automata-of-requires
 automata-of-requires c κs = search needs
 
@@ -34,11 +37,12 @@ same-length c = search needs
 returns : tie.Need-returns
 returns c d C R =
     let S = R .laid .stated in
-    let K = c .before .before .before .before .before .before .before .before .before .before .before .before .columns .ensures d (R .laid) (transitions-few d S (R .laid .transitions)) in
+    let K = c .before .before .before .before .before .before .before .before .before .before .before .before .before .columns .ensures d (R .laid) (transitions-few d S (R .laid .transitions)) in
+    let F = c .before .before .before .before .before .before .before .before .before .before .before .before .fixed-of .ensures d C (R .tabled) in
     let A = c .before .before .before .before .before .before .before .before .before .before .before .automata-of .ensures d (R .tabled) (automata-few d C) in
     let P = c .before .before .before .before .before .before .before .before .before .before .enter-pairs .ensures d K (sym (S .states)) (states-few d S) (sym (S .entries)) (entries-few d S) in
-    let L = c .before .before .before .before .before .before .before .before .before .places-of .ensures d C (R .tabled) K A P in
-    let tables = c .before .before .before .before .before .before .before .before .tables-of .ensures d _ C S (R .tabled) K A P L in
+    let L = c .before .before .before .before .before .before .before .before .before .places-of .ensures d C (R .tabled) F K A P in
+    let tables = c .before .before .before .before .before .before .before .before .tables-of .ensures d _ C S (R .tabled) F K A P L in
     let summary = c .before .before .before .before .before .before .before .summary-of .ensures in
     let G = c .before .before .before .before .before .all-edges .ensures d _ tables L (R .laid) (search needs) in
     c .before .before .deliver .ensures d (summary .0 d _ S tables L) (ready-as d R (summary .1 .0) (summary .1 .1) (tables .tree)) G
@@ -48,6 +52,7 @@ flatten-checked-spec =
     tie.close
     (tie.spec
     columns-requires
+    fixed-of-requires
     automata-of-requires
     enter-pairs-requires
     places-of-requires
