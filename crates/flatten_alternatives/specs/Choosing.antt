@@ -1,17 +1,17 @@
 -- The sets of automata of an exit's alternatives, as the flattener gathers them.
 use Prim.Native.Nat.{ℕ, _+_, _≤_, _<_, min}
 use mathlib.Core.Path.{_≡_}
-use mathlib.Core.Bool.{Bool, true, false, cond, _&&_}
+use mathlib.Core.Bool.{Bool, true, false}
 use mathlib.Core.List.{List, [], _∷_, _++_, List·Memᴰ as Mem}
 use lib.Bits.{bitOr}
 use lib.ListN.{getD, length, take}
 use Rattle.lists.specs.Lists.{has}
-use Rattle.chart_records.specs.Chart.{Chart, stateAt, sequential, parallel}
+use Rattle.chart_records.specs.Chart.{Chart, sequential, parallel}
 use Rattle.chart_records.specs.Tree.{under, sequentials, fixed, shares}
 use Rattle.chart_tree.specs.Table.{Column, Tabled}
 use Rattle.chart_tree.specs.declared.table.Tree.{Tree}
 use Rattle.flattening.specs.Flatten.{automaton, sums, choicesFrom, sorted}
-use Rattle.flatten_places.specs.Tables.{Chartered, Automated, FixedIn}
+use Rattle.flatten_places.specs.Tables.{Chartered, Automated, FixedKinds, AtExits, FixedIn}
 use Rattle.flatten_places.specs.declared.automaton.Automata.{Automata}
 use Rattle.flatten_places.specs.declared.fixed.Fixed.{Fixed}
 
@@ -38,8 +38,8 @@ pub record Choosing (c : Chart) (above kinds marks numbers : List ℕ) (s : ℕ)
   pub chartered : Chartered c
   pub few : length (c .states) ≤ 48
   pub parent : Column (λ x. x .parent) c above
-  pub kind : (x : ℕ) → x < 48 → getD kinds x 0 ≡ cond (fixed c x) 0 (stateAt c x .kind)
-  pub exits : (x e : ℕ) → x < length (c .states) → e < 8 → has (getD marks x 0) e ≡ (fixed c x && shares c e x)
+  pub kind : FixedKinds c kinds
+  pub exits : AtExits c marks
   pub number : (q : ℕ) → automaton c q < length (sequentials c) → getD numbers q 0 ≡ automaton c q
   pub known : s < length (c .states)
 

@@ -8,6 +8,7 @@ use native.Mathlib.Omega.{arith}
 use native.Mathlib.Decide.{ℕ-discrete, decLt}
 use borrow.Author.Tests.{eqb-true, eq-eqb, ne-eqb, not-true}
 use lib.Bits as Words
+use lib.Dec.{eqb}
 use lib.ListN.{length, getD, set, length-set}
 use lib.Seq.{getD-set-same, getD-set-other}
 use Rattle.lists.specs.Lists.{has, any, bitsFrom, bitsOf}
@@ -17,10 +18,10 @@ use Rattle.lists.proofs.Bits.{has-low, has-zero, has-bitsOf, has-xor}
 use Rattle.chart_records.specs.Chart.{Chart, stateAt, states, basic, sequential}
 use Rattle.chart_records.specs.Tree.{under, fixed, shares}
 use Rattle.chart_tree.specs.Table.{Column}
-use Rattle.chart_records.proofs.Tree.{size, states-at, states-by, sequential-not-basic, unknown-basic}
+use Rattle.chart_records.proofs.Tree.{size, states-at, states-by, Parents, sequential-not-basic, unknown-basic}
 use Rattle.chart_records.proofs.Rules.{Kinds}
-use Rattle.chart_records.proofs.Fixed.{fixed-at, fixed-by, unfixed-at, shares-at, shares-by}
-use Rattle.flatten_places.specs.Tables.{FixedIn}
+use Rattle.chart_records.proofs.Fixed.{fixed-at, fixed-by, unfixed-at, unfixed-composite, shares-at, shares-by}
+use Rattle.flatten_places.specs.Tables.{FixedKinds, FixedIn}
 use Rattle.flatten_places.specs.Filling.{barsBy}
 use Rattle.flatten_places.specs.Walking.{Gathered}
 
@@ -47,6 +48,14 @@ module _ (kind exits e : ℕ) where
 
   pub bars-parallel : kind ≢ 0 → kind ≢ 1 → has 0 e ≡ barsBy kind exits e
   bars-parallel y z = has-zero e ∙ sym (cond-no _ _ (ne-eqb kind 0 y) ∙ ne-eqb kind 1 z)
+
+-- a state is fixed where its kind in the table is that of a basic one
+pub fixed-test : (c : Chart) (kinds : List ℕ) → FixedKinds c kinds → Parents c → (s : ℕ) → s < 48 → eqb (getD kinds s 0) 0 ≡ fixed c s
+unfolding basic
+fixed-test c kinds F tree s h = ap (λ (x : ℕ). eqb x 0) (F s h) ∙ ⊎-elim
+    (λ z. rw z refl)
+    (λ z. rw z (unfixed-composite c tree s z))
+    (decided (fixed c s))
 
 -- the first n states' bars
 pub record Barred (kinds exits bars : List ℕ) (n : ℕ) : Type 0 where

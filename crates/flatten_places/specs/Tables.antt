@@ -32,13 +32,17 @@ pub record Columned (c : Chart) (t : Transitions) : Type 0 where
   pub exit : ColumnOf (λ u. u .exit) c (t .exits)
   pub entry : ColumnOf (λ u. u .entry) c (t .entries)
 
+-- the kind of each state, with that of a basic one for each that is fixed
+abbrev pub FixedKinds : Chart → List ℕ → Type 0
+FixedKinds c l = (s : ℕ) → s < 48 → getD l s 0 ≡ cond (fixed c s) 0 (stateAt c s .kind)
+
 -- the exits that each fixed state is at; no other state is at any
 abbrev pub AtExits : Chart → List ℕ → Type 0
 AtExits c l = (s e : ℕ) → s < length (c .states) → e < 8 → has (getD l s 0) e ≡ (fixed c s && shares c e s)
 
--- the kinds of the states, with 0 for each that is fixed, and the exits that they are at
+-- the tables tell which states are fixed, and at which exits
 pub record FixedIn (c : Chart) (f : Fixed) : Type 0 where
-  pub kind : (s : ℕ) → s < 48 → getD (f .kinds) s 0 ≡ cond (fixed c s) 0 (stateAt c s .kind)
+  pub kind : FixedKinds c (f .kinds)
   pub exits : AtExits c (f .exits)
 
 -- the sequential states in order, and the number of each

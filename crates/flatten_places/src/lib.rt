@@ -1,4 +1,4 @@
-// The places of a chart to be flattened: its automata, pairs and transitions, as tables.
+// The places of a chart to be flattened: its fixed states, automata, pairs and transitions, as tables.
 pub mod automaton;
 pub mod below;
 pub mod fixed;

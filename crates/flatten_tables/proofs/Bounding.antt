@@ -22,7 +22,7 @@ use Rattle.chart_tree.specs.Table.{Column, Rooted, adding}
 use Rattle.chart_tree.specs.declared.table.Tree.{Tree}
 use Rattle.chart_records.proofs.Tree.{size, Parents, parents-at}
 use Rattle.chart_records.proofs.Ranges.{chart-at}
-use Rattle.flattening.specs.Flatten.{Place, idle, child, pre, post, allPlaces, hasEntry, own, carriedFrom, joined, joinAll, preBounds, arrival, arrivalBounds, boundsOf}
+use Rattle.flattening.specs.Flatten.{Place, idle, child, pre, post, allPlaces, hasEntry, own, carriedFrom, joined, joinOnto, joinAll, preBounds, arrival, arrivalBounds, boundsOf}
 use Rattle.flattening.proofs.Numbers.{all-places-at}
 use Rattle.flattening.proofs.Arrivals.{ends}
 use Rattle.flattening.proofs.Bounds.{enough}
@@ -112,11 +112,6 @@ module _ (c : Chart) {above : List ℕ} (R : Rooted c above) where
         rw (ne-eqb p 0 d, eq-eqb (stateAt c (parentOf c p) .kind) 2 (sym z ∙ y))
         (g ∙ ap (λ (x : List ℕ). join x carried) m ∙ ap (join (own c p)) (a ∙ enough c tree (suc p) p (parentOf c p) (omega arith) (omega arith) (omega arith)))
 
--- the state's own
-pub own-is : (c : Chart) (s : ℕ) {row : List ℕ} → row ≡ stateAt c s .bounds → row ≡ own c s
-unfolding own
-own-is c s e = e
-
 -- joined
 pub rows-joined : (c : Chart) (a b : List (List ℕ)) {t : List (List ℕ)} → RowsOf (own c) c a → RowsOf (aboveOf c) c b → t ≡ joinTables a b → RowsOf (joined c) c t
 unfolding joined aboveOf
@@ -134,7 +129,7 @@ unfoldable pub joins : Chart → (ℕ → Bool) → ℕ → List ℕ
 joins c f k = joinAll (map (joined c) (keep f (drop k (states c))))
 
 pub joins-none : (c : Chart) (f : ℕ → Bool) → size c ≤ 48 → free ≡ joins c f 48
-unfolding joins states keep joinAll
+unfolding joins states keep joinAll joinOnto
 joins-none c f h = rw (below-end {m = size c} refl 48 h)
 
 -- the set of the states that pass
@@ -145,7 +140,7 @@ module _ (c : Chart) (f : ℕ → Bool) (set : List Bool) (S : set ≡ adding 48
 
   module _ (n : ℕ) (some : 0 < n) (few : n ≤ 48) where
     pub joins-in : (table : List (List ℕ)) → RowsOf (joined c) c table → getD set (n - 1) false ≡ true → {row next : List ℕ} → row ≡ joins c f n → next ≡ join (getD table (n - 1) []) row → next ≡ joins c f (n - 1)
-    unfolding joins states joinAll
+    unfolding joins states joinAll joinOnto
     joins-in table B h {row} {next} e g =
         let both : (ltb (n - 1) (size c) && f (n - 1)) ≡ true = sym (in-set (n - 1) (omega arith)) ∙ h in
         let known = ltb-true (n - 1) (size c) (and-l (ltb (n - 1) (size c)) (f (n - 1)) both) in

@@ -81,13 +81,14 @@ module _ (c : Chart) {file : List ℕ} {n : Counts} (S : Stated file n c) where
     entering-small e = omega (arith, T .enters .count, T .enters .few, ranges .channels-few)
 
     pub summed : {a b : ℕ} → a ≡ n .broadcasts + t .enters .count → b ≡ a + t .leaves .count
-        → Summed c (record { counts = n; tree = t .tree; transitions = t .transitions; places = ps; initials = t .initials; automata = t .automata .count; broadcasts = b })
+        → Summed c (record { counts = n; tree = t .tree; fixed = t .fixed; transitions = t .transitions; places = ps; initials = t .initials; automata = t .automata .count; broadcasts = b })
     summed e f = record {
       chartered = T .chart;
       version = sym (S .version);
       clocks = sym (S .clocks);
       variables = sym (S .variables);
       rendezvous = sym (S .rendezvous);
+      fixed = T .fixed;
       columned = T .transitions;
       listed = L;
       starting = T .initials;

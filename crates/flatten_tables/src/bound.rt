@@ -10,21 +10,22 @@ ghost use Rattle.chart_records.specs.Layout.{Stated};
 ghost use Rattle.chart_tree.specs.Table.{Column, Rooted, Tabled};
 ghost use Rattle.chart_tree.specs.declared.table.Tree.{Tree};
 ghost use Rattle.flattening.specs.Flatten.{Place, own, carriedFrom, joined, preBounds, arrival, arrivalBounds, boundsOf, allPlaces};
-ghost use Rattle.flatten_places.specs.Tables.{Chartered, Columned, kindOf, valueOf, markOf};
-ghost use Rattle.flatten_tables.specs.Bounding.{RowsOf, aboveOf, Bounded};
+ghost use Rattle.flatten_places.specs.Tables.{Chartered, FixedIn, Columned, kindOf, valueOf, markOf};
+ghost use Rattle.flatten_tables.specs.Bounding.{RowsOf, boundsAt, aboveOf, Bounded};
 use chart_records::header::Counts;
 use chart_records::state::bounds_of;
 use chart_tree::entry::entered;
 use chart_tree::table::Tree;
 use clocks::clock::join;
 use clocks::clock::join_tables;
+use flatten_places::fixed::Fixed;
 use flatten_places::place::Places;
 use flatten_places::transition::Transitions;
 use reading::field::byte_at;
 
 // The bounds of each state.
-fn own_bounds(rest: &[u8], counts: Counts) -> [[u32; 8]; 48]
-    ensures { λ r. ⌜ ((c : Chart) → Stated (now (rest .entry)) counts c → RowsOf (own c) c r) ⌝ }
+fn state_bounds(rest: &[u8], counts: Counts) -> [[u32; 8]; 48]
+    ensures { λ r. ⌜ ((c : Chart) → Stated (now (rest .entry)) counts c → RowsOf (boundsAt c) c r) ⌝ }
 {
     let free = [4294967295; 8];
     let mut table = [free; 48];
@@ -37,6 +38,32 @@ fn own_bounds(rest: &[u8], counts: Counts) -> [[u32; 8]; 48]
         let i = s as usize;
         table[i] = row;
         s += 1;
+    }
+    table
+}
+
+// The bounds of each state joined with those of its sensors, deepest first: from the last state up each basic or plain
+// child of a parallel state adds its own to its parent's, whose number is smaller.
+fn own_bounds(tree: Tree, fixed: Fixed, rows: [[u32; 8]; 48]) -> [[u32; 8]; 48]
+    ensures { λ r. ⌜ ((c : Chart) → Tabled c tree → parents c ≡ true → FixedIn c fixed → RowsOf (boundsAt c) c rows → RowsOf (own c) c r) ⌝ }
+{
+    let parents = tree.parents;
+    let kinds = tree.kinds;
+    let inner = fixed.kinds;
+    let mut table = rows;
+    let mut s = tree.states;
+    if s > 48 {
+        return table;
+    }
+    while s > 1 {
+        s -= 1;
+        let x = s as usize;
+        let p = (parents[x] % 48) as usize;
+        if (inner[x] == 0) & (kinds[p] == 2) {
+            let mine = table[x];
+            let above = table[p];
+            table[p] = join(mine, above);
+        }
     }
     table
 }
@@ -75,10 +102,11 @@ fn bounds_above(parents: &[u8], kinds: &[u8], rows: [[u32; 8]; 48]) -> [[u32; 8]
 }
 
 // The bounds of each state, joined with those that it carries.
-pub fn joined_bounds(rest: &[u8], counts: Counts, tree: Tree) -> [[u32; 8]; 48]
-    ensures { λ r. ⌜ ((c : Chart) → Stated (now (rest .entry)) counts c → Tabled c tree → parents c ≡ true → entryMarks c ≡ true → Bounded c tree r) ⌝ }
+pub fn joined_bounds(rest: &[u8], counts: Counts, tree: Tree, fixed: Fixed) -> [[u32; 8]; 48]
+    ensures { λ r. ⌜ ((c : Chart) → Stated (now (rest .entry)) counts c → Tabled c tree → parents c ≡ true → entryMarks c ≡ true → FixedIn c fixed → Bounded c tree r) ⌝ }
 {
-    let own = own_bounds(rest, counts);
+    let rows = state_bounds(rest, counts);
+    let own = own_bounds(tree, fixed, rows);
     let parents = tree.parents;
     let kinds = tree.kinds;
     let above = bounds_above(&parents, &kinds, own);

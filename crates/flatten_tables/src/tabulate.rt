@@ -6,7 +6,7 @@ ghost use Rattle.chart_records.specs.Chart.{Chart};
 ghost use Rattle.chart_records.specs.Layout.{Stated};
 ghost use Rattle.chart_tree.specs.Table.{Tabled};
 ghost use Rattle.flattening.specs.Flatten.{enterPairs, allPlaces};
-ghost use Rattle.flatten_places.specs.Tables.{Chartered, Columned, Automated, Paired, Listed};
+ghost use Rattle.flatten_places.specs.Tables.{Chartered, FixedIn, Columned, Automated, Paired, Listed};
 ghost use Rattle.flatten_places.specs.Walking.{ChildNumbers, Tabulated};
 ghost use Rattle.flatten_tables.specs.Numbering.{Numbered};
 ghost use Rattle.flatten_tables.specs.Summing.{Summed};
@@ -20,6 +20,7 @@ use chart_records::header::Counts;
 use chart_tree::table::Tree;
 use flatten_places::automaton::Automata;
 use flatten_places::below::marked_below;
+use flatten_places::fixed::Fixed;
 use flatten_places::pair::Pairs;
 use flatten_places::pair::channel_of;
 use flatten_places::pair::exit_pairs;
@@ -43,12 +44,13 @@ fn child_numbers(numbers: &[u8]) -> [u8; 48]
 pub fn tables_of(
     counts: Counts,
     tree: Tree,
+    fixed: Fixed,
     transitions: Transitions,
     automata: Automata,
     enters: Pairs,
     places: Places,
 ) -> Tables
-    ensures { λ r. ⌜ ((c : Chart) (file : List ℕ) → Chartered c → Stated file counts c → Tabled c tree → Columned c transitions → Automated c automata → Paired (enterPairs c) enters → Listed c (allPlaces c) places → Tabulated c r) ⌝ }
+    ensures { λ r. ⌜ ((c : Chart) (file : List ℕ) → Chartered c → Stated file counts c → Tabled c tree → FixedIn c fixed → Columned c transitions → Automated c automata → Paired (enterPairs c) enters → Listed c (allPlaces c) places → Tabulated c r) ⌝ }
 {
     let leaves = exit_pairs(transitions, counts.states, counts.exits);
     let below = marked_below(tree);
@@ -61,6 +63,7 @@ pub fn tables_of(
     let channels = channel_of(counts.rendezvous, counts.broadcasts);
     Tables {
         tree,
+        fixed,
         transitions,
         automata,
         enters,
@@ -82,6 +85,7 @@ pub fn summary_of(counts: Counts, t: Tables, places: Places) -> Summary
     ensures tree { λ r. ⌜ r .tree ≡ t .tree ⌝ }
 {
     let tree = t.tree;
+    let fixed = t.fixed;
     let transitions = t.transitions;
     let initials = t.initials;
     let automata = t.automata;
@@ -92,6 +96,7 @@ pub fn summary_of(counts: Counts, t: Tables, places: Places) -> Summary
     Summary {
         counts,
         tree,
+        fixed,
         transitions,
         places,
         initials,

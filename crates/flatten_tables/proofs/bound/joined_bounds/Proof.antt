@@ -4,6 +4,9 @@ use Rattle.flatten_tables.proofs.Bounding.{rows-joined}
 use Rattle.flatten_tables.proofs.bound.joined_bounds.Statement.{statement}
 use Rattle.flatten_tables.proofs.bound.joined_bounds.Tie as tie
 
+state-bounds-requires : tie.Need-state-bounds-requires
+state-bounds-requires c κs = search needs
+
 own-bounds-requires : tie.Need-own-bounds-requires
 own-bounds-requires c κs = search needs
 
@@ -20,14 +23,16 @@ join-tables-requires : tie.Need-join-tables-requires
 join-tables-requires c κs = search needs
 
 returns : tie.Need-returns
-returns c d S T r5 r8 =
-    let mine = c .before .before .before .before .before .before .own-bounds in
+returns c d S T r5 r8 F =
+    let at = c .before .before .before .before .before .before in
+    let mine = at .own-bounds in
+    let rows = mine .ensures d T r5 F (at .before .state-bounds .ensures d S) in
     let above = c .before .bounds-above in
     record {
       tabled = T;
       parents = r5;
       entry-marks = r8;
-      rows = rows-joined d (mine .result) (above .result) (mine .ensures d S) (above .ensures d (rooted-of d _ T r5) (T .kind) (mine .ensures d S))
+      rows = rows-joined d (mine .result) (above .result) rows (above .ensures d (rooted-of d _ T r5) (T .kind) rows)
           (c .join-tables .ensures);
     }
 
@@ -35,6 +40,7 @@ pub joined-bounds-spec : {M : Type 1} → statement M
 joined-bounds-spec =
     tie.close
     (tie.spec
+    state-bounds-requires
     own-bounds-requires
     slice-aggregate-bounds-above
     slice-aggregate-bounds-above-2

@@ -1,34 +1,64 @@
 use native.Mathlib.Omega.{arith}
 use borrow.Author.Needs.{needs}
 use mathlib.Core.Path.{_≡_}
-use Prim.Native.Nat.{_-_, _≤_}
+use Prim.Native.Nat.{_≤_}
 use lib.ListN.{length, length-set}
 use Rattle.chart_records.specs.Chart.{Chart}
-use Rattle.chart_records.specs.Layout.{Stated}
-use Rattle.chart_records.proofs.Ranges.{counts-range}
-use Rattle.flattening.specs.Flatten.{own}
-use Rattle.flatten_tables.proofs.Bounding.{RowsTo, rows-more, own-is}
+use Rattle.chart_records.proofs.Tree.{parents-at}
+use Rattle.chart_tree.specs.Table.{Column, Rooted}
+use Rattle.chart_tree.proofs.Tables.{rooted-of}
+use Rattle.flatten_places.specs.Tables.{FixedKinds}
+use Rattle.flatten_tables.specs.Bounding.{RowsOf, boundsAt}
+use Rattle.flatten_tables.proofs.Sensing.{ownSince, own-none, own-all, sensed, unsensed}
 use Rattle.flatten_tables.proofs.bound.own_bounds.Statement.{statement}
 use Rattle.flatten_tables.proofs.bound.own_bounds.Tie as tie
 
 abbrev Inv-loop : tie.InvT-loop
-Inv-loop rest counts table₀ s₀ table s =
-    (s ≤ 48) × (length table ≡ 48) × ((c : Chart) → Stated rest counts c → RowsTo s (own c) (length (c .states)) table)
+Inv-loop parents kinds inner table₀ s₀ table s =
+    (length table ≡ 48) × (s ≤ s₀) × (s₀ ≤ 48)
+    × ((c : Chart) → Rooted c parents → Column (λ x. x .kind) c kinds → FixedKinds c inner → s₀ ≡ length (c .states) → RowsOf (boundsAt c) c table₀ → RowsOf (ownSince c s) c table)
 
 abbrev μ-loop : tie.MeasureT-loop
-μ-loop rest counts table₀ s₀ table s = counts .states - s
+μ-loop parents kinds inner table₀ s₀ table s = s
 
 returns : tie.Need-returns Inv-loop μ-loop
-returns c d S s h = absurd (omega (arith, S .states, counts-range _ (S .in-range) .states-few))
+returns c = λ d T r F R. absurd (omega (arith, c .if1 .taken, T .count, T .few))
 
 loop-holds : tie.Need-loop-holds Inv-loop μ-loop
-loop-holds c = (omega arith, search needs, λ d S k h l. absurd (omega arith))
+loop-holds c = (search needs, omega arith, c .if1 .left, λ d R K F N B. own-none d (c .before .before .before .before .args .rows) _ N B)
 
-bounds-of-requires : tie.Need-bounds-of-requires Inv-loop μ-loop
-bounds-of-requires c κs = search needs
+sub-s : tie.Need-sub-s Inv-loop μ-loop
+sub-s c = omega arith
 
-cast-i : tie.Need-cast-i Inv-loop μ-loop
-cast-i c = omega arith
+cast-x : tie.Need-cast-x Inv-loop μ-loop
+cast-x c = search needs
+
+array-read-p : tie.Need-array-read-p Inv-loop μ-loop
+array-read-p c = omega arith
+
+cast-p : tie.Need-cast-p Inv-loop μ-loop
+cast-p c = search needs
+
+array-read-if2 : tie.Need-array-read-if2 Inv-loop μ-loop
+array-read-if2 c = omega arith
+
+array-read-if2-2 : tie.Need-array-read-if2-2 Inv-loop μ-loop
+array-read-if2-2 c = omega arith
+
+mul-mine : tie.Need-mul-mine Inv-loop μ-loop
+mul-mine c = omega arith
+
+array-copy-out-mine : tie.Need-array-copy-out-mine Inv-loop μ-loop
+array-copy-out-mine c = omega arith
+
+mul-above : tie.Need-mul-above Inv-loop μ-loop
+mul-above c = omega arith
+
+array-copy-out-above : tie.Need-array-copy-out-above Inv-loop μ-loop
+array-copy-out-above c = omega arith
+
+join-requires : tie.Need-join-requires Inv-loop μ-loop
+join-requires c κs = search needs
 
 mul-table : tie.Need-mul-table Inv-loop μ-loop
 mul-table c = omega arith
@@ -36,22 +66,38 @@ mul-table c = omega arith
 array-set-from-table : tie.Need-array-set-from-table Inv-loop μ-loop
 array-set-from-table c = omega arith
 
-add-s : tie.Need-add-s Inv-loop μ-loop
-add-s c = omega arith
-
 loop-less : tie.Need-loop-less Inv-loop μ-loop
 loop-less c = omega arith
 
 loop-again : tie.Need-loop-again Inv-loop μ-loop
 loop-again c =
-    let v = c .before .before .before .loop .inv in (
+    let at = c .before .before .before .before in
+    let i = at .before .loop .inv in
+    let a = at .before .before .before .before .before .before .args in (
+      rw length-set (i .0),
       omega arith,
-      rw length-set (v .1),
-      λ d S. rows-more (c .before .before .before .loop .s) (own d) _ (c .before .before .before .loop .table) _ (v .2 d S) (omega arith) (λ h. own-is d _ (c .bounds-of .ensures d S (c .before .if2 .taken))),
+      i .2,
+      λ d R K F N B. sensed d (a .tree .parents) (a .tree .kinds) (a .fixed .kinds) R K F _ _ N (at .loop-test .taken) (i .1) (at .before .loop .table) (i .3 d R K F N B) (i .0) (c .before .before .before .if2 .taken) (c .join .ensures),
+    )
+
+loop-less-2 : tie.Need-loop-less-2 Inv-loop μ-loop
+loop-less-2 c = omega arith
+
+loop-again-2 : tie.Need-loop-again-2 Inv-loop μ-loop
+loop-again-2 c =
+    let at = c .before in
+    let i = at .before .loop .inv in
+    let a = at .before .before .before .before .before .before .args in (
+      i .0,
+      omega arith,
+      i .2,
+      λ d R K F N B. unsensed d (a .tree .parents) (a .tree .kinds) (a .fixed .kinds) R K F _ _ N (at .loop-test .taken) (i .1) (at .before .loop .table) (i .3 d R K F N B) (i .0) (c .if2 .left),
     )
 
 returns-2 : tie.Need-returns-2 Inv-loop μ-loop
-returns-2 c d S s h = c .before .before .loop .inv .2 d S s (omega (arith, S .states, c .if2 .left)) h
+returns-2 c = λ d T r F B.
+    let R = rooted-of d _ T r in
+    own-all d (parents-at d r) (c .before .loop .table) _ (c .loop-test .left) (c .before .loop .inv .3 d R (T .kind) (F .kind) (T .count) B)
 
 pub own-bounds-spec : {M : Type 1} → statement M
 own-bounds-spec =
@@ -61,11 +107,21 @@ own-bounds-spec =
     μ-loop
     returns
     loop-holds
-    bounds-of-requires
-    cast-i
+    sub-s
+    cast-x
+    array-read-p
+    cast-p
+    array-read-if2
+    array-read-if2-2
+    mul-mine
+    array-copy-out-mine
+    mul-above
+    array-copy-out-above
+    join-requires
     mul-table
     array-set-from-table
-    add-s
     loop-less
     loop-again
+    loop-less-2
+    loop-again-2
     returns-2)

@@ -13,7 +13,7 @@ channel-of-requires-2 c κs = search needs
 returns : tie.Need-returns
 returns c = (
   λ d file S t l.
-      let a = c .before .before .before .before .before .before .before .before .args in
+      let a = c .before .before .before .before .before .before .before .before .before .args in
       let e = enters-small d S (a .t) (a .places) t l in
       let f = leaves-small d S (a .t) (a .places) t l in
       let first = c .before .channel-of .ensures (channels-small d S .1) e in

@@ -47,11 +47,12 @@ channel-of-requires : tie.Need-channel-of-requires
 channel-of-requires c κs = search needs
 
 returns : tie.Need-returns
-returns c d file C S T K A P L =
+returns c d file C S T F K A P L =
     let N = c .before .before .before .before .before .before .before .before .before .before .before .numbers-of .ensures d C L in
     record {
       chart = C;
       tree = T;
+      fixed = F;
       transitions = K;
       automata = A;
       enters = P;
