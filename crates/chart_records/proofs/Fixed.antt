@@ -1,17 +1,17 @@
 -- Laws of fixed states, which have no sequential state at or below them, and of the sensors of parallel states.
-use mathlib.Core.Path.{_≡_, sym, ap, _∙_, subst}
-use mathlib.Core.Bool.{true, false, cond, not, _&&_, _||_}
+use mathlib.Core.Path.{_≡_, sym, ap, _∙_}
+use mathlib.Core.Bool.{true, false, not, _&&_, _||_}
 use mathlib.Core.Logic.{⊎-elim}
 use mathlib.Core.List.{[], List·Memᴰ as Mem, List·Memᴰ·not-nil as not-nil}
 use Prim.Native.Nat.{ℕ, zero, suc, _+_, _≤_, _<_}
 use native.Mathlib.Omega.{arith}
 use borrow.Author.Tests.{not-true, not-false}
 use Rattle.lists.specs.Lists.{has, any, keep}
-use Rattle.lists.proofs.Bools.{clash, decided, fails, and-l, and-r, both, or-l, or-r, or-cases, not-yes, not-no, implies-at, implies-by, same, cond-yes, cond-no}
+use Rattle.lists.proofs.Bools.{clash, decided, fails, and-l, and-r, both, or-l, or-r, or-cases, not-yes, implies-at, implies-by, same, cond-yes, cond-no}
 use Rattle.lists.proofs.Lists.{all-at, all-by, any-at, any-by, keep-at, keep-by, keep-none}
 use Rattle.chart_records.specs.Chart.{Chart, stateAt, states, basic, sequential, parallel}
 use Rattle.chart_records.specs.Tree.{under, children, sequentials, fixed, plain, sensors, shares}
-use Rattle.chart_records.proofs.Tree.{size, states-at, states-by, Child, children-at, children-by, Parents, under-refl, under-transitive, child-under, child-above, child-towards, basic-under, basic-not-parallel, sequential-not-basic, sequential-not-parallel, unknown-basic}
+use Rattle.chart_records.proofs.Tree.{size, states-at, states-by, Child, children-at, children-by, Parents, under-refl, under-transitive, child-under, child-above, child-towards, basic-under, sequential-not-basic, sequential-not-parallel}
 
 sequentials-mem : (c : Chart) {q : ℕ} → q < size c → sequential c q ≡ true → Mem q (sequentials c)
 unfolding sequentials

@@ -203,7 +203,7 @@ counts-of-at file {n} h =
     same : done (countsAt file) ≡ done n → n ≡ countsAt file
     same e = cc
 
-read-range : (file : List ℕ) {c : Chart} → readChart file ≡ done c → Ranges c
+pub read-range : (file : List ℕ) {c : Chart} → readChart file ≡ done c → Ranges c
 unfolding readChart
 read-range file h =
     let r = then-at-answer (countsOf file) _ h in

@@ -1,14 +1,14 @@
 -- The rules that a chart keeps, in order of trial.
-use Prim.Native.Nat.{ℕ, zero, suc, _+_, _*_, _-_, _^_}
-use mathlib.Core.Bool.{Bool, true, false, cond, not, _&&_, _||_, Bool·beq}
-use mathlib.Core.List.{List, [], _∷_, _++_, map}
+use Prim.Native.Nat.{ℕ, _-_}
+use mathlib.Core.Bool.{Bool, cond, not, _&&_, _||_, Bool·beq}
+use mathlib.Core.List.{List}
 use lib.Dec.{leb, ltb, eqb}
-use lib.ListN.{getD, length}
-use Rattle.lists.specs.Lists.{has, all, any, below, keep, implies, elem}
-use Rattle.labels.specs.Label.{Label, assignsOnce}
-use Rattle.reading.specs.Answer.{Answer, done, refused, unless, _>>=_}
+use lib.ListN.{length}
+use Rattle.lists.specs.Lists.{has, all, below, keep, implies}
+use Rattle.labels.specs.Label.{assignsOnce}
+use Rattle.reading.specs.Answer.{Answer, done, unless, _>>=_}
 use Rattle.chart_records.specs.Chart.{Chart, Transition, stateAt, transitionAt, states, parentOf, basic, sequential, parallel, home, readChart}
-use Rattle.chart_records.specs.Tree.{path, under, children, sequentials}
+use Rattle.chart_records.specs.Tree.{under, children, sequentials}
 
 -- 5: each parent is a composite of smaller number, the root has none, and each composite has a child
 abbrev pub parentFits : Chart → ℕ → Bool

@@ -1,9 +1,8 @@
 -- The tree of states. A parent's number is smaller than its child's.
-use Prim.Native.Nat.{ℕ, zero, suc, _+_, _*_, _-_, _^_}
-use mathlib.Core.Bool.{Bool, true, false, cond, not, _&&_, _||_}
-use mathlib.Core.List.{List, [], _∷_, _++_, map}
-use lib.Dec.{leb, ltb, eqb}
-use lib.ListN.{getD, length}
+use Prim.Native.Nat.{ℕ, zero, suc, _-_}
+use mathlib.Core.Bool.{Bool, cond, not, _&&_}
+use mathlib.Core.List.{List, [], _∷_}
+use lib.Dec.{eqb}
 use Rattle.lists.specs.Lists.{has, all, any, below, keep, implies, elem}
 use Rattle.chart_records.specs.Chart.{Chart, stateAt, states, parentOf, basic, sequential, parallel}
 

@@ -16,10 +16,11 @@ use lib.Seq.{getD-drop}
 use Rattle.lists.specs.Lists.{has, keep, below, concat}
 use Rattle.lists.proofs.Bools.{clash, decided, fails, and-l, and-r, or-cases, cond-yes, cond-no}
 use Rattle.lists.proofs.Lists.{map-same, map-at, map-by, keep-at, keep-next, keep-left, mem-getD}
+use Rattle.lists.proofs.Concat.{concat-same}
 use Rattle.lists.proofs.Below.{below-next, below-end, getD-below, length-below}
 use Rattle.lists.proofs.Bits.{has-ext, has-zero, has-one, has-sum, has-or, Apart}
 use Rattle.lists.proofs.Within.{Within, within-right, within-both}
-use Rattle.chart_records.specs.Chart.{Chart, stateAt, states, parentOf, basic, sequential, parallel}
+use Rattle.chart_records.specs.Chart.{Chart, states, parentOf, basic, sequential, parallel}
 use Rattle.chart_records.specs.Tree.{under, isChild, children, fixed, shares}
 use Rattle.chart_records.proofs.Tree.{size, Parents, Child, children-at, unknown-parent, under-refl, under-transitive, child-under, child-above, children-disjoint}
 use Rattle.chart_records.proofs.Fixed.{unfixed-composite}
@@ -36,11 +37,6 @@ use Rattle.flatten_places.specs.declared.automaton.Automata.{Automata}
 use Rattle.flatten_places.specs.declared.fixed.Fixed.{Fixed}
 use Rattle.flatten_alternatives.specs.Choosing.{choices, given, Kept, Clear, Choosing}
 use Rattle.flatten_alternatives.proofs.Keeping.{kept-few, kept-same}
-
-concat-same : (f g : ℕ → List ℕ) (l : List ℕ) → ((x : ℕ) → Mem x l → f x ≡ g x) → concat f l ≡ concat g l
-unfolding concat
-concat-same f g [] h = refl
-concat-same f g (x ∷ l) h = rw (h x (here refl)) (ap (λ (r : List ℕ). g x ++ r) (concat-same f g l (λ y m. h y (there m))))
 
 -- what a state gives its parent
 pub given-shared : (c : Chart) (e x own : ℕ) → fixed c x ≡ true → shares c e x ≡ true → given own c e x ≡ own ∷ []

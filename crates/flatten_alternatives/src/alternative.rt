@@ -86,9 +86,31 @@ fn choose(
         return with_fixed(exits, exit, own, x, from, size, to, count);
     }
     if kind == 2 {
-        return choose_parallel(parents, kinds, exits, numbers, exit, x, from, size, to, count);
+        return choose_parallel(
+            parents,
+            kinds,
+            exits,
+            numbers,
+            exit,
+            x,
+            from,
+            size,
+            to,
+            count,
+        );
     }
-    choose_sequential(parents, kinds, exits, numbers, exit, x, from, size, to, count)
+    choose_sequential(
+        parents,
+        kinds,
+        exits,
+        numbers,
+        exit,
+        x,
+        from,
+        size,
+        to,
+        count,
+    )
 }
 
 // The sets with those of the choices from a sequential state s down, each joined with each set of another table.
@@ -112,7 +134,19 @@ fn choose_sequential(
     let mut x = s + 1;
     while x < Tree::STATES {
         if is_child(parents, s, x) {
-            total = choose(parents, kinds, exits, numbers, exit, x, own, from, size, to, total);
+            total = choose(
+                parents,
+                kinds,
+                exits,
+                numbers,
+                exit,
+                x,
+                own,
+                from,
+                size,
+                to,
+                total,
+            );
         }
         x += 1;
     }
@@ -141,7 +175,19 @@ fn choose_parallel(
     while x < Tree::STATES {
         if is_child(parents, s, x) {
             let mut next = [0; 1024];
-            made = choose(parents, kinds, exits, numbers, exit, x, 0, &joined, made, &mut next, 0);
+            made = choose(
+                parents,
+                kinds,
+                exits,
+                numbers,
+                exit,
+                x,
+                0,
+                &joined,
+                made,
+                &mut next,
+                0,
+            );
             joined = next;
         }
         x += 1;
@@ -165,7 +211,19 @@ fn chosen(
         return 0;
     }
     let none = [0; 1024]; // the set of no automaton
-    choose(parents, kinds, exits, numbers, exit, s, 0, &none, 1, items, 0)
+    choose(
+        parents,
+        kinds,
+        exits,
+        numbers,
+        exit,
+        s,
+        0,
+        &none,
+        1,
+        items,
+        0,
+    )
 }
 
 // The alternatives of an exit of a state m, ascending, each once: how many there are, or 1,025 if there are too many for the

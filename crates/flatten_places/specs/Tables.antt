@@ -1,7 +1,7 @@
 -- What the flattener keeps of a chart: its transitions as columns, its automata, pairs and places as tables.
 use Prim.Native.Nat.{ℕ, _≤_, _<_}
 use mathlib.Core.Path.{_≡_}
-use mathlib.Core.Bool.{Bool, true, false, cond, _&&_}
+use mathlib.Core.Bool.{cond, _&&_}
 use mathlib.Core.List.{List, map}
 use lib.ListN.{getD, length, take}
 use Rattle.lists.specs.Lists.{has, bitsOf}
@@ -9,7 +9,7 @@ use Rattle.reading.specs.Answer.{done}
 use Rattle.chart_records.specs.Chart.{Chart, Transition, stateAt, transitionAt}
 use Rattle.chart_records.specs.Tree.{sequentials, fixed, shares}
 use Rattle.chart_records.specs.Rules.{chartOf}
-use Rattle.flattening.specs.Flatten.{Pair, Place, idle, child, pre, post, placeHome, automaton, allPlaces, atExit, number, arrival, departure}
+use Rattle.flattening.specs.Flatten.{Pair, Place, idle, child, pre, post, placeHome, automaton, atExit, number, arrival, departure}
 use Rattle.flatten_places.specs.declared.transition.Transitions.{Transitions}
 use Rattle.flatten_places.specs.declared.automaton.Automata.{Automata}
 use Rattle.flatten_places.specs.declared.fixed.Fixed.{Fixed}

@@ -1,15 +1,14 @@
 // The places of all automata, in order. A place's number is that of its location.
-ghost use Prim.Native.Nat.{ℕ, _≤_, _<_};
+ghost use Prim.Native.Nat.{_<_};
 ghost use mathlib.Core.Path.{_≡_};
 ghost use mathlib.Core.Bool.{not, _&&_};
 ghost use mathlib.Core.List.{[], _∷_, map};
 ghost use lib.Dec.{eqb};
 ghost use lib.ListN.{getD};
-ghost use Rattle.lists.specs.Lists.{keep};
-ghost use Rattle.chart_records.specs.Chart.{Chart, home};
+ghost use Rattle.chart_records.specs.Chart.{Chart};
 ghost use Rattle.chart_records.specs.Tree.{children};
 ghost use Rattle.chart_tree.specs.Table.{Tabled};
-ghost use Rattle.flattening.specs.Flatten.{Place, child, pre, post, pairs, entersBy, hasExit, places, allPlaces, automaton, enterPairs};
+ghost use Rattle.flattening.specs.Flatten.{Place, child, pre, post, pairs, entersBy, places, allPlaces, automaton, enterPairs};
 ghost use Rattle.flatten_places.specs.Tables.{Chartered, FixedIn, Columned, Automated, Paired, Listed};
 ghost use Rattle.flatten_places.specs.Filling.{tableOf, Puts, Rowed, leaving};
 use crate::automaton::Automata;

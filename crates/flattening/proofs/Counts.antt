@@ -1,7 +1,7 @@
 -- How many pairs, places and automata a chart has: what is counted is matched with the chart's transitions and states.
 use mathlib.Core.Path.{_≡_, sym, _∙_}
 use mathlib.Core.List.{List, _++_, map, List·Memᴰ as Mem, Memᴰ·append-left as append-left, Memᴰ·append-right as append-right}
-use Prim.Native.Nat.{ℕ, _+_, _-_, _≤_, _<_}
+use Prim.Native.Nat.{ℕ, _+_, _-_, _≤_}
 use native.Mathlib.Omega.{arith}
 use lib.ListN.{length, length-append, length-map}
 use Rattle.lists.specs.Lists.{range, below}

@@ -16,4 +16,5 @@ pub mod Pictured
 pub mod Counts
 pub mod Files
 pub mod Printable
+pub mod Before
 pub mod Samples

@@ -1,4 +1,5 @@
 pub mod Flatten
 pub mod Picture
 pub mod File
+pub mod Before
 pub mod Samples

@@ -26,6 +26,11 @@ module _ {A B : Type 0} (f : A → List B) where
   concat-at [] m = absurd (not-nil m)
   concat-at (x ∷ xs) m = ⊎-elim (λ n. (x, here refl, n)) (λ n. let r = concat-at xs n in (r .0, there (r .1), r .2)) (append-cases (f x) m)
 
+pub concat-same : {A B : Type 0} (f g : A → List B) (xs : List A) → ((x : A) → Mem x xs → f x ≡ g x) → concat f xs ≡ concat g xs
+unfolding concat
+concat-same f g [] h = refl
+concat-same f g (x ∷ xs) h = λ i. h x (here refl) i ++ concat-same f g xs (λ y m. h y (there m)) i
+
 pub concat-length : {A B : Type 0} (f : A → List B) (k : ℕ) (xs : List A) → ((x : A) → Mem x xs → length (f x) ≤ k) → length (concat f xs) ≤ length xs * k
 unfolding concat
 concat-length f k [] h = omega arith
