@@ -44,13 +44,13 @@ fn state_bounds(rest: &[u8], counts: Counts) -> [[u32; 8]; 48]
 
 // The bounds of each state joined with those of its sensors, deepest first: from the last state up each basic or plain
 // child of a parallel state adds its own to its parent's, whose number is smaller.
-fn own_bounds(tree: Tree, fixed: Fixed, rows: [[u32; 8]; 48]) -> [[u32; 8]; 48]
-    ensures { λ r. ⌜ ((c : Chart) → Tabled c tree → parents c ≡ true → FixedIn c fixed → RowsOf (boundsAt c) c rows → RowsOf (own c) c r) ⌝ }
+fn own_bounds(rest: &[u8], counts: Counts, tree: Tree, fixed: Fixed) -> [[u32; 8]; 48]
+    ensures { λ r. ⌜ ((c : Chart) → Stated (now (rest .entry)) counts c → Tabled c tree → parents c ≡ true → FixedIn c fixed → RowsOf (own c) c r) ⌝ }
 {
     let parents = tree.parents;
     let kinds = tree.kinds;
     let inner = fixed.kinds;
-    let mut table = rows;
+    let mut table = state_bounds(rest, counts);
     let mut s = tree.states;
     if s > 48 {
         return table;
@@ -105,8 +105,7 @@ fn bounds_above(parents: &[u8], kinds: &[u8], rows: [[u32; 8]; 48]) -> [[u32; 8]
 pub fn joined_bounds(rest: &[u8], counts: Counts, tree: Tree, fixed: Fixed) -> [[u32; 8]; 48]
     ensures { λ r. ⌜ ((c : Chart) → Stated (now (rest .entry)) counts c → Tabled c tree → parents c ≡ true → entryMarks c ≡ true → FixedIn c fixed → Bounded c tree r) ⌝ }
 {
-    let rows = state_bounds(rest, counts);
-    let own = own_bounds(tree, fixed, rows);
+    let own = own_bounds(rest, counts, tree, fixed);
     let parents = tree.parents;
     let kinds = tree.kinds;
     let above = bounds_above(&parents, &kinds, own);

@@ -4,9 +4,6 @@ use Rattle.flatten_tables.proofs.Bounding.{rows-joined}
 use Rattle.flatten_tables.proofs.bound.joined_bounds.Statement.{statement}
 use Rattle.flatten_tables.proofs.bound.joined_bounds.Tie as tie
 
-state-bounds-requires : tie.Need-state-bounds-requires
-state-bounds-requires c κs = search needs
-
 own-bounds-requires : tie.Need-own-bounds-requires
 own-bounds-requires c κs = search needs
 
@@ -24,9 +21,8 @@ join-tables-requires c κs = search needs
 
 returns : tie.Need-returns
 returns c d S T r5 r8 F =
-    let at = c .before .before .before .before .before .before in
-    let mine = at .own-bounds in
-    let rows = mine .ensures d T r5 F (at .before .state-bounds .ensures d S) in
+    let mine = c .before .before .before .before .before .before .own-bounds in
+    let rows = mine .ensures d S T r5 F in
     let above = c .before .bounds-above in
     record {
       tabled = T;
@@ -40,7 +36,6 @@ pub joined-bounds-spec : {M : Type 1} → statement M
 joined-bounds-spec =
     tie.close
     (tie.spec
-    state-bounds-requires
     own-bounds-requires
     slice-aggregate-bounds-above
     slice-aggregate-bounds-above-2

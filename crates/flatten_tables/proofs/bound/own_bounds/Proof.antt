@@ -14,18 +14,21 @@ use Rattle.flatten_tables.proofs.bound.own_bounds.Statement.{statement}
 use Rattle.flatten_tables.proofs.bound.own_bounds.Tie as tie
 
 abbrev Inv-loop : tie.InvT-loop
-Inv-loop parents kinds inner table₀ s₀ table s =
+Inv-loop rest parents kinds inner table₀ s₀ table s =
     (length table ≡ 48) × (s ≤ s₀) × (s₀ ≤ 48)
     × ((c : Chart) → Rooted c parents → Column (λ x. x .kind) c kinds → FixedKinds c inner → s₀ ≡ length (c .states) → RowsOf (boundsAt c) c table₀ → RowsOf (ownSince c s) c table)
 
 abbrev μ-loop : tie.MeasureT-loop
-μ-loop parents kinds inner table₀ s₀ table s = s
+μ-loop rest parents kinds inner table₀ s₀ table s = s
+
+state-bounds-requires : tie.Need-state-bounds-requires Inv-loop μ-loop
+state-bounds-requires c κs = search needs
 
 returns : tie.Need-returns Inv-loop μ-loop
-returns c = λ d T r F R. absurd (omega (arith, c .if1 .taken, T .count, T .few))
+returns c = λ d S T r F. absurd (omega (arith, c .if1 .taken, T .count, T .few))
 
 loop-holds : tie.Need-loop-holds Inv-loop μ-loop
-loop-holds c = (search needs, omega arith, c .if1 .left, λ d R K F N B. own-none d (c .before .before .before .before .args .rows) _ N B)
+loop-holds c = (search needs, omega arith, c .if1 .left, λ d R K F N B. own-none d (c .before .state-bounds .result) _ N B)
 
 sub-s : tie.Need-sub-s Inv-loop μ-loop
 sub-s c = omega arith
@@ -73,7 +76,7 @@ loop-again : tie.Need-loop-again Inv-loop μ-loop
 loop-again c =
     let at = c .before .before .before .before in
     let i = at .before .loop .inv in
-    let a = at .before .before .before .before .before .before .args in (
+    let a = at .before .before .before .before .before .before .before .before .args in (
       rw length-set (i .0),
       omega arith,
       i .2,
@@ -87,7 +90,7 @@ loop-again-2 : tie.Need-loop-again-2 Inv-loop μ-loop
 loop-again-2 c =
     let at = c .before in
     let i = at .before .loop .inv in
-    let a = at .before .before .before .before .before .before .args in (
+    let a = at .before .before .before .before .before .before .before .before .args in (
       i .0,
       omega arith,
       i .2,
@@ -95,9 +98,9 @@ loop-again-2 c =
     )
 
 returns-2 : tie.Need-returns-2 Inv-loop μ-loop
-returns-2 c = λ d T r F B.
+returns-2 c = λ d S T r F.
     let R = rooted-of d _ T r in
-    own-all d (parents-at d r) (c .before .loop .table) _ (c .loop-test .left) (c .before .loop .inv .3 d R (T .kind) (F .kind) (T .count) B)
+    own-all d (parents-at d r) (c .before .loop .table) _ (c .loop-test .left) (c .before .loop .inv .3 d R (T .kind) (F .kind) (T .count) (c .before .before .before .state-bounds .ensures d S))
 
 pub own-bounds-spec : {M : Type 1} → statement M
 own-bounds-spec =
@@ -105,6 +108,7 @@ own-bounds-spec =
     (tie.spec
     Inv-loop
     μ-loop
+    state-bounds-requires
     returns
     loop-holds
     sub-s
