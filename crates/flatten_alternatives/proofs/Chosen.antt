@@ -14,13 +14,13 @@ use lib.Bits.{bitOr}
 use lib.ListN.{length, getD, drop, replicate, length-drop, length-replicate}
 use lib.Seq.{getD-drop}
 use Rattle.lists.specs.Lists.{has, keep, below, concat}
-use Rattle.lists.proofs.Bools.{clash, decided, fails, and-l, and-r, or-cases, cond-yes, cond-no}
+use Rattle.lists.proofs.Bools.{clash, decided, fails, and-l, and-r, or-cases, cond-no}
 use Rattle.lists.proofs.Lists.{map-same, map-at, map-by, keep-at, keep-next, keep-left, mem-getD}
 use Rattle.lists.proofs.Concat.{concat-same}
 use Rattle.lists.proofs.Below.{below-next, below-end, getD-below, length-below}
 use Rattle.lists.proofs.Bits.{has-ext, has-zero, has-one, has-sum, has-or, Apart}
 use Rattle.lists.proofs.Within.{Within, within-right, within-both}
-use Rattle.chart_records.specs.Chart.{Chart, states, parentOf, basic, sequential, parallel}
+use Rattle.chart_records.specs.Chart.{Chart, states, parentOf, sequential, parallel}
 use Rattle.chart_records.specs.Tree.{under, isChild, children, fixed, shares}
 use Rattle.chart_records.proofs.Tree.{size, Parents, Child, children-at, unknown-parent, under-refl, under-transitive, child-under, child-above, children-disjoint}
 use Rattle.chart_records.proofs.Fixed.{unfixed-composite}
@@ -34,6 +34,7 @@ use Rattle.chart_tree.specs.declared.table.Tree.{Tree}
 use Rattle.chart_tree.specs.Table.{Tabled}
 use Rattle.flatten_places.specs.Tables.{Chartered, Automated, FixedIn}
 use Rattle.flatten_places.specs.declared.automaton.Automata.{Automata}
+use Rattle.flatten_places.proofs.Fixing.{fixed-test}
 use Rattle.flatten_places.specs.declared.fixed.Fixed.{Fixed}
 use Rattle.flatten_alternatives.specs.Choosing.{choices, given, Kept, Clear, Choosing}
 use Rattle.flatten_alternatives.proofs.Keeping.{kept-few, kept-same}
@@ -199,13 +200,11 @@ module _ (c : Chart) (above kinds marks numbers : List ℕ) (s : ℕ) (C : Choos
   unfolding parentOf
   child-is x l h q = ap (λ (b : Bool). not b && eqb (parentOf c x) s) (ne-eqb x 0 (λ z. omega arith)) ∙ ap (λ (n : ℕ). eqb n s) (sym (C .parent x h)) ∙ sym q
 
-  -- a state counts as basic just if it is fixed
   pub kind-fixed : (x : ℕ) → x < 48 → getD kinds x 0 ≡ 0 → fixed c x ≡ true
-  unfolding basic
-  kind-fixed x h z = ⊎-elim (λ f. f) (λ f. clash (eq-eqb _ 0 (sym (cond-no 0 _ f) ∙ sym (C .kind x h) ∙ z)) (unfixed-composite c tree x f)) (decided (fixed c x))
+  kind-fixed x h z = sym (fixed-test c kinds (C .kind) tree x h) ∙ eq-eqb _ 0 z
 
   pub kind-unfixed : (x : ℕ) → x < 48 → getD kinds x 0 ≢ 0 → fixed c x ≡ false
-  kind-unfixed x h z = fails (fixed c x) (λ f. z (C .kind x h ∙ cond-yes 0 _ f))
+  kind-unfixed x h z = sym (fixed-test c kinds (C .kind) tree x h) ∙ ne-eqb _ 0 z
 
   pub kind-parallel : (x : ℕ) → x < 48 → fixed c x ≡ false → getD kinds x 0 ≡ 2 → parallel c x ≡ true
   unfolding parallel
