@@ -1,13 +1,13 @@
--- The chart machine: start, step and wait.
+-- The chart machine: start, step, wait and the longest wait.
 use Prim.Native.Nat.{ℕ, zero, suc, _+_, _*_, _-_, _^_}
-use mathlib.Core.Bool.{Bool, true, false, not, _&&_, _||_}
+use mathlib.Core.Bool.{Bool, true, false, cond, not, _&&_, _||_}
 use mathlib.Core.List.{List, [], _∷_, _++_, map}
 use lib.IntN.{ℤ, pos}
 use lib.Dec.{leb, ltb, eqb}
 use lib.ListN.{getD, length, replicate, drop}
 use Rattle.lists.specs.Lists.{has, all, any, below, keep, implies}
 use Rattle.labels.specs.Label.{Label, guardsHold}
-use Rattle.clocks.specs.Clocks.{keeps, later, inLimit, zeroPast, zerosPast}
+use Rattle.clocks.specs.Clocks.{keeps, rowLeft, limitLeft, later, inLimit, zeroPast, zerosPast}
 use Rattle.steps.specs.Moves.{known, allowed, variablesAfter, clocksAfter}
 use Rattle.reading.specs.Answer.{Answer, done, refused, unless, _>>=_}
 use Rattle.chart_records.specs.Chart.{Chart, State, Transition, stateAt, transitionAt, states, parentOf, basic, sequential, parallel, home}
@@ -88,6 +88,15 @@ wait c σ d =
     (unless 22 (leb 1 d && inLimit (c .clocks) cs)
     (tested c (record { active = σ .active; variables = σ .variables; clocks = cs })))
 
+-- the ticks left under the bounds of those of some states that are active, and m at most
+unfoldable pub ticksUnder : Chart → Configuration → List ℕ → ℕ → ℕ
+ticksUnder c σ [] m = m
+ticksUnder c σ (s ∷ ss) m = ticksUnder c σ ss (cond (isActive σ s) (rowLeft (c .clocks) (stateAt c s .bounds) (σ .clocks) m) m)
+
+-- the longest wait: the ticks left under all bounds, and to the limit
+unfoldable pub longest : Chart → Configuration → Answer ℕ
+longest c σ = unless 17 (isConfiguration c σ) (done (ticksUnder c σ (states c) (limitLeft (c .clocks) (σ .clocks))))
+
 unfoldable pub startOf : List ℕ → Answer Configuration
 startOf file = chartOf file >>= λ c. done (start c)
 
@@ -96,3 +105,6 @@ stepOf file σ ms = chartOf file >>= λ c. step c σ ms
 
 unfoldable pub waitOf : List ℕ → Configuration → ℕ → Answer Configuration
 waitOf file σ d = chartOf file >>= λ c. wait c σ d
+
+unfoldable pub longestOf : List ℕ → Configuration → Answer ℕ
+longestOf file σ = chartOf file >>= λ c. longest c σ

@@ -7,6 +7,8 @@ use lib.ListN.{getD, replicate, drop}
 use Rattle.lists.specs.Lists.{has, all, below}
 use Rattle.reading.specs.Reading.{Reader, byte4, such, many, _>>=_, yield}
 use lib.IntN.{ℤ, pos, negsuc}
+use Rattle.clocks.specs.declared.left.Left.{Left}
+use Rattle.clocks.specs.declared.left.Left.the-variants as Le
 
 abbrev pub clock-limit : ℕ
 clock-limit = 2147483647
@@ -26,11 +28,40 @@ join a b = zipWith min a b
 unfoldable pub joinTables : List (List ℕ) → List (List ℕ) → List (List ℕ)
 joinTables a b = zipWith join a b
 
+-- the test of a bound: the ticks left before the clock passes it or the limit, or that it is broken. So no bound leaves
+-- what the limit leaves
+unfoldable pub ticksLeft : ℕ → ℕ → Left
+ticksLeft b c = cond (leb c b) (Le.Ticks (min b clock-limit - c)) Le.Broken
+
+unfoldable pub isKept : Left → Bool
+isKept (Le.Ticks n) = true
+isKept Le.Broken = false
+
 -- each clock is at most its bound
 unfoldable pub keeps : List ℕ → List ℕ → Bool
 keeps [] cs = true
 keeps (b ∷ bs) [] = true
-keeps (b ∷ bs) (c ∷ cs) = leb c b && keeps bs cs
+keeps (b ∷ bs) (c ∷ cs) = isKept (ticksLeft b c) && keeps bs cs
+
+-- of the ticks left under a bound and m others the fewest; a broken bound leaves none
+unfoldable pub fewest : Left → ℕ → ℕ
+fewest (Le.Ticks n) m = min n m
+fewest Le.Broken m = 0
+
+-- the ticks left for the first n clocks under the bounds of a row, and m at most
+unfoldable pub rowLeft : ℕ → List ℕ → List ℕ → ℕ → ℕ
+rowLeft zero bs cs m = m
+rowLeft (suc n) [] cs m = m
+rowLeft (suc n) (b ∷ bs) [] m = m
+rowLeft (suc n) (b ∷ bs) (c ∷ cs) m = rowLeft n bs cs (fewest (ticksLeft b c) m)
+
+-- the greatest number of ticks that a wait can name
+abbrev pub all-ticks : ℕ
+all-ticks = 4294967295
+
+-- the ticks left for the first n clocks where there is no bound: to the limit, or, without a clock, all
+unfoldable pub limitLeft : ℕ → List ℕ → ℕ
+limitLeft n cs = rowLeft n free cs all-ticks
 
 abbrev pub isBound : ℕ → Bool
 isBound b = leb b clock-limit || eqb b no-bound

@@ -1,2 +1,3 @@
 // Clocks and rows of bounds.
 pub mod clock;
+pub mod left;

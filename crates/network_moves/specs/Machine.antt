@@ -1,4 +1,4 @@
--- The network machine: start, step and wait.
+-- The network machine: start, step, wait and the longest wait.
 use Prim.Native.Nat.{ℕ, _-_}
 use mathlib.Core.Bool.{Bool, cond, not, _&&_, Bool·beq}
 use mathlib.Core.List.{List, [], _∷_, map}
@@ -7,7 +7,7 @@ use lib.Dec.{leb, ltb, eqb}
 use lib.ListN.{getD, length, replicate, set}
 use Rattle.lists.specs.Lists.{has, all, any, below, implies, bitsOf}
 use Rattle.labels.specs.Label.{guardsHold}
-use Rattle.clocks.specs.Clocks.{keeps, later, inLimit, zeroPast, zerosPast}
+use Rattle.clocks.specs.Clocks.{keeps, rowLeft, limitLeft, later, inLimit, zeroPast, zerosPast}
 use Rattle.steps.specs.Moves.{known, allowed, variablesAfter, clocksAfter}
 use Rattle.reading.specs.Answer.{Answer, done, unless, _>>=_}
 use Rattle.network_records.specs.Network.{Edge, Network, locationAt, urgentAt, edgeAt, ownerOf, initials, networkOf}
@@ -91,6 +91,17 @@ wait n c d =
     (unless 27 (not (urgent n c))
     (tested n (record { locations = c .locations; flags = c .flags; variables = c .variables; clocks = cs }))))
 
+-- the ticks left under the bounds of the locations of some automata, and m at most
+unfoldable pub ticksUnder : Network → Configuration → List ℕ → ℕ → ℕ
+ticksUnder n c [] m = m
+ticksUnder n c (a ∷ others) m = ticksUnder n c others (rowLeft (n .clocks) (locationAt n (place c a) .bounds) (c .clocks) m)
+
+-- the longest wait: none from an urgent location, or else the ticks left under all bounds, and to the limit
+unfoldable pub longest : Network → Configuration → Answer ℕ
+longest n c =
+    unless 26 (isConfiguration n c)
+    (done (cond (urgent n c) 0 (ticksUnder n c (below (n .automata)) (limitLeft (n .clocks) (c .clocks)))))
+
 -- the operations on files
 unfoldable pub startOf : List ℕ → Answer Configuration
 startOf file = networkOf file >>= λ n. done (start n)
@@ -100,3 +111,6 @@ stepOf file c ms = networkOf file >>= λ n. step n c ms
 
 unfoldable pub waitOf : List ℕ → Configuration → ℕ → Answer Configuration
 waitOf file c d = networkOf file >>= λ n. wait n c d
+
+unfoldable pub longestOf : List ℕ → Configuration → Answer ℕ
+longestOf file c = networkOf file >>= λ n. longest n c
