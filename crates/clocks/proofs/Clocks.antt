@@ -12,7 +12,7 @@ use lib.Dec.{leb, eqb}
 use lib.ListN.{length, getD, set, List·getD-eq-default}
 use lib.Seq.{ext-getD}
 use Rattle.lists.specs.Lists.{has}
-use Rattle.clocks.specs.Clocks.{clock-limit, join, joinTables, keeps, resetFrom, reset, later, inLimit, isZero}
+use Rattle.clocks.specs.Clocks.{clock-limit, join, joinTables, ticksLeft, isKept, keeps, resetFrom, reset, later, inLimit, isZero}
 use Rattle.lists.proofs.Bools.{fails, and-l, and-r, both, same, cond-no}
 use Rattle.lists.proofs.Lists.{length-zipWith, getD-zipWith}
 use Rattle.lists.proofs.Below.{all-below, below-all}
@@ -20,6 +20,7 @@ use mir.Syntax.{w32}
 use mir.Val.{ofZ, SFits}
 use lib.IntN.{ℤ, pos, negsuc}
 use Rattle.lists.proofs.Bits.{has-zero}
+use Rattle.clocks.proofs.Ticks.{kept-is}
 
 -- join
 pub length-join : (a b : List ℕ) → length (join a b) ≡ min (length a) (length b)
@@ -53,14 +54,14 @@ pub keeps-at : (bs cs : List ℕ) → keeps bs cs ≡ true → (i : ℕ) → i <
 unfolding keeps
 keeps-at [] cs h i l = absurd (omega arith)
 keeps-at (b ∷ bs) [] h i l = omega arith
-keeps-at (b ∷ bs) (c ∷ cs) h zero l = leb-true c b (and-l (leb c b) (keeps bs cs) h)
-keeps-at (b ∷ bs) (c ∷ cs) h (suc i) l = keeps-at bs cs (and-r (leb c b) (keeps bs cs) h) i (omega arith)
+keeps-at (b ∷ bs) (c ∷ cs) h zero l = leb-true c b (sym (kept-is b c) ∙ and-l (isKept (ticksLeft b c)) (keeps bs cs) h)
+keeps-at (b ∷ bs) (c ∷ cs) h (suc i) l = keeps-at bs cs (and-r (isKept (ticksLeft b c)) (keeps bs cs) h) i (omega arith)
 
 pub keeps-by : (bs cs : List ℕ) → ((i : ℕ) → i < length bs → getD cs i 0 ≤ getD bs i 0) → keeps bs cs ≡ true
 unfolding keeps
 keeps-by [] cs f = refl
 keeps-by (b ∷ bs) [] f = refl
-keeps-by (b ∷ bs) (c ∷ cs) f = both (le-leb c b (f 0 (omega arith))) (keeps-by bs cs (λ i l. f (suc i) (omega arith)))
+keeps-by (b ∷ bs) (c ∷ cs) f = both (kept-is b c ∙ le-leb c b (f 0 (omega arith))) (keeps-by bs cs (λ i l. f (suc i) (omega arith)))
 
 pub keeps-not : (bs cs : List ℕ) (i : ℕ) → i < length bs → getD bs i 0 < getD cs i 0 → keeps bs cs ≡ false
 keeps-not bs cs i l h = fails (keeps bs cs) (λ e. omega (arith, keeps-at bs cs e i l))

@@ -17,6 +17,7 @@ use Rattle.clocks.specs.Clocks.{isBound, clock-limit, no-bound, free, jo
 use Rattle.lists.proofs.Bools.{both}
 use Rattle.lists.proofs.Lists.{all-at, getD-mem, mem-getD, all-past, zeros-at}
 use Rattle.lists.proofs.Below.{all-below, below-all}
+use Rattle.clocks.proofs.Ticks.{kept-is}
 use Rattle.clocks.proofs.Clocks.{length-join}
 use Rattle.reading.proofs.Places.{bind-got, bind-fault}
 use Rattle.reading.specs.Places.{onward}
@@ -43,7 +44,7 @@ keeps-unbounded : (n : ℕ) (cs : List ℕ) → ClockValues cs → keeps (replic
 unfolding keeps
 keeps-unbounded zero cs v = refl
 keeps-unbounded (suc n) [] v = refl
-keeps-unbounded (suc n) (c ∷ cs) v = both (le-leb c no-bound (v c (here refl))) (keeps-unbounded n cs (λ x m. v x (there m)))
+keeps-unbounded (suc n) (c ∷ cs) v = both (kept-is no-bound c ∙ le-leb c no-bound (v c (here refl))) (keeps-unbounded n cs (λ x m. v x (there m)))
 
 pub keeps-free : (cs : List ℕ) → ClockValues cs → keeps free cs ≡ true
 keeps-free cs v = keeps-unbounded 8 cs v
@@ -93,7 +94,7 @@ pub keeps-zeros : (b : List ℕ) (n : ℕ) → keeps b (replicate n 0) ≡ true
 unfolding keeps
 keeps-zeros [] n = refl
 keeps-zeros (b ∷ bs) zero = refl
-keeps-zeros (b ∷ bs) (suc n) = both (le-leb 0 b (omega arith)) (keeps-zeros bs n)
+keeps-zeros (b ∷ bs) (suc n) = both (kept-is b 0 ∙ le-leb 0 b (omega arith)) (keeps-zeros bs n)
 
 pub values-zeros : (n : ℕ) → ClockValues (replicate n 0)
 values-zeros (suc n) x (here e) = omega arith

@@ -33,7 +33,7 @@ joinTables a b = zipWith join a b
 unfoldable pub ticksLeft : ℕ → ℕ → Left
 ticksLeft b c = cond (leb c b) (Le.Ticks (min b clock-limit - c)) Le.Broken
 
-unfoldable pub isKept : Left → Bool
+abbrev pub isKept : Left → Bool
 isKept (Le.Ticks n) = true
 isKept Le.Broken = false
 
@@ -44,7 +44,7 @@ keeps (b ∷ bs) [] = true
 keeps (b ∷ bs) (c ∷ cs) = isKept (ticksLeft b c) && keeps bs cs
 
 -- of the ticks left under a bound and m others the fewest; a broken bound leaves none
-unfoldable pub fewest : Left → ℕ → ℕ
+abbrev pub fewest : Left → ℕ → ℕ
 fewest (Le.Ticks n) m = min n m
 fewest Le.Broken m = 0
 

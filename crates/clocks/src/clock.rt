@@ -7,6 +7,8 @@ ghost use Rattle.lists.specs.Lists.{has};
 ghost use Rattle.reading.specs.Reading.{byte4, such, skipped};
 ghost use Rattle.clocks.specs.Clocks.{clock-limit, isBound, row, join, joinTables, keeps, reset, later, inLimit, zeroPast, zerosPast};
 ghost use Rattle.reading.specs.Places.{onward, wordOf, reached};
+use crate::left::is_kept;
+use crate::left::ticks_left;
 use reading::field::Fault;
 use reading::field::Reached;
 use reading::field::WordRead;
@@ -94,7 +96,7 @@ pub fn read_row(s: &[u8], at: usize, clocks: usize) -> RowRead
     }
 }
 
-fn least(a: u32, b: u32) -> u32
+pub(crate) fn least(a: u32, b: u32) -> u32
     ensures { λ r. ⌜ r ≡ min a b ⌝ }
 {
     if a < b { a } else { b }
@@ -129,7 +131,7 @@ pub fn keeps(bounds: [u32; 8], clocks: [u32; 8]) -> bool
     ensures { λ r. ⌜ r ≡ keeps bounds clocks ⌝ }
 {
     for i in 0..8 {
-        if clocks[i] > bounds[i] {
+        if !is_kept(ticks_left(bounds[i], clocks[i])) {
             return false;
         }
     }

@@ -1,5 +1,8 @@
-// The test of a bound: how many ticks are left under it.
+// The test of a bound, and the ticks left under it and under the bounds of a row.
 ghost use mathlib.Core.Path.{_≡_};
+ghost use Prim.Native.Nat.{_-_, min};
+ghost use Rattle.clocks.specs.Clocks.{clock-limit, ticksLeft, isKept, fewest, rowLeft, limitLeft};
+use crate::clock::least;
 
 // The ticks left before a clock passes its bound or the limit, or that the bound is broken.
 pub enum Left {
@@ -11,4 +14,60 @@ pub enum Left {
 pub enum Longest {
     Ticks(u32),
     Refused(u8),
+}
+
+// The ticks from a clock to its bound or the limit, whichever is less; none from a clock that is past it.
+fn ticks_to(bound: u32, clock: u32) -> u32
+    ensures { λ r. ⌜ r ≡ min bound clock-limit - clock ⌝ }
+{
+    let end = least(bound, 2147483647);
+    if clock < end { end - clock } else { 0 }
+}
+
+// The test of a bound.
+pub fn ticks_left(bound: u32, clock: u32) -> Left
+    ensures { λ r. ⌜ r ≡ ticksLeft bound clock ⌝ }
+{
+    if clock > bound {
+        return Left::Broken;
+    }
+    Left::Ticks(ticks_to(bound, clock))
+}
+
+pub fn is_kept(left: Left) -> bool
+    ensures { λ r. ⌜ r ≡ isKept left ⌝ }
+{
+    match left {
+        Left::Ticks(_) => true,
+        Left::Broken => false,
+    }
+}
+
+// The fewest of the ticks left under a bound and of others.
+pub fn fewest(left: Left, others: u32) -> u32
+    ensures { λ r. ⌜ r ≡ fewest left others ⌝ }
+{
+    match left {
+        Left::Ticks(n) => least(n, others),
+        Left::Broken => 0,
+    }
+}
+
+// The ticks left for the first `count` clocks under the bounds of a row, and `ticks` at most.
+pub fn row_left(count: usize, bounds: [u32; 8], clocks: [u32; 8], ticks: u32) -> u32
+    ensures { λ r. ⌜ r ≡ rowLeft count bounds clocks ticks ⌝ }
+{
+    let n = lists::number::least(count, 8);
+    let mut left = ticks;
+    for i in 0..n {
+        left = fewest(ticks_left(bounds[i], clocks[i]), left);
+    }
+    left
+}
+
+// The ticks left for the first `count` clocks where there is no bound.
+pub fn limit_left(count: usize, clocks: [u32; 8]) -> u32
+    ensures { λ r. ⌜ r ≡ limitLeft count clocks ⌝ }
+{
+    row_left(count, [4294967295; 8], clocks, 4294967295)
 }
