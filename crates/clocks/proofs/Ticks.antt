@@ -69,6 +69,12 @@ row-left-by (suc n) (b ∷ bs) (c ∷ cs) m d h f =
     row-left-by n bs cs (fewest (ticksLeft b c) m) d (fewest-by b c m d (e .0) (e .1) h)
     (λ i l k j. f (suc i) (omega arith) (omega arith) (omega arith))
 
+-- a row without bounds leaves what there was
+pub row-left-none : (n : ℕ) (cs : List ℕ) (m : ℕ) → rowLeft n [] cs m ≡ m
+unfolding rowLeft
+row-left-none zero cs m = refl
+row-left-none (suc n) cs m = refl
+
 -- clock by clock
 pub row-left-more : (i : ℕ) (bs cs : List ℕ) (m : ℕ) → i < length bs → i < length cs
     → fewest (ticksLeft (getD bs i 0) (getD cs i 0)) (rowLeft i bs cs m) ≡ rowLeft (i + 1) bs cs m

@@ -4,7 +4,7 @@ use mathlib.Core.List.{List}
 use Prim.Native.Nat.{ℕ}
 use Rattle.reading.specs.Answer.{done, refused, _>>=_}
 use Rattle.network_records.specs.Network.{Network, networkOf}
-use Rattle.network_moves.specs.Machine.{start, step, wait, startOf, stepOf, waitOf}
+use Rattle.network_moves.specs.Machine.{start, step, wait, longest, startOf, stepOf, waitOf, longestOf}
 use Rattle.network_moves.specs.declared.configuration.Configuration.{Configuration}
 
 module _ (file : List ℕ) where
@@ -32,3 +32,11 @@ module _ (file : List ℕ) where
     pub step-done : (ms : List ℕ) {n : Network} → networkOf file ≡ done n → stepOf file c ms ≡ step n c ms
     unfolding stepOf _>>=_
     step-done ms h = rw h
+
+    pub longest-refused : {m : ℕ} → networkOf file ≡ refused m → longestOf file c ≡ refused m
+    unfolding longestOf _>>=_
+    longest-refused h = rw h
+
+    pub longest-done : {n : Network} → networkOf file ≡ done n → longestOf file c ≡ longest n c
+    unfolding longestOf _>>=_
+    longest-done h = rw h

@@ -1,4 +1,4 @@
--- What waiting answers, by the first of its tests that fails.
+-- What waiting, and asking how long a wait may be, answers by the first of its tests that fails.
 use mathlib.Core.Path.{_≡_}
 use mathlib.Core.Bool.{true, false}
 use mathlib.Core.List.{List}
@@ -6,9 +6,10 @@ use Prim.Native.Nat.{ℕ}
 use native.Mathlib.Omega.{arith}
 use borrow.Author.Tests.{le-leb, lt-leb}
 use Rattle.reading.specs.Answer.{done, refused, unless}
-use Rattle.clocks.specs.Clocks.{later, inLimit}
+use Rattle.lists.specs.Lists.{below}
+use Rattle.clocks.specs.Clocks.{limitLeft, later, inLimit}
 use Rattle.network_records.specs.Network.{Network}
-use Rattle.network_moves.specs.Machine.{isConfiguration, urgent, boundsKept, tested, wait}
+use Rattle.network_moves.specs.Machine.{isConfiguration, urgent, boundsKept, tested, wait, ticksUnder, longest}
 use Rattle.network_moves.specs.declared.configuration.Configuration.{Configuration}
 
 abbrev pub withClocks : Configuration → List ℕ → Configuration
@@ -47,3 +48,18 @@ module _ (n : Network) (c : Configuration) where
   pub bounds-right : boundsKept n c ≡ true → tested n c ≡ done c
   unfolding tested unless
   bounds-right h = rw h
+
+-- the longest wait
+module _ (n : Network) (c : Configuration) where
+  pub longest-elsewhere : isConfiguration n c ≡ false → longest n c ≡ refused 26
+  unfolding longest unless
+  longest-elsewhere h = rw h
+
+  pub longest-urgent : isConfiguration n c ≡ true → urgent n c ≡ true → longest n c ≡ done 0
+  unfolding longest unless
+  longest-urgent h u = rw (h, u)
+
+  pub longest-ticks : isConfiguration n c ≡ true → urgent n c ≡ false
+      → longest n c ≡ done (ticksUnder n c (below (n .automata)) (limitLeft (n .clocks) (c .clocks)))
+  unfolding longest unless
+  longest-ticks h u = rw (h, u)

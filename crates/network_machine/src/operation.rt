@@ -1,11 +1,14 @@
 // The operations on files, of any bytes.
 ghost use mathlib.Core.Path.{_≡_};
-ghost use Rattle.network_moves.specs.Machine.{startOf, stepOf, waitOf};
+ghost use Rattle.clocks.specs.Longest.{told};
+ghost use Rattle.network_moves.specs.Machine.{startOf, stepOf, waitOf, longestOf};
 ghost use Rattle.network_machine.specs.Answers.{outcomeOf, zeroConfiguration};
+use crate::longest::longest_checked;
 use crate::outcome::Outcome;
 use crate::outcome::refused;
 use crate::step::step_checked;
 use crate::wait::wait_checked;
+use clocks::left::Longest;
 use network::check::Finding;
 use network::check::check;
 use network::check::finding_number;
@@ -61,4 +64,16 @@ pub fn wait(file: &[u8], c: Configuration, ticks: u32) -> Outcome
         return refused(finding_number(finding), c);
     };
     wait_checked(&file[5..], counts, c, ticks)
+}
+
+// How long a wait may be.
+pub fn longest(file: &[u8], c: Configuration) -> Longest
+    ensures { λ r. ⌜ r ≡ told (longestOf (now (file .entry)) c) ⌝ }
+{
+    let mut offsets = [0; 1024];
+    let finding = check(file, &mut offsets);
+    let Finding::Counts(counts) = finding else {
+        return Longest::Refused(finding_number(finding));
+    };
+    longest_checked(&file[5..], counts, c)
 }

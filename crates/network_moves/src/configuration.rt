@@ -5,13 +5,16 @@ ghost use lib.Dec.{ltb, eqb};
 ghost use lib.ListN.{length};
 ghost use Rattle.lists.specs.Lists.{all, below};
 ghost use Rattle.network_records.specs.Network.{Network, locationAt};
-ghost use Rattle.network_moves.specs.Machine.{place, start, boundsKept, isConfiguration, urgent};
+ghost use Rattle.clocks.specs.Clocks.{limitLeft};
+ghost use Rattle.network_moves.specs.Machine.{place, start, boundsKept, ticksUnder, isConfiguration, urgent};
 ghost use Rattle.network_records.specs.Layout.{Located};
+use clocks::left::limit_left;
 use network::initial::initial_locations;
 use network_records::header::Counts;
 use network_records::location::automaton_of;
 use network_records::location::is_urgent;
 use network_records::location::keeps_bounds;
+use network_records::location::left_under;
 
 #[repr(C)]
 pub struct Configuration {
@@ -68,6 +71,21 @@ pub fn bounds_kept(rest: &[u8], counts: Counts, c: Configuration) -> bool
         a += 1;
     }
     true
+}
+
+// The ticks left under the bounds of all occupied locations, and to the limit.
+pub fn ticks_under(rest: &[u8], counts: Counts, c: Configuration) -> u32
+    ensures { λ r. ⌜ ((n : Network) → Located (now (rest .entry)) counts n → r ≡ ticksUnder n c (below (n .automata)) (limitLeft (n .clocks) (c .clocks))) ⌝ }
+{
+    let clocks = c.clocks;
+    let mut ticks = limit_left(counts.clocks as usize, clocks);
+    let mut a = 0;
+    while a < counts.automata {
+        let l = place(c, a);
+        ticks = left_under(rest, counts, l, clocks, ticks);
+        a += 1;
+    }
+    ticks
 }
 
 // Whether an urgent location is occupied.

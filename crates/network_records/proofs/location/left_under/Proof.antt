@@ -1,0 +1,33 @@
+use mathlib.Core.Path.{sym, ap, ap₂, _∙_}
+use mathlib.Core.List.{List}
+use Prim.Native.Nat.{ℕ}
+use Rattle.clocks.specs.Clocks.{rowLeft}
+use Rattle.clocks.proofs.Ticks.{row-left-none}
+use Rattle.network_records.specs.Network.{Location}
+use Rattle.network_records.proofs.Records.{no-location}
+use borrow.Author.Needs.{needs}
+use Rattle.network_records.proofs.location.left_under.Statement.{statement}
+use Rattle.network_records.proofs.location.left_under.Tie as tie
+
+bounds-of-requires : tie.Need-bounds-of-requires
+bounds-of-requires c κs = search needs
+
+cast-row-left : tie.Need-cast-row-left
+cast-row-left c = search needs
+
+row-left-requires : tie.Need-row-left-requires
+row-left-requires c κs = search needs
+
+returns : tie.Need-returns
+returns c = λ n L. let a = c .before .before .before .before .before .before .args in
+    let at-bounds = c .before .before in
+    c .row-left .ensures
+    ∙ ap₂ (λ (k : ℕ) (b : List ℕ). rowLeft k b (a .clocks) (a .ticks)) (sym (L .clocks)) (at-bounds .bounds-of .ensures n L (at-bounds .before .if1 .taken))
+
+returns-2 : tie.Need-returns-2
+returns-2 c = λ n L. let a = c .before .before .before .args in
+    sym (ap (λ (l : Location). rowLeft (n .clocks) (l .bounds) (a .clocks) (a .ticks)) (no-location L (c .if1 .left)) ∙ row-left-none _ _ _)
+
+pub left-under-spec : {M : Type 1} → statement M
+left-under-spec =
+    tie.close (tie.spec bounds-of-requires cast-row-left row-left-requires returns returns-2)
