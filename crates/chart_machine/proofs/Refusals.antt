@@ -1,4 +1,4 @@
--- The refusals of a step and of a wait, in order.
+-- The refusals of a step, of a wait and of the longest wait, in order.
 use mathlib.Core.Path.{_≡_, sym, ap, _∙_}
 use mathlib.Core.Bool.{Bool, true, false}
 use mathlib.Core.Logic.{_≢_}
@@ -8,11 +8,11 @@ use native.Mathlib.Omega.{arith}
 use borrow.Author.Tests.{lt-leb, le-leb}
 use lib.ListN.{length}
 use Rattle.lists.specs.Lists.{all}
-use Rattle.clocks.specs.Clocks.{later, inLimit}
+use Rattle.clocks.specs.Clocks.{limitLeft, later, inLimit}
 use Rattle.steps.specs.Moves.{known, allowed}
 use Rattle.reading.specs.Answer.{done, refused, unless}
-use Rattle.chart_records.specs.Chart.{Chart, transitionAt, home}
-use Rattle.chart_moves.specs.Machine.{boundsKept, isConfiguration, activeTransition, after, tested, step, wait}
+use Rattle.chart_records.specs.Chart.{Chart, transitionAt, states, home}
+use Rattle.chart_moves.specs.Machine.{boundsKept, isConfiguration, activeTransition, after, tested, step, wait, ticksUnder, longest}
 use Rattle.chart.specs.Ready.{Ready}
 use Rattle.chart_machine.specs.Outcomes.{Grown}
 use Rattle.chart_records.specs.declared.header.Counts.{Counts}
@@ -84,3 +84,13 @@ module _ (c : Chart) (σ : Configuration) (d : ℕ) where
       unfolding wait unless
       wait-moved z h = rw (g, le-leb 1 d some, limit ∙ z)
           (ap (λ (l : List ℕ). tested c (record { active = σ .active; variables = σ .variables; clocks = l })) (ap (λ (m : ℕ). later m d (σ .clocks)) e ∙ sym h))
+
+-- of the longest wait
+module _ (c : Chart) (σ : Configuration) where
+  pub longest-elsewhere : isConfiguration c σ ≡ false → longest c σ ≡ refused 17
+  unfolding longest unless
+  longest-elsewhere g = rw g
+
+  pub longest-ticks : isConfiguration c σ ≡ true → longest c σ ≡ done (ticksUnder c σ (states c) (limitLeft (c .clocks) (σ .clocks)))
+  unfolding longest unless
+  longest-ticks g = rw g

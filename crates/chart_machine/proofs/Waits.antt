@@ -5,7 +5,7 @@ use Prim.Native.Nat.{ℕ}
 use Rattle.reading.specs.Answer.{done, refused, _>>=_}
 use Rattle.chart_records.specs.Chart.{Chart}
 use Rattle.chart_records.specs.Rules.{chartOf}
-use Rattle.chart_moves.specs.Machine.{start, step, wait, startOf, stepOf, waitOf}
+use Rattle.chart_moves.specs.Machine.{start, step, wait, longest, startOf, stepOf, waitOf, longestOf}
 use Rattle.chart_moves.specs.declared.configuration.Configuration.{Configuration}
 
 module _ (file : List ℕ) where
@@ -32,3 +32,11 @@ module _ (file : List ℕ) where
   pub wait-passed : (σ : Configuration) (d : ℕ) {c : Chart} → chartOf file ≡ done c → waitOf file σ d ≡ wait c σ d
   unfolding waitOf _>>=_
   wait-passed σ d h = rw h
+
+  pub longest-refused : (σ : Configuration) {k : ℕ} → chartOf file ≡ refused k → longestOf file σ ≡ refused k
+  unfolding longestOf _>>=_
+  longest-refused σ h = rw h
+
+  pub longest-passed : (σ : Configuration) {c : Chart} → chartOf file ≡ done c → longestOf file σ ≡ longest c σ
+  unfolding longestOf _>>=_
+  longest-passed σ h = rw h

@@ -1,13 +1,15 @@
-// The chart machine: start, step and wait.
+// The chart machine: start, step, wait and the longest wait.
 ghost use mathlib.Core.Path.{_≡_};
 ghost use Prim.Native.Nat.{_<_};
+ghost use Rattle.clocks.specs.Longest.{told};
 ghost use Rattle.chart_records.specs.Chart.{Chart};
 ghost use Rattle.chart_records.specs.Layout.{Stated};
-ghost use Rattle.chart_moves.specs.Machine.{boundsKept, isConfiguration, tested, step, wait, startOf, stepOf, waitOf};
+ghost use Rattle.chart_moves.specs.Machine.{boundsKept, isConfiguration, tested, step, wait, longest, startOf, stepOf, waitOf, longestOf};
 ghost use Rattle.chart_machine.specs.Outcomes.{outcomeOf, zeroConfiguration, boundKept, Grown};
 ghost use Rattle.chart_moves.specs.declared.configuration.Configuration.{Configuration as Given};
 ghost use Rattle.chart.specs.Ready.{Ready};
 ghost use Rattle.reading.specs.Answer.{refused};
+use crate::ticks::ticks_under;
 use chart::check::checked;
 use chart_moves::activity::is_tree;
 use chart_moves::allowed::all_active;
@@ -18,7 +20,9 @@ use chart_records::header::Counts;
 use chart_records::state::bounds_of;
 use chart_tree::table::Tree;
 use chart_tree::table::is_in;
+use clocks::left::Longest;
 use reading::verdict::Verdict;
+use reading::verdict::number_of;
 
 // What became of a call, and the configuration after it: the next one, or the one given where the call is refused.
 pub struct Outcome {
@@ -157,6 +161,18 @@ fn wait_checked(
     tested(rest, counts, given, moved)
 }
 
+// How long a wait may be.
+fn longest_checked(rest: &[u8], counts: Counts, tree: Tree, given: Configuration) -> Longest
+    ensures { λ r. ⌜ ((c : Chart) → Grown (now (rest .entry)) counts tree c → r ≡ told (longest c given)) ⌝ }
+{
+    if !is_configuration(rest, counts, tree, given) {
+        return Longest::Refused(17);
+    }
+    let active = given.active;
+    let clocks = given.clocks;
+    Longest::Ticks(ticks_under(rest, counts, active, clocks))
+}
+
 fn zero_configuration() -> Configuration
     ensures { λ r. ⌜ r ≡ zeroConfiguration ⌝ }
 {
@@ -218,4 +234,18 @@ pub fn wait(file: &[u8], given: Configuration, ticks: u32) -> Outcome
     let counts = f.counts;
     let tree = f.tree;
     wait_checked(&file[3..file.len()], counts, tree, given, ticks)
+}
+
+// How long a wait may be, for a file.
+pub fn longest(file: &[u8], given: Configuration) -> Longest
+    ensures { λ r. ⌜ r ≡ told (longestOf (now (file .entry)) given) ⌝ }
+{
+    let f = checked(file);
+    let verdict = f.verdict;
+    let Verdict::Done = verdict else {
+        return Longest::Refused(number_of(verdict));
+    };
+    let counts = f.counts;
+    let tree = f.tree;
+    longest_checked(&file[3..file.len()], counts, tree, given)
 }

@@ -1,0 +1,79 @@
+use mathlib.Core.Path.{_≡_, sym, ap, _∙_}
+use mathlib.Core.Bool.{cond}
+use mathlib.Core.List.{List, _∷_}
+use Prim.Native.Nat.{ℕ, _-_}
+use lib.ListN.{drop}
+use native.Mathlib.Omega.{arith}
+use borrow.Author.Needs.{needs}
+use Rattle.clocks.specs.Clocks.{rowLeft, limitLeft}
+use Rattle.chart_records.specs.Chart.{Chart, states, stateAt}
+use Rattle.chart_records.specs.Layout.{Stated}
+use Rattle.chart_moves.specs.Machine.{isActive, ticksUnder}
+use Rattle.chart_moves.specs.declared.configuration.Configuration.{Configuration}
+use Rattle.chart_rules.proofs.Checks.{states-next, states-end}
+use Rattle.chart_machine.proofs.ticks.ticks_under.Statement.{statement}
+use Rattle.chart_machine.proofs.ticks.ticks_under.Tie as tie
+
+-- one state more
+under-next : (c : Chart) (σ : Configuration) (m : ℕ) {others rest : List ℕ} {s t : ℕ} → others ≡ s ∷ rest
+    → t ≡ cond (isActive σ s) (rowLeft (c .clocks) (stateAt c s .bounds) (σ .clocks) m) m → ticksUnder c σ others m ≡ ticksUnder c σ rest t
+unfolding ticksUnder
+under-next c σ m e h = rw (e, h)
+
+abbrev Inv-loop : tie.InvT-loop
+Inv-loop rest counts clocks active ticks₀ s₀ ticks s =
+    (c : Chart) (σ : Configuration) → Stated rest counts c → σ .active ≡ active → σ .clocks ≡ clocks
+    → ticksUnder c σ (states c) (limitLeft (c .clocks) (σ .clocks)) ≡ ticksUnder c σ (drop s (states c)) ticks
+
+abbrev μ-loop : tie.MeasureT-loop
+μ-loop rest counts clocks active ticks₀ s₀ ticks s = counts .states - s
+
+cast-limit-left : tie.Need-cast-limit-left Inv-loop μ-loop
+cast-limit-left c = search needs
+
+limit-left-requires : tie.Need-limit-left-requires Inv-loop μ-loop
+limit-left-requires c κs = search needs
+
+loop-holds : tie.Need-loop-holds Inv-loop μ-loop
+loop-holds c = λ k σ S e f. ap (ticksUnder k σ (states k)) (rw (f, S .clocks) (sym (c .limit-left .ensures)))
+
+slice-aggregate-left-under : tie.Need-slice-aggregate-left-under Inv-loop μ-loop
+slice-aggregate-left-under c = search needs
+
+left-under-requires : tie.Need-left-under-requires Inv-loop μ-loop
+left-under-requires c κs = search needs
+
+add-s : tie.Need-add-s Inv-loop μ-loop
+add-s c = omega arith
+
+loop-less : tie.Need-loop-less Inv-loop μ-loop
+loop-less c = omega arith
+
+loop-again : tie.Need-loop-again Inv-loop μ-loop
+loop-again c =
+    let place = c .before .before in
+    let if1 = place .if1 in
+    let loop = place .before .before .loop in
+    λ k σ S e f. loop .inv k σ S e f ∙ under-next k σ _ (states-next S _ (if1 .taken)) (c .left-under .ensures k σ S e f (if1 .taken))
+
+returns : tie.Need-returns Inv-loop μ-loop
+unfolding ticksUnder
+returns c =
+    let loop = c .before .before .loop in
+    λ k σ S e f. sym (loop .inv k σ S e f ∙ ap (λ (rest : List ℕ). ticksUnder k σ rest (loop .ticks)) (states-end S _ (c .if1 .left)))
+
+pub ticks-under-spec : {M : Type 1} → statement M
+ticks-under-spec =
+    tie.close
+    (tie.spec
+    Inv-loop
+    μ-loop
+    cast-limit-left
+    limit-left-requires
+    loop-holds
+    slice-aggregate-left-under
+    left-under-requires
+    add-s
+    loop-less
+    loop-again
+    returns)
