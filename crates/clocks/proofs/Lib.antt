@@ -3,3 +3,4 @@ pub mod Ticks
 pub mod Clocks
 pub mod Ranges
 pub mod Rows
+pub mod Told

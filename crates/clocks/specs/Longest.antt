@@ -2,6 +2,7 @@
 use Prim.Native.Nat.{ℕ, _≤_}
 use mathlib.Core.Path.{_≡_}
 use Rattle.reading.specs.Answer.{Answer, done, refused}
+use Rattle.reading.specs.Verdict.{verdictOf, verdictNumber, orKept}
 use Rattle.clocks.specs.Clocks.{all-ticks}
 use Rattle.clocks.specs.declared.left.Longest.{Longest}
 use Rattle.clocks.specs.declared.left.Longest.the-variants as Lo
@@ -10,6 +11,10 @@ use Rattle.clocks.specs.declared.left.Longest.the-variants as Lo
 abbrev pub told : Answer ℕ → Longest
 told (done m) = Lo.Ticks m
 told (refused k) = Lo.Refused k
+
+-- what becomes of ticks that are lent for the answer, and the number that the call answers with
+abbrev pub Tells : ℕ → Answer ℕ → ℕ → ℕ → Type 0
+Tells before a after number = (number ≡ verdictNumber (verdictOf a)) × (after ≡ orKept before a)
 
 -- of the waits of up to 2 ^ 32 - 1 ticks just those from 1 up to the answer are accepted; where there is no answer, every wait
 -- is refused with the same number

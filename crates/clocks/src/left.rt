@@ -1,7 +1,9 @@
 // The test of a bound, and the ticks left under it and under the bounds of a row.
 ghost use mathlib.Core.Path.{_≡_};
-ghost use Prim.Native.Nat.{_-_, min};
+ghost use Prim.Native.Nat.{ℕ, _-_, min};
+ghost use Rattle.reading.specs.Answer.{Answer};
 ghost use Rattle.clocks.specs.Clocks.{clock-limit, ticksLeft, isKept, fewest, rowLeft, limitLeft};
+ghost use Rattle.clocks.specs.Longest.{told, Tells};
 use crate::clock::least;
 
 // The ticks left before a clock passes its bound or the limit, or that the bound is broken.
@@ -70,4 +72,18 @@ pub fn limit_left(count: usize, clocks: [u32; 8]) -> u32
     ensures { λ r. ⌜ r ≡ limitLeft count clocks ⌝ }
 {
     row_left(count, [4294967295; 8], clocks, 4294967295)
+}
+
+// Tells an answer to a caller who lent ticks: 0 and the ticks, or the number of the refusal, which leaves the ticks as they
+// were.
+pub fn tell(answer: Longest, ticks: &mut u32) -> u8
+    ensures { λ r. ⌜ ((a : Answer ℕ) → answer ≡ told a → Tells (now (ticks .entry)) a (now (ticks .exit)) r) ⌝ }
+{
+    match answer {
+        Longest::Ticks(n) => {
+            *ticks = n;
+            0
+        }
+        Longest::Refused(k) => k,
+    }
 }

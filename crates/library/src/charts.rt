@@ -1,11 +1,12 @@
 // Charts.
 ghost use mathlib.Core.Path.{_≡_};
 ghost use Rattle.chart_records.specs.Rules.{chartOf};
-ghost use Rattle.chart_moves.specs.Machine.{startOf, stepOf, waitOf};
+ghost use Rattle.chart_moves.specs.Machine.{startOf, stepOf, waitOf, longestOf};
 ghost use Rattle.library.specs.Numbers.{numberOf, after, chartParts, chartStepped, chartWaited};
 use chart::check::check;
 use chart_machine::operation;
 use chart_moves::configuration::Configuration;
+use clocks::left::tell;
 use reading::verdict::Verdict;
 use reading::verdict::number_of;
 
@@ -99,4 +100,24 @@ pub extern "C" fn figrummy_wait_chart(
     *clocks = times;
     let verdict = o.verdict;
     number_of(verdict)
+}
+
+// How long a wait may be, told in the ticks that are lent. The configuration is only read.
+#[no_mangle]
+pub extern "C" fn figrummy_longest_wait_chart(
+    file: &[u8],
+    active: &[bool; 48],
+    variables: &[i32; 16],
+    clocks: &[u32; 8],
+    ticks: &mut u32,
+) -> u8
+    ensures number { λ r. ⌜ r ≡ numberOf (longestOf (now (file .entry)) (chartParts (now (active .entry)) (now (variables .entry)) (now (clocks .entry)))) ⌝ }
+    ensures ticks { λ r. ⌜ now (ticks .exit) ≡ after (now (ticks .entry)) (longestOf (now (file .entry)) (chartParts (now (active .entry)) (now (variables .entry)) (now (clocks .entry)))) ⌝ }
+{
+    let given = Configuration {
+        active: *active,
+        variables: *variables,
+        clocks: *clocks,
+    };
+    tell(operation::longest(file, given), ticks)
 }

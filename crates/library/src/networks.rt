@@ -1,7 +1,8 @@
 // Networks.
 ghost use mathlib.Core.Path.{_≡_};
-ghost use Rattle.network_moves.specs.Machine.{startOf, stepOf, waitOf};
+ghost use Rattle.network_moves.specs.Machine.{startOf, stepOf, waitOf, longestOf};
 ghost use Rattle.library.specs.Numbers.{numberOf, after, networkParts as parts, networkStepped, networkWaited};
+use clocks::left::tell;
 use network_machine::operation;
 use network_machine::outcome::number_of;
 use network_moves::configuration::Configuration;
@@ -98,4 +99,26 @@ pub extern "C" fn figrummy_wait_network(
     *variables = values;
     *clocks = times;
     number_of(m)
+}
+
+// How long a wait may be, told in the ticks that are lent. The configuration is only read.
+#[no_mangle]
+pub extern "C" fn figrummy_longest_wait_network(
+    file: &[u8],
+    locations: &[u8; 16],
+    flags: &[u8; 16],
+    variables: &[i32; 16],
+    clocks: &[u32; 8],
+    ticks: &mut u32,
+) -> u8
+    ensures number { λ r. ⌜ r ≡ numberOf (longestOf (now (file .entry)) (parts (now (locations .entry)) (now (flags .entry)) (now (variables .entry)) (now (clocks .entry)))) ⌝ }
+    ensures ticks { λ r. ⌜ now (ticks .exit) ≡ after (now (ticks .entry)) (longestOf (now (file .entry)) (parts (now (locations .entry)) (now (flags .entry)) (now (variables .entry)) (now (clocks .entry)))) ⌝ }
+{
+    let given = Configuration {
+        locations: *locations,
+        flags: *flags,
+        variables: *variables,
+        clocks: *clocks,
+    };
+    tell(operation::longest(file, given), ticks)
 }

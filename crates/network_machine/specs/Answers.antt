@@ -16,10 +16,6 @@ outcomeOf c a = record { verdict = verdictOf a; configuration = orKept c a }
 abbrev pub Moves : Configuration → Answer Configuration → Configuration → ℕ → Type 0
 Moves before d after number = (number ≡ verdictNumber (outcomeOf before d .verdict)) × (after ≡ outcomeOf before d .configuration)
 
--- what becomes of the ticks that are lent, and the number that the call answers with
-abbrev pub Tells : ℕ → Answer ℕ → ℕ → ℕ → Type 0
-Tells before a after number = (number ≡ verdictNumber (verdictOf a)) × (after ≡ orKept before a)
-
 -- what stands for a configuration where no network is
 abbrev pub zeroConfiguration : Configuration
 zeroConfiguration = record { locations = replicate 16 0; flags = replicate 16 0; variables = replicate 16 (pos 0); clocks = replicate 8 0 }
