@@ -4,3 +4,4 @@ pub mod Clocks
 pub mod Ranges
 pub mod Rows
 pub mod Told
+pub mod Longest

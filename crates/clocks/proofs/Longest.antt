@@ -1,0 +1,116 @@
+-- The longest wait: which waits the ticks left under rows of bounds allow, and what it says of waits that an operation tells
+-- the longest.
+use mathlib.Core.Path.{_≡_, refl, sym, ap, _∙_}
+use mathlib.Core.Bool.{Bool, true, false}
+use mathlib.Core.List.{List}
+use Prim.Native.Nat.{ℕ, _+_, _≤_, _<_}
+use native.Mathlib.Omega.{arith}
+use native.Mathlib.Decide.{decLt}
+use lib.ListN.{length, getD, getD-replicate, List·getD-eq-default}
+use Rattle.reading.specs.Answer.{Answer, done, refused, unless, _>>=_}
+use Rattle.clocks.specs.Clocks.{clock-limit, no-bound, free, keeps, rowLeft, all-ticks, limitLeft, later, inLimit}
+use Rattle.clocks.specs.Longest.{TellsLongest}
+use Rattle.reading.proofs.Answer.{refused-not, done-injective}
+use Rattle.clocks.proofs.Ticks.{row-left-at, row-left-by}
+use Rattle.clocks.proofs.Clocks.{keeps-at, keeps-by, length-later, later-moved, later-stays, limit-at, limit-later}
+
+-- where a row is kept and d ticks are left under it, it is kept so much later: clocks past the first n do not move
+pub row-later-at : (n : ℕ) (bs cs : List ℕ) (m d : ℕ) → keeps bs cs ≡ true → 1 ≤ d → d ≤ rowLeft n bs cs m
+    → (keeps bs (later n d cs) ≡ true) × (d ≤ m)
+row-later-at n bs cs m d k s h = let w = row-left-at n bs cs m d s h in (keeps-by bs (later n d cs) (each (w .1)), w .0)
+  where
+    each : ((i : ℕ) → i < n → i < length bs → i < length cs → (getD cs i 0 + d ≤ getD bs i 0) × (getD cs i 0 + d ≤ clock-limit))
+        → (i : ℕ) → i < length bs → getD (later n d cs) i 0 ≤ getD bs i 0
+    each f i l = elim (decLt i n) [
+      | yes a ↦ elim (decLt i (length cs)) [
+        | yes b ↦ rw (later-moved n d cs i a b) (f i a l b .0)
+        | no b ↦ omega (arith, List·getD-eq-default (later n d cs) 0 {n = i} (omega (arith, length-later n d cs)))
+      ]
+      | no a ↦ rw (later-stays n d cs i (omega arith)) (keeps-at bs cs k i l)
+    ]
+
+-- and d ticks are left under a row that is kept so much later, by clocks within the limit
+pub row-later-by : (n : ℕ) (bs cs : List ℕ) (m d : ℕ) → keeps bs (later n d cs) ≡ true → inLimit n (later n d cs) ≡ true
+    → d ≤ m → d ≤ rowLeft n bs cs m
+row-later-by n bs cs m d k t h = row-left-by n bs cs m d h (λ i a l b. (
+  rw (later-moved n d cs i a b) at (keeps-at bs (later n d cs) k i l),
+  rw (later-moved n d cs i a b) at (limit-at n (later n d cs) t i a),
+))
+
+-- never more than there were
+pub row-left-most : (n : ℕ) (bs cs : List ℕ) (m : ℕ) → rowLeft n bs cs m ≤ m
+row-left-most n bs cs m = elim (decLt 0 (rowLeft n bs cs m)) [
+  | yes h ↦ row-left-at n bs cs m (rowLeft n bs cs m) h (omega arith) .0
+  | no h ↦ omega arith
+]
+
+-- the same of the limit, of as many clocks as a row has
+pub limit-left-at : (n : ℕ) (cs : List ℕ) (d : ℕ) → n ≤ 8 → 1 ≤ d → d ≤ limitLeft n cs
+    → (inLimit n (later n d cs) ≡ true) × (d ≤ all-ticks)
+unfolding limitLeft
+limit-left-at n cs d few s h =
+    let w = row-left-at n free cs all-ticks d s h in
+    (limit-later n d cs (λ i a b. w .1 i a (omega arith) b .1), w .0)
+
+pub limit-left-by : (n : ℕ) (cs : List ℕ) (d : ℕ) → inLimit n (later n d cs) ≡ true → d ≤ all-ticks → d ≤ limitLeft n cs
+unfolding limitLeft
+limit-left-by n cs d t h = row-left-by n free cs all-ticks d h (λ i a l b.
+    let e = limit-at n (later n d cs) t i a in
+    let m = later-moved n d cs i a b in
+    (omega (arith, e, m, getD-replicate 8 i no-bound 0 l), omega (arith, e, m)))
+
+pub limit-left-most : (n : ℕ) (cs : List ℕ) → limitLeft n cs ≤ all-ticks
+unfolding limitLeft
+limit-left-most n cs = row-left-most n free cs all-ticks
+
+-- an operation that answers m tells the longest wait where just the waits from 1 to m are accepted
+pub tells-ticks : {A : Type 0} (m : ℕ) (w : ℕ → Answer A) → m ≤ all-ticks → ((d : ℕ) → 1 ≤ d → d ≤ m → (a : A) × (w d ≡ done a))
+    → ((d : ℕ) (a : A) → d ≤ all-ticks → w d ≡ done a → (1 ≤ d) × (d ≤ m)) → TellsLongest (done m) w
+tells-ticks m w most all only = record {
+  bounded = λ j e. omega (arith, done-injective e);
+  accepts = λ j d e s h. all d s (omega (arith, done-injective e));
+  within = λ j d e l h. let r = only d _ l h in (r .0, omega (arith, r .1, done-injective e));
+  refuses = λ k d e. refused-not (sym e);
+}
+
+-- one that is refused, where every wait is, with the same number
+pub tells-refused : {A : Type 0} (k : ℕ) (w : ℕ → Answer A) → ((d : ℕ) → w d ≡ refused k) → TellsLongest (refused k) w
+tells-refused k w none = record {
+  bounded = λ j e. refused-not e;
+  accepts = λ j d e s h. refused-not e;
+  within = λ j d e l h. refused-not e;
+  refuses = λ j d e. none d ∙ ap refused (same e);
+}
+  where
+    same : {j : ℕ} → _≡_ {A = Answer ℕ} (refused k) (refused j) → k ≡ j
+    same e = cc
+
+-- a test that comes first in both, and what both read first
+pub tells-unless : {A : Type 0} (k : ℕ) (b : Bool) (l : Answer ℕ) (w : ℕ → Answer A) → (b ≡ true → TellsLongest l w)
+    → TellsLongest (unless k b l) (λ d. unless k b (w d))
+unfolding unless
+tells-unless k true l w t = t refl
+tells-unless k false l w t = tells-refused k (λ d. refused k) (λ d. refl)
+
+pub tells-then : {A B : Type 0} (a : Answer B) (l : B → Answer ℕ) (w : B → ℕ → Answer A) → ((b : B) → a ≡ done b → TellsLongest (l b) (w b))
+    → TellsLongest (a >>= l) (λ d. a >>= λ b. w b d)
+unfolding _>>=_
+tells-then (done b) l w t = t b refl
+tells-then (refused k) l w t = tells-refused k (λ d. refused k) (λ d. refl)
+
+-- of two operations that tell the longest wait the second's is no shorter where it accepts all waits that the first does
+tells-most : {A B : Type 0} {l l' : Answer ℕ} {w : ℕ → Answer A} {w' : ℕ → Answer B} {m m' : ℕ} → TellsLongest l w → TellsLongest l' w'
+    → l ≡ done m → l' ≡ done m' → ((d : ℕ) → (a : A) × (w d ≡ done a) → (b : B) × (w' d ≡ done b)) → m ≤ m'
+tells-most {m = m} {m' = m'} t t' e e' f = elim (decLt 0 m) [
+  | yes h ↦
+      let a = t .accepts m m e h (omega arith) in
+      let b = f m a in
+      t' .within m' m e' (t .bounded m e) (b .1) .1
+  | no h ↦ omega arith
+]
+
+-- and they are the same where both accept the same waits
+pub tells-same : {A B : Type 0} {l l' : Answer ℕ} {w : ℕ → Answer A} {w' : ℕ → Answer B} {m m' : ℕ} → TellsLongest l w → TellsLongest l' w'
+    → l ≡ done m → l' ≡ done m' → ((d : ℕ) → (a : A) × (w d ≡ done a) → (b : B) × (w' d ≡ done b))
+    → ((d : ℕ) → (b : B) × (w' d ≡ done b) → (a : A) × (w d ≡ done a)) → m ≡ m'
+tells-same t t' e e' f g = let a = tells-most t t' e e' f in let b = tells-most t' t e' e g in omega (arith, a, b)
