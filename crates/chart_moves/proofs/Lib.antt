@@ -4,5 +4,6 @@ pub mod Activities
 pub mod After
 pub mod Choices
 pub mod Destinations
+pub mod Longest
 pub mod Moved
 pub mod Step

@@ -1,3 +1,4 @@
 -- The definitions of this crate.
 pub mod Active
+pub mod Longest
 pub mod Machine

@@ -1,16 +1,20 @@
 -- The longest wait: which waits the ticks left under rows of bounds allow, and what it says of waits that an operation tells
 -- the longest.
 use mathlib.Core.Path.{_≡_, refl, sym, ap, _∙_}
-use mathlib.Core.Bool.{Bool, true, false}
-use mathlib.Core.List.{List}
+use mathlib.Core.Bool.{Bool, true, false, _&&_}
+use mathlib.Core.List.{List, [], _∷_}
 use Prim.Native.Nat.{ℕ, _+_, _≤_, _<_}
 use native.Mathlib.Omega.{arith}
 use native.Mathlib.Decide.{decLt}
+use borrow.Author.Tests.{leb-true, le-leb}
+use lib.Dec.{leb}
 use lib.ListN.{length, getD, getD-replicate, List·getD-eq-default}
+use Rattle.lists.specs.Lists.{all}
 use Rattle.reading.specs.Answer.{Answer, done, refused, unless, _>>=_}
 use Rattle.clocks.specs.Clocks.{clock-limit, no-bound, free, keeps, rowLeft, all-ticks, limitLeft, later, inLimit}
 use Rattle.clocks.specs.Longest.{TellsLongest}
-use Rattle.reading.proofs.Answer.{refused-not, done-injective}
+use Rattle.lists.proofs.Bools.{and-l, and-r, both}
+use Rattle.reading.proofs.Answer.{unless-at, unless-by, refused-not, done-injective}
 use Rattle.clocks.proofs.Ticks.{row-left-at, row-left-by}
 use Rattle.clocks.proofs.Clocks.{keeps-at, keeps-by, length-later, later-moved, later-stays, limit-at, limit-later}
 
@@ -37,7 +41,7 @@ row-later-by n bs cs m d k t h = row-left-by n bs cs m d h (λ i a l b. (
   rw (later-moved n d cs i a b) at (limit-at n (later n d cs) t i a),
 ))
 
--- never more than there were
+-- never more than the others
 pub row-left-most : (n : ℕ) (bs cs : List ℕ) (m : ℕ) → rowLeft n bs cs m ≤ m
 row-left-most n bs cs m = elim (decLt 0 (rowLeft n bs cs m)) [
   | yes h ↦ row-left-at n bs cs m (rowLeft n bs cs m) h (omega arith) .0
@@ -63,6 +67,37 @@ pub limit-left-most : (n : ℕ) (cs : List ℕ) → limitLeft n cs ≤ all-ticks
 unfolding limitLeft
 limit-left-most n cs = row-left-most n free cs all-ticks
 
+-- the ticks left under several rows, and m at most
+unfoldable pub rowsLeft : ℕ → List (List ℕ) → List ℕ → ℕ → ℕ
+rowsLeft n [] cs m = m
+rowsLeft n (r ∷ rs) cs m = rowsLeft n rs cs (rowLeft n r cs m)
+
+-- clocks keep them all
+abbrev pub keepsAll : List (List ℕ) → List ℕ → Bool
+keepsAll rs cs = all (λ r. keeps r cs) rs
+
+-- so the laws of one row hold of several
+rows-later-at : (n : ℕ) (rs : List (List ℕ)) (cs : List ℕ) (m d : ℕ) → keepsAll rs cs ≡ true → 1 ≤ d → d ≤ rowsLeft n rs cs m
+    → (keepsAll rs (later n d cs) ≡ true) × (d ≤ m)
+unfolding rowsLeft all
+rows-later-at n [] cs m d k s h = (refl, h)
+rows-later-at n (r ∷ rs) cs m d k s h =
+    let w = rows-later-at n rs cs (rowLeft n r cs m) d (and-r (keeps r cs) _ k) s h in
+    let v = row-later-at n r cs m d (and-l (keeps r cs) _ k) s (w .1) in
+    (both (v .0) (w .0), v .1)
+
+rows-later-by : (n : ℕ) (rs : List (List ℕ)) (cs : List ℕ) (m d : ℕ) → keepsAll rs (later n d cs) ≡ true → inLimit n (later n d cs) ≡ true
+    → d ≤ m → d ≤ rowsLeft n rs cs m
+unfolding rowsLeft all
+rows-later-by n [] cs m d k t h = h
+rows-later-by n (r ∷ rs) cs m d k t h =
+    rows-later-by n rs cs (rowLeft n r cs m) d (and-r (keeps r (later n d cs)) _ k) t (row-later-by n r cs m d (and-l (keeps r (later n d cs)) _ k) t h)
+
+rows-left-most : (n : ℕ) (rs : List (List ℕ)) (cs : List ℕ) (m : ℕ) → rowsLeft n rs cs m ≤ m
+unfolding rowsLeft
+rows-left-most n [] cs m = omega arith
+rows-left-most n (r ∷ rs) cs m = omega (arith, rows-left-most n rs cs (rowLeft n r cs m), row-left-most n r cs m)
+
 -- an operation that answers m tells the longest wait where just the waits from 1 to m are accepted
 pub tells-ticks : {A : Type 0} (m : ℕ) (w : ℕ → Answer A) → m ≤ all-ticks → ((d : ℕ) → 1 ≤ d → d ≤ m → (a : A) × (w d ≡ done a))
     → ((d : ℕ) (a : A) → d ≤ all-ticks → w d ≡ done a → (1 ≤ d) × (d ≤ m)) → TellsLongest (done m) w
@@ -72,6 +107,10 @@ tells-ticks m w most all only = record {
   within = λ j d e l h. let r = only d _ l h in (r .0, omega (arith, r .1, done-injective e));
   refuses = λ k d e. refused-not (sym e);
 }
+
+-- one that answers 0, where none is
+pub tells-none : {A : Type 0} (w : ℕ → Answer A) → ((d : ℕ) (a : A) → w d ≡ done a → ⊥) → TellsLongest (done 0) w
+tells-none w none = tells-ticks 0 w (omega arith) (λ d s h. absurd (omega arith)) (λ d a l e. absurd (none d a e))
 
 -- one that is refused, where every wait is, with the same number
 pub tells-refused : {A : Type 0} (k : ℕ) (w : ℕ → Answer A) → ((d : ℕ) → w d ≡ refused k) → TellsLongest (refused k) w
@@ -85,18 +124,35 @@ tells-refused k w none = record {
     same : {j : ℕ} → _≡_ {A = Answer ℕ} (refused k) (refused j) → k ≡ j
     same e = cc
 
--- a test that comes first in both, and what both read first
+-- a test that comes first in both
 pub tells-unless : {A : Type 0} (k : ℕ) (b : Bool) (l : Answer ℕ) (w : ℕ → Answer A) → (b ≡ true → TellsLongest l w)
     → TellsLongest (unless k b l) (λ d. unless k b (w d))
 unfolding unless
 tells-unless k true l w t = t refl
 tells-unless k false l w t = tells-refused k (λ d. refused k) (λ d. refl)
 
+-- and what comes first in both and hands something on
 pub tells-then : {A B : Type 0} (a : Answer B) (l : B → Answer ℕ) (w : B → ℕ → Answer A) → ((b : B) → a ≡ done b → TellsLongest (l b) (w b))
     → TellsLongest (a >>= l) (λ d. a >>= λ b. w b d)
 unfolding _>>=_
 tells-then (done b) l w t = t b refl
 tells-then (refused k) l w t = tells-refused k (λ d. refused k) (λ d. refl)
+
+-- where a wait tests the limit and then some rows, which are kept now, of the later clocks: the longest is what is left under all
+-- rows and to the limit
+pub tells-rows : {A : Type 0} (n : ℕ) (rs : List (List ℕ)) (cs : List ℕ) (kept : List ℕ → Bool) (a : ℕ → A) (m : ℕ) → n ≤ 8
+    → ((cs : List ℕ) → kept cs ≡ keepsAll rs cs) → kept cs ≡ true → m ≡ rowsLeft n rs cs (limitLeft n cs)
+    → TellsLongest (done m) (λ d. unless 22 (leb 1 d && inLimit n (later n d cs)) (unless 21 (kept (later n d cs)) (done (a d))))
+tells-rows n rs cs kept a m few same now is =
+    tells-ticks m _ (omega (arith, is, rows-left-most n rs cs (limitLeft n cs), limit-left-most n cs)) (λ d s h.
+    let w = rows-later-at n rs cs (limitLeft n cs) d (sym (same cs) ∙ now) s (omega (arith, h, is)) in
+    let t = limit-left-at n cs d few s (w .1) in
+    (a d, unless-by 22 _ (both (le-leb 1 d s) (t .0)) ∙ unless-by 21 _ (same (later n d cs) ∙ w .0)))
+    (λ d b l e.
+    let t = unless-at 22 _ _ e in
+    let i = and-r (leb 1 d) _ (t .0) in
+    let k = rows-later-by n rs cs (limitLeft n cs) d (sym (same (later n d cs)) ∙ unless-at 21 _ _ (t .1) .0) i (limit-left-by n cs d i l) in
+    (leb-true 1 d (and-l (leb 1 d) _ (t .0)), omega (arith, k, is)))
 
 -- of two operations that tell the longest wait the second's is no shorter where it accepts all waits that the first does
 tells-most : {A B : Type 0} {l l' : Answer ℕ} {w : ℕ → Answer A} {w' : ℕ → Answer B} {m m' : ℕ} → TellsLongest l w → TellsLongest l' w'
