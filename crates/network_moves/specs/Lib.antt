@@ -1,4 +1,5 @@
 -- The definitions of this crate.
 pub mod Choices
+pub mod Longest
 pub mod Machine
 pub mod Turns
