@@ -1,8 +1,10 @@
 // The board keeps one configuration and moves it on in place. Each call answers 0, or the number of the refusal, and then
-// leaves the configuration as it was.
+// leaves what it was lent as it was.
 ghost use mathlib.Core.Path.{_≡_};
-ghost use Rattle.network_moves.specs.Machine.{startOf, stepOf, waitOf};
+ghost use Rattle.clocks.specs.Longest.{Tells};
+ghost use Rattle.network_moves.specs.Machine.{startOf, stepOf, waitOf, longestOf};
 ghost use Rattle.network_machine.specs.Answers.{outcomeOf, Moves};
+use crate::operation::longest;
 use crate::operation::start;
 use crate::operation::step;
 use crate::operation::wait;
@@ -10,6 +12,7 @@ use crate::outcome::Outcome;
 use crate::outcome::configuration_of;
 use crate::outcome::number_of;
 use crate::outcome::refused;
+use clocks::left::tell;
 use network_moves::configuration::Configuration;
 use reading::verdict::Verdict;
 
@@ -52,4 +55,23 @@ pub extern "C" fn figrummy_wait_in_place(file: &[u8], c: &mut Configuration, tic
     let m = wait(file, *c, ticks);
     *c = configuration_of(m);
     number_of(m)
+}
+
+// How long a wait may be, told in the ticks that are lent.
+fn tell_longest(file: &[u8], c: Configuration, ticks: &mut u32) -> u8
+    ensures { λ r. ⌜ Tells (now (ticks .entry)) (longestOf (now (file .entry)) c) (now (ticks .exit)) r ⌝ }
+{
+    tell(longest(file, c), ticks)
+}
+
+// The same of the board's configuration, which is only read.
+#[no_mangle]
+pub extern "C" fn figrummy_longest_wait_in_place(
+    file: &[u8],
+    c: &Configuration,
+    ticks: &mut u32,
+) -> u8
+    ensures { λ r. ⌜ Tells (now (ticks .entry)) (longestOf (now (file .entry)) (now (c .entry))) (now (ticks .exit)) r ⌝ }
+{
+    tell_longest(file, *c, ticks)
 }
