@@ -179,6 +179,33 @@ fn each_answer_is_exact() {
     assert!(tally.inactive_bounds > 10_000);
 }
 
+/// The files `samples/take_up.chart` and `samples/sensors.chart`, as the README runs them.
+#[test]
+fn the_samples() {
+    let chart = check(include_bytes!("../../samples/take_up.chart")).unwrap();
+    let longest = |given: &ChartConfiguration| chart_machine::longest_wait(&chart, given);
+    let threading = chart_machine::start(&chart);
+    assert_eq!(longest(&threading), Ok(LARGEST));
+    let open = chart_machine::step(&chart, &threading, &[0]).unwrap();
+    assert_eq!(longest(&open), Ok(4));
+    let later = chart_machine::wait(&chart, &open, 3).unwrap();
+    assert_eq!(longest(&later), Ok(1));
+    let beat = chart_machine::step(&chart, &later, &[1]).unwrap();
+    assert_eq!(longest(&beat), Ok(0));
+
+    let chart = check(include_bytes!("../../samples/sensors.chart")).unwrap();
+    let network = network_of(&chart).unwrap();
+    let weaving = chart_machine::step(&chart, &chart_machine::start(&chart), &[0]).unwrap();
+    assert_eq!(chart_machine::longest_wait(&chart, &weaving), Ok(6));
+    let owing = network_machine::step(&network, &network_machine::start(&network), &[0]).unwrap();
+    assert_eq!(network_machine::longest_wait(&network, &owing), Ok(0));
+    let settled = network_machine::step(&network, &owing, &[4, 9]).unwrap();
+    let later = network_machine::wait(&network, &settled, 2).unwrap();
+    assert_eq!(network_machine::longest_wait(&network, &later), Ok(4));
+    let later = chart_machine::wait(&chart, &weaving, 2).unwrap();
+    assert_eq!(chart_machine::longest_wait(&chart, &later), Ok(4));
+}
+
 // Readings that are wrong.
 
 /// What the bounds that are joined leave if the limit does not count.
