@@ -60,6 +60,12 @@ fn request_to_bytes(request: &Request) -> Vec<u8> {
             bytes.extend(network_configuration_to_bytes(configuration));
             bytes.extend(ticks.to_be_bytes());
         }
+        Request::ChartLongest(_, configuration) => {
+            bytes.extend(chart_configuration_to_bytes(configuration));
+        }
+        Request::NetworkLongest(_, configuration) => {
+            bytes.extend(network_configuration_to_bytes(configuration));
+        }
     }
     bytes
 }
@@ -102,6 +108,9 @@ pub fn operation(request: &Request) -> u8 {
         Request::NetworkStart(_) => 5,
         Request::NetworkStep(..) => 6,
         Request::NetworkWait(..) => 7,
+        // 8 is RUN.
+        Request::ChartLongest(..) => 9,
+        Request::NetworkLongest(..) => 10,
     }
 }
 
@@ -132,6 +141,8 @@ fn request_from_reader(reader: &mut Reader) -> Result<AnyRequest, Fault> {
         5 => Request::NetworkStart(file),
         6 => Request::NetworkStep(file, network_configuration(reader)?, list_from_reader(reader)?),
         7 => Request::NetworkWait(file, network_configuration(reader)?, reader.four_bytes()?),
+        9 => Request::ChartLongest(file, chart_configuration(reader)?),
+        10 => Request::NetworkLongest(file, network_configuration(reader)?),
         RUN => return Ok(AnyRequest::Run(RunRequest { file, calls: calls_from_reader(reader)? })),
         _ => return Err(Fault::Field),
     }))
@@ -163,6 +174,7 @@ fn answer_to_line(answer: &Result<Success, Refusal>) -> String {
         Ok(Success::Network(new)) => {
             format!("ok {}", hexadecimal(&network_configuration_to_bytes(new)))
         }
+        Ok(Success::Longest(ticks)) => format!("ok {ticks}"),
         Err(refusal) => refusal.number().to_string(),
     }
 }

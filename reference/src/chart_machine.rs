@@ -1,11 +1,11 @@
-//! Running a chart: start, step and wait.
+//! Running a chart: start, step, wait, and how long it may wait.
 
 use crate::chart::{Chart, Kind, MAIN_ENTRY, ROOT};
 use crate::label::Signal;
 use crate::limits::STATES;
 use crate::moves::{allowed, known_and_ascending, Member};
 use crate::refusal::Refusal;
-use crate::values::Values;
+use crate::values::{Bounds, Values};
 
 /// The active tree and the values. States that the chart lacks are not active.
 #[derive(Clone, Copy, PartialEq, Eq, Debug)]
@@ -75,6 +75,15 @@ pub fn wait(
     keeping_bounds(chart, ChartConfiguration { active: configuration.active, values })
 }
 
+/// The greatest wait that is allowed, 0 if none is: refusal 17. Every wait from 1 tick up to it is
+/// allowed.
+pub fn longest_wait(chart: &Chart, configuration: &ChartConfiguration) -> Result<u32, Refusal> {
+    if !has_fitting_parts(chart, configuration) {
+        return Err(Refusal::ChartConfiguration);
+    }
+    ticks_left(chart, configuration).ok_or(Refusal::ChartConfiguration)
+}
+
 /// Whether a transition is active: its source is, its guards hold, and for a composite source
 /// every active basic state below is marked with its exit.
 pub fn is_active(chart: &Chart, configuration: &ChartConfiguration, number: usize) -> bool {
@@ -121,6 +130,11 @@ fn active_receivers(
 
 /// Refusal 17: exactly one active tree, fitting values, bounds kept.
 pub fn is_configuration(chart: &Chart, configuration: &ChartConfiguration) -> bool {
+    has_fitting_parts(chart, configuration) && ticks_left(chart, configuration).is_some()
+}
+
+/// What 17 asks but for the bounds: exactly one active tree, fitting values.
+fn has_fitting_parts(chart: &Chart, configuration: &ChartConfiguration) -> bool {
     let active = &configuration.active;
     let state_fits = |number: usize| {
         let in_tree = match chart.parent(number) {
@@ -141,16 +155,22 @@ pub fn is_configuration(chart: &Chart, configuration: &ChartConfiguration) -> bo
     (0..chart.states.len()).all(state_fits)
         && active[chart.states.len()..].iter().all(|&value| !value)
         && configuration.values.fit(declared.variables, declared.clocks)
-        && bounds_hold(chart, configuration)
 }
 
-fn bounds_hold(chart: &Chart, configuration: &ChartConfiguration) -> bool {
-    let mut active = chart.states.iter().zip(&configuration.active).filter(|(_, &active)| active);
-    active.all(|(state, _)| state.bounds.hold(&configuration.values))
+/// The bounds of all active states, joined.
+pub fn active_bounds(chart: &Chart, configuration: &ChartConfiguration) -> Bounds {
+    let active = chart.states.iter().zip(&configuration.active).filter(|(_, &active)| active);
+    Bounds::joined(active.map(|(state, _)| &state.bounds))
+}
+
+/// The ticks left under the bounds of all active states, or none if one is broken.
+fn ticks_left(chart: &Chart, configuration: &ChartConfiguration) -> Option<u32> {
+    let clocks = &configuration.values.clocks[..chart.declared.clocks];
+    active_bounds(chart, configuration).ticks_left(clocks)
 }
 
 fn keeping_bounds(chart: &Chart, new: ChartConfiguration) -> Result<ChartConfiguration, Refusal> {
-    if bounds_hold(chart, &new) {
+    if ticks_left(chart, &new).is_some() {
         Ok(new)
     } else {
         Err(Refusal::BoundBroken)

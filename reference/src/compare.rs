@@ -5,12 +5,15 @@ use std::collections::BTreeMap;
 use std::fmt;
 
 use crate::chart::Chart;
+use crate::chart_machine;
 use crate::check::check;
 use crate::coverage::operation_name;
 use crate::damage::{damage_chart, damage_file, Form};
 use crate::flatten::network_of;
 use crate::generate::chart_from_seed;
+use crate::generate_longest::{chart_longest_requests, network_longest_requests};
 use crate::network::Network;
+use crate::network_machine;
 use crate::proved;
 use crate::random::Random;
 use crate::request::Request;
@@ -41,18 +44,23 @@ impl Agreed {
         *counts.entry(operation_name(request)).or_insert(0) += 1;
     }
 
-    /// A chart, runs of it and of its network, and damaged files: some 11 times `count` requests.
+    /// A chart, runs of it and of its network, longest waits along them, and damaged files: some 17
+    /// times `count` requests.
     pub fn compare_chart(&mut self, chart: &Chart, count: usize, random: &mut Random) {
         let file = chart.write();
         self.compare(&Request::Check(file.clone()));
-        for request in chart_requests(chart, count, random) {
-            self.compare(&request);
+        let run = chart_requests(chart, count, random);
+        let longest = chart_longest_requests(chart, &run, random);
+        for request in run.iter().chain(&longest) {
+            self.compare(request);
         }
         self.compare_flattening(&file, random);
         for _ in 0..count {
             let damaged = damage_file(Form::Chart, &file, random);
             self.compare(&Request::Check(damaged.clone()));
             self.compare(&Request::ChartStart(damaged.clone()));
+            let start = chart_machine::start(chart);
+            self.compare(&Request::ChartLongest(damaged.clone(), start));
             self.compare(&Request::Flatten(damaged, random.below(6_000) as u32));
             let damaged = damage_chart(chart, random).write();
             self.compare(&Request::Check(damaged.clone()));
@@ -78,12 +86,16 @@ impl Agreed {
 
     fn compare_network(&mut self, network: &Network, count: usize, random: &mut Random) {
         let file = network.write();
-        for request in network_requests(network, count, random) {
-            self.compare(&request);
+        let run = network_requests(network, count, random);
+        let longest = network_longest_requests(network, &run, random);
+        for request in run.iter().chain(&longest) {
+            self.compare(request);
         }
         for _ in 0..count {
             let damaged = damage_file(Form::Network, &file, random);
-            self.compare(&Request::NetworkStart(damaged));
+            self.compare(&Request::NetworkStart(damaged.clone()));
+            let start = network_machine::start(network);
+            self.compare(&Request::NetworkLongest(damaged, start));
         }
     }
 
@@ -95,10 +107,10 @@ impl Agreed {
 
 impl fmt::Display for Agreed {
     fn fmt(&self, formatter: &mut fmt::Formatter) -> fmt::Result {
-        writeln!(formatter, "{:<15}{:>12}{:>12}", "operation", "accepted", "refused")?;
+        writeln!(formatter, "{:<20}{:>12}{:>12}", "operation", "accepted", "refused")?;
         for (name, accepted) in &self.accepted {
             let refused = self.refused.get(name).unwrap_or(&0);
-            writeln!(formatter, "{name:<15}{accepted:>12}{refused:>12}")?;
+            writeln!(formatter, "{name:<20}{accepted:>12}{refused:>12}")?;
         }
         write!(formatter, "{} calls agreed", self.total())
     }

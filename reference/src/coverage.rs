@@ -5,6 +5,7 @@ use std::collections::{BTreeMap, BTreeSet};
 use crate::chart::{Chart, Transition};
 use crate::chart_machine;
 use crate::check::check;
+use crate::coverage_longest;
 use crate::coverage_sensors;
 use crate::expression::Expression;
 use crate::flatten::network_of;
@@ -36,9 +37,11 @@ pub fn operation_name(request: &Request) -> &'static str {
         Request::ChartStart(_) => "chart start",
         Request::ChartStep(..) => "chart step",
         Request::ChartWait(..) => "chart wait",
+        Request::ChartLongest(..) => "chart longest wait",
         Request::NetworkStart(_) => "network start",
         Request::NetworkStep(..) => "network step",
         Request::NetworkWait(..) => "network wait",
+        Request::NetworkLongest(..) => "network longest wait",
     }
 }
 
@@ -88,6 +91,17 @@ pub fn features(request: &Request, layout: Option<&Layout>) -> Features {
                     &answer,
                     &mut found,
                 );
+            }
+        }
+        Request::ChartLongest(file, configuration) => {
+            if let (Ok(chart), Ok(Success::Longest(ticks))) = (check(file), &answer) {
+                coverage_longest::add_chart(&chart, configuration, *ticks, &mut found);
+                coverage_sensors::add_chart_longest(&chart, configuration, *ticks, &mut found);
+            }
+        }
+        Request::NetworkLongest(file, configuration) => {
+            if let (Ok(network), Ok(Success::Longest(ticks))) = (Network::read(file), &answer) {
+                coverage_longest::add_network(&network, configuration, *ticks, &mut found);
             }
         }
         Request::NetworkStep(file, configuration, list) => {

@@ -142,6 +142,18 @@ pub fn add_chart_wait(
     }
 }
 
+/// Whether the longest wait of a chart is as short as it is by sensors alone.
+pub fn add_chart_longest(
+    chart: &Chart,
+    configuration: &ChartConfiguration,
+    ticks: u32,
+    found: &mut Features,
+) {
+    if chart_machine::longest_wait(&without_sensor_bounds(chart), configuration) != Ok(ticks) {
+        found.insert("by a sensor's bound".to_string());
+    }
+}
+
 /// A call of the network in a run of both machines.
 pub fn add_call(machines: &Machines, call: &Call, view: &View, found: &mut Features) {
     let Machines { chart, network, sensors, .. } = machines;

@@ -1,11 +1,11 @@
-//! Running a network: start, step and wait. Nothing here knows of charts.
+//! Running a network: start, step, wait, and how long it may wait. Nothing here knows of charts.
 
 use crate::label::Signal;
 use crate::limits::AUTOMATA;
 use crate::moves::{allowed, known_and_ascending, Member};
 use crate::network::{Edge, Network};
 use crate::refusal::Refusal;
-use crate::values::Values;
+use crate::values::{Bounds, Values};
 
 /// The location and the eight flags of each automaton, and the values.
 /// Automata that the network lacks have location 0 and flags 0.
@@ -78,6 +78,19 @@ pub fn wait(
     keeping_bounds(network, NetworkConfiguration { values, ..*configuration })
 }
 
+/// The greatest wait that is allowed, 0 if none is: refusal 26. Every wait from 1 tick up to it is
+/// allowed.
+pub fn longest_wait(
+    network: &Network,
+    configuration: &NetworkConfiguration,
+) -> Result<u32, Refusal> {
+    if !has_fitting_parts(network, configuration) {
+        return Err(Refusal::NetworkConfiguration);
+    }
+    let left = ticks_left(network, configuration).ok_or(Refusal::NetworkConfiguration)?;
+    Ok(if urgent_is_occupied(network, configuration) { 0 } else { left })
+}
+
 /// Whether an edge is active: its source is occupied, its guards and flag tests are true.
 pub fn is_active(network: &Network, configuration: &NetworkConfiguration, edge: &Edge) -> bool {
     let automaton = network.locations[edge.source].automaton;
@@ -129,6 +142,11 @@ pub fn urgent_is_occupied(network: &Network, configuration: &NetworkConfiguratio
 /// Refusal 26: each automaton at a location of its own, undeclared automata and values 0,
 /// bounds kept. The flags of declared automata are free.
 pub fn is_configuration(network: &Network, configuration: &NetworkConfiguration) -> bool {
+    has_fitting_parts(network, configuration) && ticks_left(network, configuration).is_some()
+}
+
+/// What 26 asks but for the bounds.
+fn has_fitting_parts(network: &Network, configuration: &NetworkConfiguration) -> bool {
     let at_its_own = |automaton: usize| {
         let number = usize::from(configuration.locations[automaton]);
         network.locations.get(number).is_some_and(|location| location.automaton == automaton)
@@ -138,20 +156,25 @@ pub fn is_configuration(network: &Network, configuration: &NetworkConfiguration)
         && configuration.locations[network.automata..].iter().all(|&location| location == 0)
         && configuration.flags[network.automata..].iter().all(|&flags| flags == 0)
         && configuration.values.fit(declared.variables, declared.clocks)
-        && bounds_hold(network, configuration)
 }
 
-fn bounds_hold(network: &Network, configuration: &NetworkConfiguration) -> bool {
-    configuration.locations[..network.automata].iter().all(|&location| {
-        network.locations[usize::from(location)].bounds.hold(&configuration.values)
-    })
+/// The bounds of all occupied locations, joined.
+pub fn occupied_bounds(network: &Network, configuration: &NetworkConfiguration) -> Bounds {
+    let occupied = configuration.locations[..network.automata].iter();
+    Bounds::joined(occupied.map(|&location| &network.locations[usize::from(location)].bounds))
+}
+
+/// The ticks left under the bounds of all occupied locations, or none if one is broken.
+fn ticks_left(network: &Network, configuration: &NetworkConfiguration) -> Option<u32> {
+    let clocks = &configuration.values.clocks[..network.declared.clocks];
+    occupied_bounds(network, configuration).ticks_left(clocks)
 }
 
 fn keeping_bounds(
     network: &Network,
     new: NetworkConfiguration,
 ) -> Result<NetworkConfiguration, Refusal> {
-    if bounds_hold(network, &new) {
+    if ticks_left(network, &new).is_some() {
         Ok(new)
     } else {
         Err(Refusal::BoundBroken)

@@ -2,7 +2,9 @@
 //! networks also those that a board calls, `crates/network_machine`.
 //!
 //! A slice is a pointer and a number of elements; an array that is lent is a pointer. A function
-//! answers 0, or the number of the refusal, and then leaves what was lent as it was.
+//! answers 0, or the number of the refusal, and then leaves what was lent as it was. What is lent only
+//! to be read is passed by a pointer too and not as a reference: Rust may take for granted that nothing
+//! is written through a reference, and here it is tested.
 
 use crate::chart_machine::ChartConfiguration;
 use crate::limits::{AUTOMATA, CLOCKS, STATES, VARIABLES};
@@ -44,6 +46,14 @@ extern "C" {
         clocks: &mut [u32; CLOCKS],
         ticks: u32,
     ) -> u8;
+    fn figrummy_longest_wait_chart(
+        file: *const u8,
+        length: usize,
+        active: *const [bool; STATES],
+        variables: *const [i32; VARIABLES],
+        clocks: *const [u32; CLOCKS],
+        ticks: &mut u32,
+    ) -> u8;
     fn figrummy_start_network(
         file: *const u8,
         length: usize,
@@ -71,6 +81,15 @@ extern "C" {
         clocks: &mut [u32; CLOCKS],
         ticks: u32,
     ) -> u8;
+    fn figrummy_longest_wait_network(
+        file: *const u8,
+        length: usize,
+        locations: *const [u8; AUTOMATA],
+        flags: *const [u8; AUTOMATA],
+        variables: *const [i32; VARIABLES],
+        clocks: *const [u32; CLOCKS],
+        ticks: &mut u32,
+    ) -> u8;
     fn figrummy_start_in_place(
         file: *const u8,
         length: usize,
@@ -88,6 +107,12 @@ extern "C" {
         length: usize,
         configuration: &mut BoardConfiguration,
         ticks: u32,
+    ) -> u8;
+    fn figrummy_longest_wait_in_place(
+        file: *const u8,
+        length: usize,
+        configuration: *const BoardConfiguration,
+        ticks: &mut u32,
     ) -> u8;
 }
 
@@ -128,6 +153,19 @@ pub fn answer(request: &Request) -> Result<Success, Refusal> {
                 figrummy_wait_chart(file.as_ptr(), file.len(), active, variables, clocks, *ticks)
             })
         }
+        Request::ChartLongest(file, given) => longest(|ticks| {
+            on_chart(*given, |active, variables, clocks| unsafe {
+                figrummy_longest_wait_chart(
+                    file.as_ptr(),
+                    file.len(),
+                    active,
+                    variables,
+                    clocks,
+                    ticks,
+                )
+            })
+            .map(|left| left == Success::Chart(*given))
+        }),
         Request::NetworkStart(file) => {
             on_network(LENT_NETWORK, |locations, flags, variables, clocks| unsafe {
                 figrummy_start_network(
@@ -167,6 +205,20 @@ pub fn answer(request: &Request) -> Result<Success, Refusal> {
                 )
             })
         }
+        Request::NetworkLongest(file, given) => longest(|ticks| {
+            on_network(*given, |locations, flags, variables, clocks| unsafe {
+                figrummy_longest_wait_network(
+                    file.as_ptr(),
+                    file.len(),
+                    locations,
+                    flags,
+                    variables,
+                    clocks,
+                    ticks,
+                )
+            })
+            .map(|left| left == Success::Network(*given))
+        }),
         Request::Flatten(file, room) => on_buffer(file, *room as usize),
     }
 }
@@ -183,6 +235,12 @@ pub fn answer_in_place(request: &Request) -> Option<Result<Success, Refusal>> {
         })),
         Request::NetworkWait(file, given, ticks) => Some(on_board(*given, |board| unsafe {
             figrummy_wait_in_place(file.as_ptr(), file.len(), board, *ticks)
+        })),
+        Request::NetworkLongest(file, given) => Some(longest(|ticks| {
+            on_board(*given, |board| unsafe {
+                figrummy_longest_wait_in_place(file.as_ptr(), file.len(), board, ticks)
+            })
+            .map(|left| left == Success::Network(*given))
         })),
         _ => None,
     }
@@ -224,6 +282,21 @@ fn on_buffer(file: &[u8], room: usize) -> Result<Success, Refusal> {
     assert!(unchanged, "bytes that are not the network's were changed");
     buffer.truncate(flattened?);
     Ok(Success::Flattened(buffer))
+}
+
+/// The ticks that are lent to a longest wait: more than any clock leaves, and not what none leaves.
+const LENT_TICKS: u32 = 0xA5A5_A5A5;
+
+/// A call for a longest wait. It is lent where the ticks go, and tells whether it left the configuration
+/// that was lent with it as it was. A refused call writes no ticks.
+fn longest(call: impl FnOnce(&mut u32) -> Result<bool, Refusal>) -> Result<Success, Refusal> {
+    let mut ticks = LENT_TICKS;
+    let answer = call(&mut ticks);
+    if answer.is_err() {
+        assert_eq!(ticks, LENT_TICKS, "a refused call changed the ticks");
+    }
+    assert!(answer?, "a longest wait changed the configuration");
+    Ok(Success::Longest(ticks))
 }
 
 /// A call that is lent the parts of a chart's configuration.

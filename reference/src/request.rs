@@ -16,9 +16,11 @@ pub enum Request {
     ChartStart(Vec<u8>),
     ChartStep(Vec<u8>, ChartConfiguration, Vec<u16>),
     ChartWait(Vec<u8>, ChartConfiguration, u32),
+    ChartLongest(Vec<u8>, ChartConfiguration),
     NetworkStart(Vec<u8>),
     NetworkStep(Vec<u8>, NetworkConfiguration, Vec<u16>),
     NetworkWait(Vec<u8>, NetworkConfiguration, u32),
+    NetworkLongest(Vec<u8>, NetworkConfiguration),
 }
 
 /// What an accepted request gives.
@@ -30,6 +32,8 @@ pub enum Success {
     Flattened(Vec<u8>),
     Chart(ChartConfiguration),
     Network(NetworkConfiguration),
+    /// The ticks of the longest wait.
+    Longest(u32),
 }
 
 impl Request {
@@ -49,6 +53,10 @@ impl Request {
                 let chart = check(file)?;
                 chart_machine::wait(&chart, configuration, *ticks).map(Success::Chart)
             }
+            Request::ChartLongest(file, configuration) => {
+                let chart = check(file)?;
+                chart_machine::longest_wait(&chart, configuration).map(Success::Longest)
+            }
             Request::NetworkStart(file) => {
                 let network = Network::read(file)?;
                 Ok(Success::Network(network_machine::start(&network)))
@@ -61,6 +69,10 @@ impl Request {
                 let network = Network::read(file)?;
                 network_machine::wait(&network, configuration, *ticks).map(Success::Network)
             }
+            Request::NetworkLongest(file, configuration) => {
+                let network = Network::read(file)?;
+                network_machine::longest_wait(&network, configuration).map(Success::Longest)
+            }
         }
     }
 
@@ -71,9 +83,11 @@ impl Request {
             | Request::ChartStart(file)
             | Request::ChartStep(file, _, _)
             | Request::ChartWait(file, _, _)
+            | Request::ChartLongest(file, _)
             | Request::NetworkStart(file)
             | Request::NetworkStep(file, _, _)
-            | Request::NetworkWait(file, _, _) => file,
+            | Request::NetworkWait(file, _, _)
+            | Request::NetworkLongest(file, _) => file,
         }
     }
 }

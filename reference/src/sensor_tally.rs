@@ -97,6 +97,11 @@ impl SensorFacts {
         chart_machine::wait(&self.without_bounds, configuration, ticks).is_ok()
     }
 
+    /// Whether a longest wait is as short as it is by sensors' bounds alone.
+    pub fn shorten(&self, configuration: &ChartConfiguration, longest: u32) -> bool {
+        chart_machine::longest_wait(&self.without_bounds, configuration) != Ok(longest)
+    }
+
     /// Whether a transition leads to a plain parallel state.
     pub fn leads_to_plain(&self, chart: &Chart, transition: usize) -> bool {
         self.plain.contains(&chart.transitions[transition].destination)

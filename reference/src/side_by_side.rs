@@ -10,6 +10,8 @@ use crate::chart_machine::{self, ChartConfiguration};
 use crate::damage::{damage_list, random_ticks};
 use crate::flatten::network_of;
 use crate::layout::Layout;
+use crate::longest::{is_longest_of_chart, is_longest_of_network, LongestWaits};
+use crate::longest_tally::LongestTally;
 use crate::moves::Member;
 use crate::network::Network;
 use crate::network_machine::{self, NetworkConfiguration};
@@ -33,6 +35,8 @@ pub struct Machines {
     pub chart_advances: Vec<Advance>,
     pub network_advances: Vec<Advance>,
     pub sensors: SensorFacts,
+    /// What the tests ask for the longest wait.
+    pub longest: LongestWaits,
 }
 
 impl Machines {
@@ -46,6 +50,7 @@ impl Machines {
             chart_advances: sole_advances(chart_labels),
             network_advances: sole_advances(network_labels),
             sensors: SensorFacts::of(&chart, &network),
+            longest: LongestWaits::RIGHT,
             chart,
             network,
         })
@@ -92,6 +97,7 @@ pub struct Tally {
     /// The most times that such an advance was made in one run.
     pub most_advances: u64,
     pub sensors: SensorTally,
+    pub longest: LongestTally,
 }
 
 impl Tally {
@@ -111,6 +117,7 @@ impl Tally {
         self.take_ups += other.take_ups;
         self.most_advances = self.most_advances.max(other.most_advances);
         self.sensors.add(&other.sensors);
+        self.longest.add(&other.longest);
     }
 }
 
@@ -250,6 +257,7 @@ impl<'a> Moment<'a> {
                 // A refused call adds nothing, and what it was given stays as it is.
                 self.tally.network_refusals[usize::from(refusal.number())] += 1;
                 self.count_refused_wait(call, refusal);
+                self.tally.longest.one_more_refused += u64::from(self.is_longest_with(call, 1));
                 return Ok(Some(refusal));
             }
         };
@@ -257,6 +265,7 @@ impl<'a> Moment<'a> {
             Call::Wait(_) => {
                 demand(self.owed == 0, "a wait was accepted while urgent moves are owed")?;
                 self.tally.waits += 1;
+                self.tally.longest.waited += u64::from(self.is_longest_with(call, 0));
                 self.add_to_chart_list(call.clone())?;
             }
             Call::Step(list) => {
@@ -318,6 +327,12 @@ impl<'a> Moment<'a> {
             let by_sensor = self.machines.sensors.refuse_wait(&self.chart, *ticks);
             self.tally.sensors.waits_refused += u64::from(by_sensor);
         }
+    }
+
+    /// Whether a call is a wait of so many ticks more than the network's longest.
+    fn is_longest_with(&self, call: &Call, more: u32) -> bool {
+        let longest = network_machine::longest_wait(&self.machines.network, &self.network);
+        *call == Call::Wait(longest.map_or(0, |ticks| ticks.saturating_add(more)))
     }
 
     /// Each addition is called on the chart at once and must be accepted.
@@ -398,6 +413,33 @@ impl<'a> Moment<'a> {
         )
     }
 
+    /// Tests the longest wait of each machine by waits, and that the two are one number, or that the
+    /// network's is 0 while some moves are owed.
+    fn test_longest_waits(&mut self) -> Result<(), Failure> {
+        let Machines { chart, network, sensors, longest, .. } = self.machines;
+        let refused = "there is no longest wait of a configuration met in a run";
+        let on_chart = (longest.of_chart)(chart, &self.chart).map_err(|_| refused)?;
+        let on_network = (longest.of_network)(network, &self.network).map_err(|_| refused)?;
+        demand(
+            is_longest_of_chart(chart, &self.chart, on_chart),
+            "the chart's longest wait is not the longest that it accepts",
+        )?;
+        demand(
+            is_longest_of_network(network, &self.network, on_network),
+            "the network's longest wait is not the longest that it accepts",
+        )?;
+        let tally = &mut self.tally.longest;
+        tally.count_of_chart(chart, &self.chart, on_chart);
+        tally.count_of_network(network, &self.network, on_network);
+        if self.owed > 0 {
+            tally.while_owed += 1;
+            return demand(on_network == 0, "the network may wait while some are owed");
+        }
+        tally.equal += 1;
+        tally.sensor_bounds += u64::from(sensors.shorten(&self.chart, on_chart));
+        demand(on_chart == on_network, "with none owed, the two longest waits differ")
+    }
+
     /// Tests every clause that can be tested between two calls.
     fn test(&mut self, random: &mut Random) -> Result<(), Failure> {
         demand(
@@ -405,6 +447,7 @@ impl<'a> Moment<'a> {
             "the variables or clocks of the two machines differ",
         )?;
         self.test_take_ups()?;
+        self.test_longest_waits()?;
         let moves = self.allowed_network_moves(random);
         if self.owed > 0 {
             return self.test_while_owed(&moves, random);
@@ -569,7 +612,8 @@ impl<'a> Moment<'a> {
 
     fn random_network_call(&self, random: &mut Random) -> Call {
         if random.chance(20) {
-            return Call::Wait(random_ticks(10, random));
+            let longest = network_machine::longest_wait(&self.machines.network, &self.network);
+            return random_wait(longest, random);
         }
         let allowed = self.allowed_network_moves(random);
         self.random_network_step(&allowed, random)
@@ -582,7 +626,8 @@ impl<'a> Moment<'a> {
 
     fn random_chart_call(&self, random: &mut Random) -> Call {
         if random.chance(20) {
-            return Call::Wait(random_ticks(10, random));
+            let longest = chart_machine::longest_wait(&self.machines.chart, &self.chart);
+            return random_wait(longest, random);
         }
         let fitting = self.chart_candidates(random);
         let known = self.machines.chart.transitions.len();
@@ -598,6 +643,17 @@ fn active_edges(network: &Network, configuration: &NetworkConfiguration) -> Vec<
         .filter(|(_, edge)| network_machine::is_active(network, configuration, edge))
         .map(|(number, edge)| (number as u16, network_machine::member(network, edge)))
         .collect()
+}
+
+/// Any wait, or the longest, or one tick more. A clock that is at its limit forbids all waits until it
+/// is reset, so the longest is seldom taken where no bound decides it.
+fn random_wait(longest: Result<u32, Refusal>, random: &mut Random) -> Call {
+    match longest {
+        Ok(ticks) if random.chance(if ticks <= 40 { 40 } else { 4 }) => {
+            Call::Wait(ticks.saturating_add(random.below(2) as u32))
+        }
+        _ => Call::Wait(random_ticks(10, random)),
+    }
 }
 
 /// Mostly one of the fitting lists, otherwise a damaged one.

@@ -38,6 +38,10 @@ pub fn request_from_text(line: &str) -> Option<Request> {
             chart_configuration_from_text(configuration)?,
             ticks.parse().ok()?,
         ),
+        ["cmax", file, configuration] => Request::ChartLongest(
+            file_from_text(file)?,
+            chart_configuration_from_text(configuration)?,
+        ),
         ["nstart", file] => Request::NetworkStart(file_from_text(file)?),
         ["nstep", file, configuration, list] => Request::NetworkStep(
             file_from_text(file)?,
@@ -48,6 +52,10 @@ pub fn request_from_text(line: &str) -> Option<Request> {
             file_from_text(file)?,
             network_configuration_from_text(configuration)?,
             ticks.parse().ok()?,
+        ),
+        ["nmax", file, configuration] => Request::NetworkLongest(
+            file_from_text(file)?,
+            network_configuration_from_text(configuration)?,
         ),
         _ => return None,
     })
@@ -66,6 +74,9 @@ pub fn request_to_text(request: &Request) -> String {
         Request::ChartWait(_, configuration, ticks) => {
             format!("cwait {file} {} {ticks}", chart_configuration_to_text(configuration))
         }
+        Request::ChartLongest(_, configuration) => {
+            format!("cmax {file} {}", chart_configuration_to_text(configuration))
+        }
         Request::NetworkStart(_) => format!("nstart {file}"),
         Request::NetworkStep(_, configuration, list) => {
             let configuration = network_configuration_to_text(configuration);
@@ -73,6 +84,9 @@ pub fn request_to_text(request: &Request) -> String {
         }
         Request::NetworkWait(_, configuration, ticks) => {
             format!("nwait {file} {} {ticks}", network_configuration_to_text(configuration))
+        }
+        Request::NetworkLongest(_, configuration) => {
+            format!("nmax {file} {}", network_configuration_to_text(configuration))
         }
     }
 }
@@ -83,6 +97,7 @@ pub fn answer_to_text(answer: &Result<Success, Refusal>) -> String {
         Ok(Success::Flattened(network)) => format!("ok {}", file_to_text(network)),
         Ok(Success::Chart(new)) => format!("ok {}", chart_configuration_to_text(new)),
         Ok(Success::Network(new)) => format!("ok {}", network_configuration_to_text(new)),
+        Ok(Success::Longest(ticks)) => format!("ok {ticks}"),
         Err(refusal) => refusal.number().to_string(),
     }
 }

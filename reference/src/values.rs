@@ -63,7 +63,22 @@ impl Bounds {
         joined
     }
 
-    pub fn hold(&self, values: &Values) -> bool {
-        self.0.iter().zip(&values.clocks).all(|(bound, clock)| clock <= bound)
+    /// All of these joined.
+    pub fn joined<'a>(all: impl Iterator<Item = &'a Bounds>) -> Bounds {
+        all.fold(Bounds::NONE, |joined, bounds| joined.join(bounds))
     }
+
+    /// The ticks that are left under the bounds of these clocks, the first ones, or none if one is
+    /// broken. Without a clock nothing ends a wait but the 32 bits of its ticks.
+    pub fn ticks_left(&self, clocks: &[u32]) -> Option<u32> {
+        // None is less than any number.
+        let left = self.0.iter().zip(clocks).map(|(&bound, &clock)| ticks_left(bound, clock));
+        left.min().unwrap_or(Some(u32::MAX))
+    }
+}
+
+/// The one test of a bound: the ticks that are left until the clock reaches it, or none if the bound
+/// is broken. Where there is no bound, the limit of clocks is left.
+pub fn ticks_left(bound: u32, clock: u32) -> Option<u32> {
+    bound.min(LARGEST).checked_sub(clock)
 }

@@ -10,9 +10,10 @@ use crate::expression::Expression;
 use crate::faulty::{self, all_faulty, Faulty};
 use crate::flatten::network_of;
 use crate::generate::{chart_from_wish, Wish};
+use crate::generate_longest::{chart_longest_requests, network_longest_requests};
 use crate::guard::{Guard, Relation};
 use crate::layout::Layout;
-use crate::limits::{ADVANCE_BYTES, LIST};
+use crate::limits::{ADVANCE_BYTES, CLOCKS, LIST, STATES, VARIABLES};
 use crate::network_machine::{self, NetworkConfiguration};
 use crate::random::Random;
 use crate::request::Request;
@@ -27,8 +28,11 @@ use crate::walk::{chart_requests, network_requests};
 /// How many bytes the program holds at a time.
 pub const WINDOW: usize = 131_072;
 
-/// Most bytes of the requests of one part that are chosen.
-pub const MOST_INPUT_BYTES: usize = 60_000;
+/// Most bytes of the requests of one part that are chosen. Three with each feature fit: the part on
+/// charts, with the requests for longest waits, has some 114,000 bytes. Input may have any length, since
+/// a program reads it through a window; but the largest request follows the part on charts and has to
+/// begin in the first window, so this is less than `WINDOW`.
+pub const MOST_INPUT_BYTES: usize = 120_000;
 
 /// Most bytes of the answers to them.
 pub const MOST_OUTPUT_BYTES: usize = 300_000;
@@ -41,6 +45,12 @@ const MOST_NETWORK_BYTES: usize = 4_000;
 
 /// How many charts the requests are chosen from.
 const CHARTS: u64 = 400;
+
+/// What a request on a chart that is refused is given: no active state, all values 0.
+const EMPTY: ChartConfiguration = ChartConfiguration {
+    active: [false; STATES],
+    values: Values { variables: [0; VARIABLES], clocks: [0; CLOCKS] },
+};
 
 /// The input of the program and the output that is right, part by part.
 pub struct VectorFile {
@@ -132,8 +142,8 @@ pub fn vector_file() -> VectorFile {
     VectorFile {
         parts: vec![
             choose("chart", checks, candidates.chart),
+            largest(),
             choose("flatten", flattens, candidates.flatten),
-            longest(),
             choose("network", starts, candidates.network),
             choose("side by side", Vec::new(), candidates.runs),
         ],
@@ -144,10 +154,11 @@ fn all_candidates(random: &mut Random) -> Candidates {
     let mut all = Candidates::default();
     let mut charts = special_charts();
     charts.extend((0..CHARTS).map(|seed| chart_from_wish(&small_wish(seed), seed)));
+    let mut longest_random = Random::new(0x4C4F_4E47);
     for one in &charts {
-        add_chart_candidates(one, &mut all.chart, random);
+        add_chart_candidates(one, &mut all.chart, random, &mut longest_random);
         add_flatten_candidates(one, &mut all.flatten, random);
-        add_network_candidates(one, &mut all.network, random);
+        add_network_candidates(one, &mut all.network, random, &mut longest_random);
     }
     let mut run_random = Random::new(0x5349_4445);
     for one in &charts {
@@ -165,8 +176,8 @@ fn all_candidates(random: &mut Random) -> Candidates {
 
 /// A chart of nearly as many bytes as there can be. It stands so that the end of what a program
 /// reads first, `WINDOW` bytes, falls into its file.
-fn longest() -> Part {
-    let mut part = Part::new("longest");
+fn largest() -> Part {
+    let mut part = Part::new("largest");
     part.push(&Candidate::new(Request::ChartStart(special::largest().write())));
     part
 }
@@ -208,23 +219,34 @@ fn small_wish(seed: u64) -> Wish {
     }
 }
 
-fn add_chart_candidates(chart: &Chart, list: &mut Vec<Candidate>, random: &mut Random) {
+/// Requests for longest waits have random numbers of their own, so that the others stay as they are.
+fn add_chart_candidates(
+    chart: &Chart,
+    list: &mut Vec<Candidate>,
+    random: &mut Random,
+    longest_random: &mut Random,
+) {
     let file = chart.write();
     list.push(Candidate::new(Request::Check(file.clone())));
     if check(&file).is_err() {
+        list.push(Candidate::new(Request::ChartLongest(file, EMPTY)));
         return;
     }
-    list.extend(chart_requests(chart, 30, random).into_iter().map(Candidate::new));
+    let run = chart_requests(chart, 30, random);
+    let longest = chart_longest_requests(chart, &run, longest_random);
+    list.extend(run.into_iter().chain(longest).map(Candidate::new));
+    let start = chart_machine::start(chart);
     for _ in 0..6 {
         let damaged = damage_chart(chart, random).write();
-        let start = chart_machine::start(chart);
         list.push(Candidate::new(Request::Check(damaged.clone())));
         list.push(Candidate::new(Request::ChartStart(damaged.clone())));
         list.push(Candidate::new(Request::ChartStep(damaged.clone(), start, vec![0])));
-        list.push(Candidate::new(Request::ChartWait(damaged, start, 1)));
+        list.push(Candidate::new(Request::ChartWait(damaged.clone(), start, 1)));
+        list.push(Candidate::new(Request::ChartLongest(damaged, start)));
         let damaged = damage_file(Form::Chart, &file, random);
         list.push(Candidate::new(Request::Check(damaged.clone())));
-        list.push(Candidate::new(Request::ChartStart(damaged)));
+        list.push(Candidate::new(Request::ChartStart(damaged.clone())));
+        list.push(Candidate::new(Request::ChartLongest(damaged, start)));
     }
 }
 
@@ -248,7 +270,12 @@ fn add_flatten_candidates(chart: &Chart, list: &mut Vec<Candidate>, random: &mut
     }
 }
 
-fn add_network_candidates(chart: &Chart, list: &mut Vec<Candidate>, random: &mut Random) {
+fn add_network_candidates(
+    chart: &Chart,
+    list: &mut Vec<Candidate>,
+    random: &mut Random,
+    longest_random: &mut Random,
+) {
     let Ok(network) = check(&chart.write()).and_then(|chart| network_of(&chart)) else {
         return;
     };
@@ -258,7 +285,9 @@ fn add_network_candidates(chart: &Chart, list: &mut Vec<Candidate>, random: &mut
     }
     let layout = Layout::of(chart);
     let start = network_machine::start(&network);
-    for request in network_requests(&network, 40, random) {
+    let run = network_requests(&network, 40, random);
+    let longest = network_longest_requests(&network, &run, longest_random);
+    for request in run.into_iter().chain(longest) {
         list.push(Candidate::with_layout(request, &layout));
     }
     for _ in 0..4 {
@@ -266,7 +295,8 @@ fn add_network_candidates(chart: &Chart, list: &mut Vec<Candidate>, random: &mut
         for request in [
             Request::NetworkStart(damaged.clone()),
             Request::NetworkStep(damaged.clone(), start, vec![0]),
-            Request::NetworkWait(damaged, start, 1),
+            Request::NetworkWait(damaged.clone(), start, 1),
+            Request::NetworkLongest(damaged, start),
         ] {
             list.push(Candidate::new(request));
         }

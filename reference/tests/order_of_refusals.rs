@@ -15,6 +15,7 @@ use reference::limits::{LARGEST, NONE};
 use reference::network::Network;
 use reference::network_machine::{self, NetworkConfiguration};
 use reference::refusal::Refusal;
+use reference::request::{Request, Success};
 use reference::special::{dense, nested_channel, one_pick, state, transition};
 use reference::update::Update;
 use reference::version::Version;
@@ -159,6 +160,43 @@ fn a_network_wait() {
     broken.flags[15] = 1;
     // 26 before 22.
     assert_eq!(wait(&broken, 0), Err(Refusal::NetworkConfiguration));
+}
+
+/// The file's refusals, then 17 or 26, and no other: where a wait of one tick is refused for another
+/// reason, the longest wait is 0.
+#[test]
+fn a_longest_wait() {
+    let chart = chart();
+    let network = network_of(&chart).unwrap();
+    let inside = chart_machine::step(&chart, &chart_machine::start(&chart), &[0]).unwrap();
+    let start = network_machine::start(&network);
+    let at_pre = network_machine::step(&network, &start, &[edge(&network, 0)]).unwrap();
+    let on_chart = |file: Vec<u8>, clock: u32| {
+        let mut given = inside;
+        given.values.clocks[0] = clock;
+        Request::ChartLongest(file, given).answer()
+    };
+    let on_network = |file: Vec<u8>, given: &NetworkConfiguration, clock: u32| {
+        let mut given = *given;
+        given.values.clocks[0] = clock;
+        Request::NetworkLongest(file, given).answer()
+    };
+    // 21 of a wait, at the bound of 5; past it 17.
+    assert_eq!(on_chart(chart.write(), 5), Ok(Success::Longest(0)));
+    assert_eq!(on_chart(chart.write(), 6), Err(Refusal::ChartConfiguration));
+    // 22 of a wait, at the limit; past it 26. 27 of a wait, at the urgent location, which has the bound
+    // of what is entered.
+    assert_eq!(on_network(network.write(), &start, LARGEST), Ok(Success::Longest(0)));
+    let refused = Err(Refusal::NetworkConfiguration);
+    assert_eq!(on_network(network.write(), &start, LARGEST + 1), refused);
+    assert_eq!(on_network(network.write(), &at_pre, 0), Ok(Success::Longest(0)));
+    assert_eq!(on_network(network.write(), &at_pre, 6), refused);
+    // Files first.
+    for one in all_faulty() {
+        assert_eq!(on_chart(one.chart, 6), Err(one.chart_refusal), "{}", one.name);
+        let answer = on_network(one.network, &at_pre, 6);
+        assert_eq!(answer, Err(one.network_refusal), "{}", one.name);
+    }
 }
 
 #[test]

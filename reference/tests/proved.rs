@@ -1,6 +1,6 @@
 //! The proved implementation gives the same answers, on networks by both sets of its functions. A
-//! refused call changes nothing that was lent, and flattening nothing after the network, which
-//! `proved` tests.
+//! refused call changes nothing that was lent, flattening nothing after the network, and a longest
+//! wait nothing but the ticks, which `proved` tests.
 
 use reference::binary_form::{requests_from_bytes, AnyRequest};
 use reference::compare::Agreed;

@@ -12,6 +12,8 @@ use reference::generate::chart_from_seed;
 use reference::label::{Label, Signal};
 use reference::layout::{Layout, Place};
 use reference::limits::NONE;
+use reference::longest_reason::Reason;
+use reference::longest_tally::LongestTally;
 use reference::network_machine;
 use reference::random::Random;
 use reference::sensors::{has_sensors, plain_states, with_marked_choices};
@@ -59,7 +61,7 @@ fn every_clause_holds_on_random_runs() {
     }
     assert!(tally.network_refusals[27] > 100);
     assert!(tally.most_owed >= 6);
-    let sensors = tally.sensors;
+    let sensors = &tally.sensors;
     assert!(sensors.with_sensors > 1_500 && sensors.with_sensors < tally.runs * 2 / 3);
     for with in [
         sensors.with_bounded_sensors,
@@ -75,6 +77,21 @@ fn every_clause_holds_on_random_runs() {
     assert!(sensors.edges_without_test > 5_000 && sensors.moves_without_test > 1_500);
     assert!(sensors.moves_to_plain > 1_500 && sensors.plain_exits_shut > 5_000);
     assert!(sensors.waits_refused > 500);
+    assert_longest_waits_were_met(&tally.longest);
+}
+
+/// Everything that can decide a longest wait did so often, on either machine.
+fn assert_longest_waits_were_met(longest: &LongestTally) {
+    assert_eq!(longest.of_charts.len(), Reason::OF_CHARTS.len());
+    assert_eq!(longest.of_networks.len(), Reason::ALL.len());
+    for count in longest.of_charts.values().chain(longest.of_networks.values()) {
+        assert!(*count > 1_000, "{longest:#?}");
+    }
+    assert!(longest.equal > 50_000);
+    // In the network of a chart an urgent location is occupied exactly while moves are owed.
+    assert_eq!(longest.while_owed, longest.of_networks[&Reason::Urgent]);
+    assert!(longest.inactive_bounds > 10_000 && longest.sensor_bounds > 2_000);
+    assert!(longest.waited > 1_000 && longest.one_more_refused > 1_000);
 }
 
 #[test]

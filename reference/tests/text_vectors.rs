@@ -3,8 +3,9 @@
 use std::collections::BTreeSet;
 
 use reference::chart::Chart;
-use reference::coverage::operation_name;
+use reference::coverage::{features, operation_name, Features};
 use reference::faulty::all_faulty;
+use reference::longest_reason::Reason;
 use reference::refusal::Refusal;
 use reference::request::Request;
 use reference::special_sensors;
@@ -25,7 +26,7 @@ fn every_answer_agrees() {
 fn every_operation_and_refusal_is_there() {
     let operations: BTreeSet<&str> =
         REQUESTS.lines().filter_map(|line| line.split(' ').next()).collect();
-    assert_eq!(operations.len(), 8);
+    assert_eq!(operations.len(), 10);
     let answers: BTreeSet<&str> =
         ANSWERS.lines().filter_map(|line| line.split(' ').next()).collect();
     assert!(answers.contains("0") && answers.contains("ok"));
@@ -55,8 +56,8 @@ fn both_versions_and_every_fault_of_an_advance_are_there() {
         .map(|(line, _)| request_from_text(line).expect("a request"))
         .map(|request| (operation_name(&request).to_string(), request.file()[0]))
         .collect();
-    // Eight operations in two versions.
-    assert_eq!(kinds.len(), 8 * 2, "{kinds:?}");
+    // Ten operations in two versions.
+    assert_eq!(kinds.len(), 10 * 2, "{kinds:?}");
 }
 
 #[test]
@@ -73,6 +74,31 @@ fn sensors_and_a_chart_without_a_sequential_state_are_there() {
     assert_eq!(answer(special_sensors::most_sensors()), "0");
 }
 
+/// Each refusal that a longest wait can get, and everything that can decide one.
+#[test]
+fn longest_waits_of_every_kind_are_there() {
+    let mut found = Features::new();
+    for line in REQUESTS.lines().filter(|line| line.contains("max ")) {
+        found.extend(features(&request_from_text(line).expect("a request"), None));
+    }
+    let refusals = |operation: &str, numbers: &[u8]| -> Vec<String> {
+        numbers.iter().map(|number| format!("{operation}: refusal {number}")).collect()
+    };
+    let reasons = |operation: &str, reasons: &[Reason]| -> Vec<String> {
+        reasons.iter().map(|reason| format!("{operation}: {}", reason.name())).collect()
+    };
+    let wanted = [
+        refusals("chart longest wait", &[1, 2, 3, 4, 5, 6, 7, 8, 9, 10, 11, 12, 13, 14, 17]),
+        refusals("network longest wait", &[24, 25, 26]),
+        reasons("chart longest wait", Reason::OF_CHARTS),
+        reasons("network longest wait", &Reason::ALL),
+        vec!["chart longest wait: by a sensor's bound".to_string()],
+    ];
+    let missing: Vec<String> =
+        wanted.concat().into_iter().filter(|feature| !found.contains(feature)).collect();
+    assert!(missing.is_empty(), "{missing:#?}");
+}
+
 #[test]
 fn requests_are_written_as_they_are_read() {
     for line in REQUESTS.lines() {
@@ -86,6 +112,9 @@ fn other_lines_are_malformed() {
     for line in ["", "check", "check 0", "check 0g", "cstep - A= -", "nwait - L=1;F=1;V=1;C=1 1"] {
         assert_eq!(answer_line(line), MALFORMED, "{line:?}");
     }
+    // A longest wait is asked for without ticks.
+    let line = REQUESTS.lines().find(|line| line.starts_with("cmax ")).expect("a longest wait");
+    assert_eq!(answer_line(&format!("{line} 1")), MALFORMED);
 }
 
 #[test]

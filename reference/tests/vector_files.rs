@@ -1,6 +1,7 @@
 //! The vector file for programs: what is in the repository is what is written, and it covers every
 //! refusal, every kind of guard, relation, signal and place, both versions with every kind of
-//! advance and every fault of one, and sensors and plain parallel states at every place.
+//! advance and every fault of one, sensors and plain parallel states at every place, and longest waits
+//! decided by everything that can decide one.
 
 use std::fs;
 use std::path::Path;
@@ -11,6 +12,7 @@ use reference::binary_form::{
 };
 use reference::coverage::Counts;
 use reference::faulty::{all_faulty, Faulty};
+use reference::longest_reason::Reason;
 use reference::refusal::Refusal;
 use reference::vector_files::{
     vector_file, Part, VectorFile, MOST_INPUT_BYTES, MOST_OUTPUT_BYTES, WINDOW,
@@ -145,6 +147,11 @@ const SETS: [&str; 6] = [
     "set on a broadcast channel, 3 or more receivers",
 ];
 
+/// Longest waits by what decides them.
+fn longest_waits(operation: &str, reasons: &[Reason]) -> Vec<String> {
+    reasons.iter().map(|reason| format!("{operation}: {}", reason.name())).collect()
+}
+
 #[test]
 fn the_repository_has_the_file_as_written() {
     let folder = Path::new(env!("CARGO_MANIFEST_DIR")).join("vectors");
@@ -164,14 +171,14 @@ fn the_file_can_be_read_and_answered() {
 
 #[test]
 fn the_chosen_requests_are_few_enough() {
-    for part in file().parts.iter().filter(|part| part.name != "longest") {
+    for part in file().parts.iter().filter(|part| part.name != "largest") {
         assert!(part.input.len() <= MOST_INPUT_BYTES);
         assert!(part.output.len() <= MOST_OUTPUT_BYTES);
     }
 }
 
 #[test]
-fn requests_pass_the_end_of_what_is_read_first() {
+fn the_largest_request_passes_the_end_of_what_is_read_first() {
     let mut at = 0;
     let mut across = 0;
     for request in requests() {
@@ -181,8 +188,9 @@ fn requests_pass_the_end_of_what_is_read_first() {
         }
         at = next;
     }
-    assert!(across > MOST_INPUT_BYTES);
-    assert!(at - WINDOW > MOST_INPUT_BYTES);
+    assert_eq!(across, part("largest").input.len());
+    // And what follows passes the end of as much again.
+    assert!(at > 2 * WINDOW);
 }
 
 #[test]
@@ -192,7 +200,7 @@ fn the_chart_requests_cover_everything() {
     assert_covered(counts, parts("check", &["ok"]));
     assert_covered(counts, parts("check", &LABEL_PARTS));
     assert_covered(counts, parts("chart start", &["ok"]));
-    for operation in ["check", "chart start", "chart step", "chart wait"] {
+    for operation in ["check", "chart start", "chart step", "chart wait", "chart longest wait"] {
         assert_covered(counts, parts(operation, &["version 1", "version 2"]));
     }
     assert_covered(counts, parts("check", &ADVANCES));
@@ -216,6 +224,14 @@ fn the_chart_requests_cover_everything() {
     assert_covered(counts, parts("chart step", &sensors));
     assert_covered(counts, parts("chart step", &["refused by a sensor's bound"]));
     assert_covered(counts, parts("chart wait", &["refused by a sensor's bound"]));
+    assert_covered(counts, refusals("chart longest wait", (1..=14).chain([17])));
+    assert_covered(counts, longest_waits("chart longest wait", Reason::OF_CHARTS));
+    let inactive = [
+        "by a bound, though an inactive state has a smaller bound",
+        "by a limit, though an inactive state has a smaller bound",
+        "by a sensor's bound",
+    ];
+    assert_covered(counts, parts("chart longest wait", &inactive));
 }
 
 #[test]
@@ -251,7 +267,7 @@ fn the_flatten_requests_cover_everything() {
 #[test]
 fn the_network_requests_cover_everything() {
     let counts = &part("network").counts;
-    for operation in ["network start", "network step", "network wait"] {
+    for operation in ["network start", "network step", "network wait", "network longest wait"] {
         assert_covered(counts, refusals(operation, [24, 25]));
         assert_covered(counts, parts(operation, &["ok", "version 1", "version 2"]));
     }
@@ -260,6 +276,14 @@ fn the_network_requests_cover_everything() {
     assert_covered(counts, faults("network start", |one| one.network_refusal));
     assert_covered(counts, refusals("network step", [18, 19, 20, 21, 26, 27]));
     assert_covered(counts, refusals("network wait", [21, 22, 26, 27]));
+    assert_covered(counts, refusals("network longest wait", [26]));
+    assert_covered(counts, longest_waits("network longest wait", &Reason::ALL));
+    let elsewhere = [
+        "by a bound, though a location elsewhere has a smaller bound",
+        "by a limit, though a location elsewhere has a smaller bound",
+        "0, an urgent location alone",
+    ];
+    assert_covered(counts, parts("network longest wait", &elsewhere));
     assert_covered(counts, guards_both_ways("network step"));
     assert_covered(counts, parts("network step", &LABEL_PARTS));
     assert_covered(counts, parts("network step", &SETS));

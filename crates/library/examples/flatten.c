@@ -1,6 +1,6 @@
 /*
  * Checks and flattens the sample `nested`, and takes two steps with its chart and the four moves that they are of its network.
- * Written to standard output: what each call answers, and where the machines are after it.
+ * Written to standard output: what each call answers, where the machines are after it, and how long they may wait.
  */
 #include <stdio.h>
 
@@ -65,6 +65,20 @@ static void step_network(const uint16_t *list, size_t count)
                                         network.clocks, list, count));
 }
 
+/* The longest wait of both machines. */
+static void print_longest(void)
+{
+    uint32_t of_chart, of_network;
+    uint8_t chart_answer = figrummy_longest_wait_chart(chart.file, chart.length, chart.active, chart.variables, chart.clocks,
+                                                       &of_chart);
+    uint8_t network_answer = figrummy_longest_wait_network(network.file, network.length, network.locations, network.flags,
+                                                           network.variables, network.clocks, &of_network);
+    if (chart_answer == 0 && network_answer == 0)
+        printf("longest wait: chart %u, network %u\n", of_chart, of_network);
+    else
+        printf("longest wait: refused, %u and %u\n", chart_answer, network_answer);
+}
+
 /* The sample's file is read, checked and flattened; both machines start. Whether all of it succeeded. */
 static bool open_sample(const char *name)
 {
@@ -100,10 +114,13 @@ int main(int count, char **arguments)
     }
     if (!open_sample(arguments[1]))
         return 1;
-    /* Into the composite: the network's second move is the urgent one, from "pre" on. */
+    /* Into the composite: the network's second move is the urgent one, from "pre" on. Before it the network may not wait. */
     step_chart(0);
     step_network((const uint16_t[]){0}, 1);
+    print_longest();
     step_network((const uint16_t[]){2, 4}, 2);
+    /* Nothing is owed, and there is no clock: both may wait as long as can be said. */
+    print_longest();
     /* Out of it again, by the exit. */
     step_chart(1);
     step_network((const uint16_t[]){1}, 1);

@@ -1,5 +1,5 @@
 /*
- * Charts and networks: check, flatten, and run both machines.
+ * Charts and networks: check, flatten, run both machines, and tell how long they may wait.
  *
  * Link with liblibrary.a (x86-64 Linux), which `rt staticlib library` writes to target/staticlib. It keeps nothing between
  * calls, allocates nothing, and calls nothing back. A program that only runs networks can link libnetwork_machine.a
@@ -7,9 +7,10 @@
  *
  * Everything that a function is given is the caller's before, during and after a call. A file or a list passes as a pointer to
  * its first element and the number of its elements; it is read, never written, and every call checks a file from its first byte
- * to its last. What a function writes, it is lent by a pointer: during the call nobody else may read or write it. No two
- * things given to one call may share memory where one of them is written. A pointer is never null and is aligned; where the
- * number of elements is 0, any such pointer will do. A bool is 0 or 1.
+ * to its last. What a function writes, it is lent by a pointer: during the call nobody else may read or write it. What it is
+ * lent by a pointer to const it reads and does not write. No two things given to one call may share memory where one of them
+ * is written. A pointer is never null and is aligned; where the number of elements is 0, any such pointer will do. A bool is 0
+ * or 1.
  *
  * Charts and networks have versions 1 and 2, told by the first byte of the file; version 2 has advances. Every function takes
  * both, and the network of a chart has the version of the chart.
@@ -65,9 +66,9 @@ uint8_t figrummy_check_chart(const uint8_t *file, size_t file_length);
 uint8_t figrummy_flatten(const uint8_t *file, size_t file_length, uint8_t *out, size_t out_length, size_t *size);
 
 /*
- * A chart's configuration: which states are active, the variables, the clocks. Refusals of the next three functions: those of
+ * A chart's configuration: which states are active, the variables, the clocks. Refusals of the next four functions: those of
  * the check, then in order
- *   17  the configuration is not one of this chart, or breaks a bound (step, wait)
+ *   17  the configuration is not one of this chart, or breaks a bound (step, wait, longest wait)
  *   18  the list is not 1 to 16 numbers of transitions, strictly ascending (step)
  *   19  a transition of the list is not active (step)
  *   22  no ticks, or a clock would pass 2,147,483,647 (wait)
@@ -89,11 +90,19 @@ uint8_t figrummy_wait_chart(const uint8_t *file, size_t file_length, bool active
                             int32_t variables[FIGRUMMY_VARIABLES], uint32_t clocks[FIGRUMMY_CLOCKS], uint32_t ticks);
 
 /*
+ * The longest wait, into *ticks: a wait is accepted exactly for 1 tick up to so many. It is 0 where no wait is accepted, at most
+ * 2,147,483,647 less the greatest clock, and 4,294,967,295 where the chart has no clock. On a refusal *ticks stays as it was.
+ */
+uint8_t figrummy_longest_wait_chart(const uint8_t *file, size_t file_length, const bool active[FIGRUMMY_STATES],
+                                    const int32_t variables[FIGRUMMY_VARIABLES], const uint32_t clocks[FIGRUMMY_CLOCKS],
+                                    uint32_t *ticks);
+
+/*
  * A network's configuration: the location of each automaton, its eight flags (bit i for exit i), the variables, the clocks.
- * Refusals of the next three functions, in order:
+ * Refusals of the next four functions, in order:
  *   24  the version of the file is neither 1 nor 2, or a count or a length is wrong
  *   25  a field of the file is out of range; of 24 and 25 the first from left to right. Then also: the file breaks a rule
- *   26  the configuration is not one of this network, or breaks a bound (step, wait)
+ *   26  the configuration is not one of this network, or breaks a bound (step, wait, longest wait)
  *   18  the list is not 1 to 16 numbers of edges, strictly ascending (step)
  *   19  an edge of the list is not active (step)
  *   22  no ticks, or a clock would pass 2,147,483,647 (wait)
@@ -116,6 +125,14 @@ uint8_t figrummy_step_network(const uint8_t *file, size_t file_length, uint8_t l
 uint8_t figrummy_wait_network(const uint8_t *file, size_t file_length, uint8_t locations[FIGRUMMY_AUTOMATA],
                               uint8_t flags[FIGRUMMY_AUTOMATA], int32_t variables[FIGRUMMY_VARIABLES],
                               uint32_t clocks[FIGRUMMY_CLOCKS], uint32_t ticks);
+
+/*
+ * The longest wait, into *ticks, as of a chart. It is 0 too where an urgent location is occupied, and 4,294,967,295 where none is
+ * and the network has no clock. On a refusal *ticks stays as it was.
+ */
+uint8_t figrummy_longest_wait_network(const uint8_t *file, size_t file_length, const uint8_t locations[FIGRUMMY_AUTOMATA],
+                                      const uint8_t flags[FIGRUMMY_AUTOMATA], const int32_t variables[FIGRUMMY_VARIABLES],
+                                      const uint32_t clocks[FIGRUMMY_CLOCKS], uint32_t *ticks);
 
 #ifdef __cplusplus
 }

@@ -7,9 +7,10 @@
  * Networks have versions 1 and 2, told by the first byte of the file; version 2 has advances. Every function takes both.
  *
  * A network file passes as its first byte and its length. It is read, never written, and every call checks it from its
- * first byte to its last. The file, the configuration and the list are the caller's before, during and after a call. During
- * a call nobody else may write any of them, and nobody else may read the configuration. No two of them may share memory.
- * A pointer is never null; where the length is 0, any pointer that is not null and is aligned will do.
+ * first byte to its last. The file, the configuration, the list and the ticks are the caller's before, during and after a
+ * call. During a call nobody else may write any of them, and nobody else may read what the call may write: the configuration
+ * or, where that is const, the ticks. No two of them may share memory. A pointer is never null; where the length is 0, any
+ * pointer that is not null and is aligned will do.
  */
 #ifndef FIGRUMMY_NETWORK_H
 #define FIGRUMMY_NETWORK_H
@@ -39,11 +40,12 @@ struct figrummy_configuration {
 };
 
 /*
- * Each function answers 0 if the configuration was moved on, and otherwise the number of the refusal. On a refusal the
- * configuration is as it was, each byte of it. Refusals of the file come first, then in the order in which they stand here:
+ * Each function answers 0 if the configuration was moved on, or the longest wait was told, and otherwise the number of the
+ * refusal. On a refusal the configuration is as it was, each byte of it, and so are the ticks. Refusals of the file come
+ * first, then in the order in which they stand here:
  *   24  the version of the file is neither 1 nor 2, or a count or a length is wrong
  *   25  a field of the file is out of range; of 24 and 25 the first from left to right. Then also: the file breaks a rule
- *   26  the configuration is not one of this network, or breaks a bound (step and wait)
+ *   26  the configuration is not one of this network, or breaks a bound (step, wait and longest wait)
  *   18  the list is not 1 to 16 numbers of edges, strictly ascending (step)
  *   19  an edge of the list is not active (step)
  *   22  no ticks, or a clock would pass 2,147,483,647 (wait)
@@ -62,6 +64,14 @@ uint8_t figrummy_step_in_place(const uint8_t *file, size_t file_length, struct f
 /* A wait of so many ticks. */
 uint8_t figrummy_wait_in_place(const uint8_t *file, size_t file_length, struct figrummy_configuration *configuration,
                       uint32_t ticks);
+
+/*
+ * The longest wait, into *ticks: a wait is accepted exactly for 1 tick up to so many, so that a board can sleep as long. It is
+ * 0 where an urgent location is occupied or a clock is at a bound, at most 2,147,483,647 less the greatest clock, and
+ * 4,294,967,295 where no urgent location is occupied and the network has no clock. The configuration is read, never written.
+ */
+uint8_t figrummy_longest_wait_in_place(const uint8_t *file, size_t file_length,
+                      const struct figrummy_configuration *configuration, uint32_t *ticks);
 
 #ifdef __cplusplus
 }

@@ -4,7 +4,8 @@
 //! Each operation reads its file anew, as its description says. Implementations are compared in
 //! one run over the same inputs: the first of the list is this one; with the feature `proved` the
 //! other is the proved one, and the tables give the ratio of its times to the first. A size whose
-//! chart one of them refuses, as a library from before there were sensors does, is left out.
+//! chart one of them refuses, as a library from before there were sensors does, is left out, and so is
+//! an operation that they answer differently, as one from before there were longest waits does.
 
 use std::hint::black_box;
 use std::time::{Duration, Instant};
@@ -75,13 +76,17 @@ fn passes_everywhere(size: &str, chart: &Chart) -> bool {
 
 /// Every operation but flattening.
 fn time_operations(charts: &[(&str, Chart)]) {
-    println!("{:<15}{:<10}{:>8}{}", "operation", "size", "bytes", heading());
+    println!("{:<22}{:<10}{:>8}{}", "operation", "size", "bytes", heading());
     let sizes: Vec<(&str, Vec<Request>)> =
         charts.iter().map(|(size, chart)| (*size, inputs(chart))).collect();
     for operation in 0..sizes[0].1.len() {
         for (size, requests) in &sizes {
             let request = &requests[operation];
-            print!("{:<15}{size:<10}{:>8}", operation_name(request), request.file().len());
+            print!("{:<22}{size:<10}{:>8}", operation_name(request), request.file().len());
+            if IMPLEMENTATIONS.iter().any(|one| (one.answer)(request) != request.answer()) {
+                println!("  left out: the answers differ");
+                continue;
+            }
             print_times(&times(IMPLEMENTATIONS.len(), |number| {
                 let _ = black_box((IMPLEMENTATIONS[number].answer)(black_box(request)));
             }));
@@ -92,13 +97,13 @@ fn time_operations(charts: &[(&str, Chart)]) {
 
 /// Flattening into a buffer that just fits, beside a copy of as many bytes.
 fn time_flattening<'a>(charts: impl Iterator<Item = (&'a str, Chart)>) {
-    let columns = format!("{:<15}{:>8}{:>10}", "flatten", "bytes", "network");
+    let columns = format!("{:<22}{:>8}{:>10}", "flatten", "bytes", "network");
     println!("{columns}{}{:>15}{:>8}", heading(), "copy ns", "ratio");
     for (size, chart) in charts {
         let file = chart.write();
         let network = network_of(&chart).map_or(Vec::new(), |network| network.write());
         let mut buffer = vec![0; network.len()];
-        print!("{size:<15}{:>8}{:>10}", file.len(), network.len());
+        print!("{size:<22}{:>8}{:>10}", file.len(), network.len());
         let all = times(IMPLEMENTATIONS.len() + 1, |number| match IMPLEMENTATIONS.get(number) {
             Some(implementation) => {
                 let _ = (implementation.flatten)(black_box(&file), black_box(&mut buffer));
@@ -194,6 +199,16 @@ fn accepted(chart: &Chart) -> Option<Vec<Request>> {
             .iter()
             .find(|request| operation_name(request) == wanted && request.answer().is_ok())?;
         requests.push(found.clone());
+        // The longest wait in the configuration of the wait.
+        match found {
+            Request::ChartWait(file, given, _) => {
+                requests.push(Request::ChartLongest(file.clone(), *given));
+            }
+            Request::NetworkWait(file, given, _) => {
+                requests.push(Request::NetworkLongest(file.clone(), *given));
+            }
+            _ => {}
+        }
     }
     Some(requests)
 }

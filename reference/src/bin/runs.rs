@@ -1,16 +1,14 @@
-//! Runs charts with sensors and their networks side by side, every clause of the demand tested after
-//! every call, and prints how much was covered.
+//! Runs charts and their networks side by side, every clause of the demand tested after every call, and
+//! prints how much was covered.
 //!
 //! `runs [--runs N] [--seed S]`: at least N runs (50,000 if it is left out), two of each chart of the
-//! seeds from S (0) on that has a basic state in a parallel one. The first clause
-//! that fails stops it with status 1.
+//! seeds from S (0) on, of which half have sensors. The first clause that fails stops it with status 1.
 
 use std::env;
 use std::process::ExitCode;
 
 use reference::generate::chart_from_seed;
 use reference::random::Random;
-use reference::sensors::has_sensors;
 use reference::side_by_side::{run_both_lists, Machines, Tally};
 
 /// Calls of each run.
@@ -24,16 +22,13 @@ fn main() -> ExitCode {
     let mut tally = Tally::default();
     let mut seed = first_seed;
     while tally.runs < runs {
-        let chart = chart_from_seed(seed);
-        if has_sensors(&chart) {
-            // A chart whose network would have too many edges has no run.
-            if let Ok(machines) = Machines::of(chart) {
-                match run_both_lists(&machines, CALLS, &mut Random::new(seed)) {
-                    Ok(one) => tally.add(&one),
-                    Err(failure) => {
-                        eprintln!("seed {seed}: {failure}");
-                        return ExitCode::FAILURE;
-                    }
+        // A chart whose network would have too many edges has no run.
+        if let Ok(machines) = Machines::of(chart_from_seed(seed)) {
+            match run_both_lists(&machines, CALLS, &mut Random::new(seed)) {
+                Ok(one) => tally.add(&one),
+                Err(failure) => {
+                    eprintln!("seed {seed}: {failure}");
+                    return ExitCode::FAILURE;
                 }
             }
         }
@@ -43,6 +38,7 @@ fn main() -> ExitCode {
     println!("{network_calls} network calls, {chart_calls} chart calls");
     println!("{moves} moves with transitions, {urgent_moves} urgent moves, {waits} waits");
     println!("{:#?}", tally.sensors);
+    println!("{:#?}", tally.longest);
     println!(
         "every clause holds on {} runs, of the seeds {first_seed} to {}",
         tally.runs,
