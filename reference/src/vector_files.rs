@@ -1,7 +1,7 @@
 //! The vector file for programs: requests as bytes, and the lines that are the right output.
 
 use crate::binary_form::{answer_to_lines, any_request_to_bytes, AnyRequest};
-use crate::chart::Chart;
+use crate::chart::{Chart, ROOT};
 use crate::chart_machine::{self, ChartConfiguration};
 use crate::check::check;
 use crate::coverage::{features, run_features, Counts, Features};
@@ -13,7 +13,7 @@ use crate::generate::{chart_from_wish, Wish};
 use crate::generate_longest::{chart_longest_requests, network_longest_requests};
 use crate::guard::{Guard, Relation};
 use crate::layout::Layout;
-use crate::limits::{ADVANCE_BYTES, CLOCKS, LIST, STATES, VARIABLES};
+use crate::limits::{ADVANCE_BYTES, LIST};
 use crate::network_machine::{self, NetworkConfiguration};
 use crate::random::Random;
 use crate::request::Request;
@@ -45,12 +45,6 @@ const MOST_NETWORK_BYTES: usize = 4_000;
 
 /// How many charts the requests are chosen from.
 const CHARTS: u64 = 400;
-
-/// What a request on a chart that is refused is given: no active state, all values 0.
-const EMPTY: ChartConfiguration = ChartConfiguration {
-    active: [false; STATES],
-    values: Values { variables: [0; VARIABLES], clocks: [0; CLOCKS] },
-};
 
 /// The input of the program and the output that is right, part by part.
 pub struct VectorFile {
@@ -229,7 +223,10 @@ fn add_chart_candidates(
     let file = chart.write();
     list.push(Candidate::new(Request::Check(file.clone())));
     if check(&file).is_err() {
-        list.push(Candidate::new(Request::ChartLongest(file, EMPTY)));
+        // The root alone is active; the file is refused before that is looked at.
+        let active = std::array::from_fn(|state| state == ROOT);
+        let given = ChartConfiguration { active, values: Values::default() };
+        list.push(Candidate::new(Request::ChartLongest(file, given)));
         return;
     }
     let run = chart_requests(chart, 30, random);
