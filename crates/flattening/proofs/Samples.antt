@@ -27,7 +27,7 @@ use Rattle.flattening.specs.Samples.{answered, samples}
 pub samples-right : map (λ s. answered (s .request)) samples ≡ map (λ s. s .right) samples
 unfolding
     Bool.xor Answer._>>=_ Answer.unless Clocks.inLimit Clocks.isZero Clocks.join Clocks.keeps Clocks.later Clocks.reset Clocks.resetFrom Clocks.row
-    Clocks.zeroPast Clocks.zerosPast Expression.after Expression.by Expression.codes Expression.divisor Expression.expression Expression.two
+    Clocks.ticksLeft Clocks.zeroPast Clocks.zerosPast Expression.after Expression.by Expression.codes Expression.divisor Expression.expression Expression.two
     Expression.value Guard.clock Guard.clockGuard Guard.dataGuard Guard.differenceGuard Guard.guard Guard.holds Guard.relation
     Guard.ticks Update.assign Update.form Update.ofForm Update.opens Update.update Update.updated Relation.compareℕ Relation.compareℤ Relation.relations Integer.floorDiv Integer.floorMod Integer.residue Integer.signed
     Integer.wrap Label.assignsOnce Label.body Label.bodyOnce Label.channelFits Label.guardsHold Label.label Label.receives Label.sends Lists.all
