@@ -1,20 +1,28 @@
--- What it says that a network accepts a step or a wait.
-use mathlib.Core.Path.{_≡_, sym, ap, _∙_, subst}
+-- What it says that a network accepts a step or a wait, and that two answers are alike.
+use mathlib.Core.Path.{_≡_, refl, sym, ap, _∙_, subst}
 use mathlib.Core.Bool.{true, false}
 use mathlib.Core.List.{List, map, List·Memᴰ as Mem}
 use Prim.Native.Nat.{ℕ}
 use borrow.Author.Tests.{not-true}
 use lib.ListN.{length}
 use Rattle.lists.specs.Lists.{any}
-use Rattle.reading.specs.Answer.{done}
+use Rattle.reading.specs.Answer.{Answer, done, refused}
 use Rattle.lists.proofs.Bools.{implies-at, implies-by}
 use Rattle.lists.proofs.Lists.{all-at, all-by, any-at, any-by, map-at, map-by}
 use Rattle.steps.proofs.Moves.{Known, known-at, known-by}
-use Rattle.reading.proofs.Answer.{unless-at, unless-by, done-injective}
+use Rattle.reading.proofs.Answer.{unless-at, unless-by, refused-not, done-injective}
 use Rattle.network_records.specs.Network.{Edge, Network, urgentAt, edgeAt, ownerOf}
 use Rattle.network_moves.specs.Machine.{isConfiguration, boundsKept, activeEdge, urgent, after, tested, step, wait}
-use Rattle.agreement.specs.Agreement.{NetworkConfiguration, Accepts, isUrgent}
+use Rattle.agreement.specs.Agreement.{NetworkConfiguration, Accepts, Alike, isUrgent}
 use Rattle.steps.proofs.Sets.{AllowedSet, allowed-set-at, allowed-set-by}
+
+-- where two are alike and one is no refusal, nor is the other
+pub alike-accepts : {A B : Type 0} (a : Answer A) (b : Answer B) → Alike a b → Accepts a → Accepts b
+unfolding Alike Accepts
+alike-accepts (done a) (done b) h k = (b, refl)
+alike-accepts (done a) (refused j) h k = absurd h
+alike-accepts (refused i) (done b) h k = absurd h
+alike-accepts (refused i) (refused j) h k = refused-not (k .1)
 
 abbrev pub Move : Network → NetworkConfiguration → List ℕ → Type 0
 Move n ν ms = AllowedSet (λ m. edgeAt n m .label) (λ m. ownerOf n (edgeAt n m)) (λ m. activeEdge n ν (edgeAt n m)) (length (n .edges)) (n .rendezvous) ms

@@ -62,10 +62,19 @@ abbrev pub WaitIsPicture : Type 0
 WaitIsPicture = (c : Chart) → Passed c → Ranges c → (σ τ : ChartConfiguration) (d : ℕ) → chart.wait c σ d ≡ done τ
     → (network.wait (flatten c) (picture c σ) d ≡ done (picture c τ)) × (chart.isConfiguration c τ ≡ true)
 
--- something owed: no wait; every move is urgent, carries nothing and pays one; and there is one
+-- and the longest wait is the same
+abbrev pub LongestAlike : Type 0
+LongestAlike = (c : Chart) → Passed c → Ranges c → (σ : ChartConfiguration) → chart.isConfiguration c σ ≡ true
+    → network.longest (flatten c) (picture c σ) ≡ chart.longest c σ
+
+-- something owed: no wait, and so 0 is the longest; every move is urgent, carries nothing and pays one; and there is one
 abbrev pub NoWaitOwed : Type 0
 NoWaitOwed = (c : Chart) → Passed c → Ranges c → (σ : ChartConfiguration) (ν : NetworkConfiguration) (k : ℕ) → Related c σ ν k → 0 < k
     → (d : ℕ) → Accepts (network.wait (flatten c) ν d) → ⊥
+
+abbrev pub LongestOwed : Type 0
+LongestOwed = (c : Chart) → Passed c → Ranges c → (σ : ChartConfiguration) (ν : NetworkConfiguration) (k : ℕ) → Related c σ ν k → 0 < k
+    → network.longest (flatten c) ν ≡ done 0
 
 abbrev pub MovePays : Type 0
 MovePays = (c : Chart) → Passed c → Ranges c → (σ : ChartConfiguration) (ν : NetworkConfiguration) (k : ℕ) → Related c σ ν (k + 1)
@@ -89,6 +98,8 @@ pub record AllClaims : Type 0 where
   pub one-move : OneMove
   pub waits-alike : WaitsAlike
   pub wait-is-picture : WaitIsPicture
+  pub longest-alike : LongestAlike
   pub no-wait-owed : NoWaitOwed
+  pub longest-owed : LongestOwed
   pub move-pays : MovePays
   pub some-move : SomeMove

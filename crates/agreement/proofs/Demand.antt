@@ -1,10 +1,10 @@
 -- Demand 3, proved.
 use Rattle.agreement.specs.Agreement.{Demand3}
 use Rattle.agreement.proofs.Claims.{AllClaims}
-use Rattle.agreement.proofs.Picture.{settled-is-picture, picture-is-settled, start-is-picture, start-is-configuration, waits-alike, wait-is-picture}
+use Rattle.agreement.proofs.Picture.{settled-is-picture, picture-is-settled, start-is-picture, start-is-configuration, waits-alike, wait-is-picture, longest-alike}
 use Rattle.agreement.proofs.Borne.{bears-once, no-urgent-move}
 use Rattle.agreement.proofs.Settled.{move-is-step, step-is-move, one-move}
-use Rattle.agreement.proofs.Owed.{no-wait-owed, move-pays, some-move}
+use Rattle.agreement.proofs.Owed.{no-wait-owed, longest-owed, move-pays, some-move}
 use Rattle.agreement.proofs.Runs.{demand3-by}
 
 all-claims : AllClaims
@@ -20,7 +20,9 @@ all-claims = record {
   one-move = one-move;
   waits-alike = waits-alike;
   wait-is-picture = wait-is-picture;
+  longest-alike = longest-alike;
   no-wait-owed = no-wait-owed;
+  longest-owed = longest-owed;
   move-pays = move-pays;
   some-move = some-move;
 }

@@ -1,4 +1,5 @@
--- While moves are owed: no wait (`no-wait-owed`), every move pays one (`move-pays`), and there is one (`some-move`).
+-- While moves are owed: no wait (`no-wait-owed`), so that 0 is the longest (`longest-owed`); every move pays one (`move-pays`),
+-- and there is one (`some-move`).
 use mathlib.Core.Path.{_≡_, refl, sym, ap, _∙_, subst}
 use mathlib.Core.Bool.{true}
 use mathlib.Core.Logic.{⊎-elim}
@@ -9,8 +10,9 @@ use borrow.Author.Tests.{eqb-true, eq-eqb}
 use lib.Dec.{eqb}
 use Rattle.reading.specs.Answer.{done}
 use Rattle.clocks.specs.Clocks.{keeps}
-use Rattle.lists.proofs.Bools.{clash, decided}
+use Rattle.lists.proofs.Bools.{clash, decided, cond-yes}
 use Rattle.lists.proofs.Lists.{all-at, all-by, any-by}
+use Rattle.reading.proofs.Answer.{unless-by}
 use Rattle.clocks.proofs.Rows.{ClockValues}
 use Rattle.chart_records.specs.Chart.{Chart, home}
 use Rattle.chart_records.specs.Tree.{sequentials}
@@ -19,7 +21,7 @@ use Rattle.chart_records.proofs.Rules.{Passed}
 use Rattle.chart_records.proofs.Ranges.{Ranges}
 use Rattle.chart_moves.proofs.Step.{configuration-tree, configuration-clocks}
 use Rattle.network_records.specs.Network.{urgentAt, edgeAt}
-use Rattle.network_moves.specs.Machine.{boundsKept, urgent, step, wait}
+use Rattle.network_moves.specs.Machine.{boundsKept, isConfiguration, urgent, step, wait, longest}
 use Rattle.flattening.specs.Flatten.{Place, urgentPlace, boundsOf, flatten}
 use Rattle.flattening.proofs.Automata.{Region, sequentials-at, sequentials-by}
 use Rattle.flattening.proofs.Numbers.{urgent-of-place}
@@ -27,7 +29,7 @@ use Rattle.flattening.proofs.Arrivals.{ends}
 use Rattle.flattening.proofs.Edges.{Leaves, edge-at-mem, source-of}
 use Rattle.agreement.specs.Agreement.{ChartConfiguration, NetworkConfiguration, Accepts, isUrgent, carried}
 use Rattle.agreement.proofs.Relation.{standing, Pending, owesAll, Related}
-use Rattle.agreement.proofs.Claims.{NoWaitOwed, MovePays, SomeMove}
+use Rattle.agreement.proofs.Claims.{NoWaitOwed, LongestOwed, MovePays, SomeMove}
 use Rattle.agreement.proofs.Standing.{Fits, urgent-standing, bounds-standing, configuration-standing, active-leaves}
 use Rattle.agreement.proofs.Accepted.{Accepted, accepted-at, urgent-at, wait-not-urgent}
 use Rattle.agreement.proofs.Broadcast.{broadcast-leads, broadcast-accepted}
@@ -51,6 +53,13 @@ module _ (c : Chart) (passed : Passed c) (ranges : Ranges c) (σ : ChartConfigur
 
   fits : Fits c f
   fits = placed-fits c passed ranges σ tree f (r .pending) (r .placed)
+
+  -- it is a configuration
+  now-bounds : boundsKept (flatten c) now ≡ true
+  now-bounds = ap (boundsKept (flatten c)) (sym (r .network-is)) ∙ r .bounds-kept
+
+  now-configured : isConfiguration (flatten c) now ≡ true
+  now-configured = configuration-standing c passed f fits σ (r .configured) ∙ now-bounds
 
   -- some transition is pending
   some-pending : 0 < owed → (p : Pending) × Mem p (r .pending)
@@ -107,8 +116,8 @@ module _ (c : Chart) (passed : Passed c) (ranges : Ranges c) (σ : ChartConfigur
     -- and there is one
     payable : (ms : List ℕ) × (step (flatten c) now ms ≡ done then)
     payable =
-        let k : boundsKept (flatten c) now ≡ true = ap (boundsKept (flatten c)) (sym (r .network-is)) ∙ r .bounds-kept in
-        broadcast-accepted c passed ranges f (y .places) fits then-fits (σ .variables) (σ .clocks) h (y .channel) (y .broadcast) (configuration-standing c passed f fits σ (r .configured) ∙ k) (then-bounds k)
+        broadcast-accepted c passed ranges f (y .places) fits then-fits (σ .variables) (σ .clocks) h (y .channel) (y .broadcast) now-configured
+        (then-bounds now-bounds)
 
   -- a move has the sender of a pending transition
   module _ (ms : List ℕ) {μ : NetworkConfiguration} (some : 0 < owed) (a : Accepted (flatten c) now ms μ) where
@@ -130,6 +139,10 @@ module _ (c : Chart) (passed : Passed c) (ranges : Ranges c) (σ : ChartConfigur
   waits-not : 0 < owed → (d : ℕ) → Accepts (wait (flatten c) ν d) → ⊥
   waits-not h d a = clash (ap (urgent (flatten c)) (r .network-is) ∙ urgent-now h) (wait-not-urgent (flatten c) ν d a)
 
+  none-left : 0 < owed → longest (flatten c) ν ≡ done 0
+  unfolding longest
+  none-left h = ap (longest (flatten c)) (r .network-is) ∙ unless-by 26 _ now-configured ∙ ap done (cond-yes 0 _ (urgent-now h))
+
   pays : (rest : ℕ) → owed ≡ rest + 1 → (ms : List ℕ) (μ : NetworkConfiguration) → step (flatten c) ν ms ≡ done μ
       → (isUrgent (flatten c) ms ≡ true) × (carried (flatten c) ms ≡ []) × Related c σ μ rest
   pays rest less ms μ h =
@@ -147,6 +160,9 @@ module _ (c : Chart) (passed : Passed c) (ranges : Ranges c) (σ : ChartConfigur
 
 pub no-wait-owed : NoWaitOwed
 no-wait-owed c passed ranges σ ν k r h d a = waits-not c passed ranges σ ν k r h d a
+
+pub longest-owed : LongestOwed
+longest-owed c passed ranges σ ν k r h = none-left c passed ranges σ ν k r h
 
 pub move-pays : MovePays
 move-pays c passed ranges σ ν k r ms μ h = pays c passed ranges σ ν (k + 1) r k refl ms μ h

@@ -1,6 +1,6 @@
 -- The picture of a configuration: it is what is related with nothing owed (`settled-is-picture`, `picture-is-settled`); the
 -- network starts in the picture of the chart's start (`start-is-picture`); waits get the same answer (`waits-alike`) and lead
--- to a picture (`wait-is-picture`).
+-- to a picture (`wait-is-picture`), so the longest is the same (`longest-alike`).
 use mathlib.Core.Path.{_≡_, refl, sym, ap, _∙_, subst, subst₂}
 use mathlib.Core.Bool.{Bool, true, false, cond, not, _&&_, xor}
 use mathlib.Core.List.{List, [], _∷_, map, List·Memᴰ as Mem, List·Memᴰ·not-nil as not-nil}
@@ -18,6 +18,7 @@ use Rattle.lists.proofs.Lists.{getD-mem, mem-some, none-any, map-same}
 use Rattle.lists.proofs.Bits.{bits-same}
 use Rattle.reading.proofs.Answer.{unless-at, unless-by, done-injective}
 use Rattle.clocks.proofs.Rows.{ClockValues, values-in-limit, zero-past-later}
+use Rattle.clocks.proofs.Longest.{tells-same}
 use Rattle.chart_records.specs.Chart.{Chart}
 use Rattle.chart_records.specs.Tree.{sequentials, entered}
 use Rattle.chart_moves.specs.Machine as chart
@@ -26,17 +27,20 @@ use Rattle.chart_records.proofs.Rules.{Passed}
 use Rattle.chart_records.proofs.Ranges.{Ranges}
 use Rattle.chart_moves.proofs.After.{start-active}
 use Rattle.chart_moves.proofs.Step.{configuration-tree, configuration-clocks, configuration-bounds, root-entry, start-tree, start-configuration}
+use Rattle.chart_moves.proofs.Longest.{longest-tells as chart-longest}
 use Rattle.network_records.specs.Network.{initials}
 use Rattle.network_moves.specs.Machine as network
+use Rattle.network_moves.proofs.Longest.{longest-tells as network-longest}
 use Rattle.flattening.specs.Flatten.{Place, idle, child, number, flagAt, atExit, initialPlace, markedChild, flatten}
 use Rattle.flattening.specs.Picture.{pictured, picture}
 use Rattle.flattening.proofs.Automata.{Region, regionAt, region-at, marked-child}
 use Rattle.flattening.proofs.Sound.{initials-at, initials-by}
 use Rattle.flattening.proofs.Bounds.{bounds-pictured}
 use Rattle.flattening.proofs.Pictured.{pictured-idle, pictured-child, pictured-fits, pictured-not-urgent}
-use Rattle.agreement.specs.Agreement.{ChartConfiguration, Alike}
+use Rattle.agreement.specs.Agreement.{ChartConfiguration, Accepts, Alike}
 use Rattle.agreement.proofs.Relation.{standing, Pending, owes, owesAll}
-use Rattle.agreement.proofs.Claims.{SettledIsPicture, PictureIsSettled, StartIsPicture, StartIsConfiguration, WaitsAlike, WaitIsPicture}
+use Rattle.agreement.proofs.Claims.{SettledIsPicture, PictureIsSettled, StartIsPicture, StartIsConfiguration, WaitsAlike, WaitIsPicture, LongestAlike}
+use Rattle.agreement.proofs.Accepted.{alike-accepts}
 use Rattle.agreement.proofs.Standing.{picture-stands, bounds-standing, urgent-standing, configuration-standing}
 
 -- what stands for each automaton, and nothing past them
@@ -218,3 +222,14 @@ wait-is-picture c passed ranges σ τ d e =
       network-waits c passed ranges σ h d ∙ unless-by 22 _ (t .0) ∙ unless-by 21 _ (k .0) ∙ ap (λ (x : ChartConfiguration). done (picture c x)) s,
       subst (λ (x : ChartConfiguration). chart.isConfiguration c x ≡ true) s (waited-configuration c passed ranges σ h d (t .0) (k .0)),
     )
+
+-- each tells the longest wait, and they accept the same
+pub longest-alike : LongestAlike
+unfolding network.longest chart.longest flatten Accepts
+longest-alike c passed ranges σ h =
+    let e = unless-by 26 _ (picture-configuration c passed ranges σ h) in
+    let f = unless-by 17 _ h in
+    let same = tells-same (network-longest (flatten c) (picture c σ) (ranges .clocks-few)) (chart-longest c σ (ranges .clocks-few)) e f
+    (λ d a. alike-accepts _ _ (waits-alike c passed ranges σ h d) a)
+    (λ d a. (picture c (a .0), wait-is-picture c passed ranges σ (a .0) d (a .1) .0)) in
+    e ∙ ap done same ∙ sym f

@@ -8,7 +8,7 @@ use native.Mathlib.Omega.{arith}
 use native.Mathlib.Decide.{ℕ-discrete}
 use Rattle.reading.specs.Answer.{Answer, done, refused, _>>=_}
 use Rattle.lists.proofs.Bools.{clash}
-use Rattle.reading.proofs.Answer.{refused-not, done-injective}
+use Rattle.reading.proofs.Answer.{done-injective}
 use Rattle.chart_records.specs.Chart.{Chart}
 use Rattle.chart_records.specs.Rules.{chartOf}
 use Rattle.chart_moves.specs.Machine as chart
@@ -22,14 +22,7 @@ use Rattle.flattening.proofs.Printable.{flattened-at}
 use Rattle.agreement.specs.Agreement.{ChartConfiguration, NetworkConfiguration, Call, step, wait, onChart, left, carried, isUrgent, named, Run, moved, extended, runFrom, run, acceptsAll, chartAfter, accepted, Accepts, Alike, Owing, Settled, Agrees, Holds, IsRead, Demand3}
 use Rattle.agreement.proofs.Relation.{Related, standing}
 use Rattle.agreement.proofs.Claims.{AllClaims}
-
--- where two are alike and one is no refusal, nor is the other
-pub alike-accepts : {A B : Type 0} (a : Answer A) (b : Answer B) → Alike a b → Accepts a → Accepts b
-unfolding Alike Accepts
-alike-accepts (done a) (done b) h k = (b, refl)
-alike-accepts (done a) (refused j) h k = absurd h
-alike-accepts (refused i) (done b) h k = absurd h
-alike-accepts (refused i) (refused j) h k = refused-not (k .1)
+use Rattle.agreement.proofs.Accepted.{alike-accepts}
 
 -- a list that is accepted: its first call, and the rest
 accepts-first : (c : Chart) (σ : ChartConfiguration) (x : Call) (xs : List Call) → acceptsAll c σ (x ∷ xs) ≡ true → (τ : ChartConfiguration) × (onChart c σ x ≡ done τ) × (acceptsAll c τ xs ≡ true)
@@ -216,6 +209,7 @@ module _ (claims : AllClaims) (c : Chart) (passed : Passed c) (ranges : Ranges c
     unfolding Accepts
     owing some = record {
       no-wait = λ d a. claims .no-wait-owed c passed ranges (r .chart) (r .network) (r .owed) (holds .related) some d a;
+      longest = claims .longest-owed c passed ranges (r .chart) (r .network) (r .owed) (holds .related) some;
       only-urgent = λ ms a. let k = owed-move holds some ms (a .1) in (k .0, k .1);
       some-urgent = claims .some-move c passed ranges (r .chart) (r .network) (r .owed - 1) (owes-more holds some);
     }
@@ -226,6 +220,7 @@ module _ (claims : AllClaims) (c : Chart) (passed : Passed c) (ranges : Ranges c
       pictures = is-picture holds none;
       carries = λ ms a. carried-step holds none ms (a .1) .2;
       waits = waits holds none;
+      longest = ap (network.longest n) (is-picture holds none) ∙ claims .longest-alike c passed ranges (r .chart) (holds .related .configured);
       step-moves = λ ts a. let k = claims .step-is-move c passed ranges (r .chart) (holds .related .configured) ts a in (k .0, here holds none (λ ν. network.step n ν (k .0)) (k .1), k .2);
       move-steps = λ ms a. let k = carried-step holds none ms (a .1) in (k .0, k .1);
       only-one = λ ms ns a b. claims .one-move c passed ranges (r .chart) (holds .related .configured) ms ns (there holds none (λ ν. network.step n ν ms) a) (there holds none (λ ν. network.step n ν ns) b);
@@ -329,15 +324,17 @@ module _ (claims : AllClaims) (c : Chart) (passed : Passed c) (ranges : Ranges c
 
 -- a file and what it holds
 holds-by : {file bytes : List ℕ} {c : Chart} {n : Network} → chartOf file ≡ done c → networkOf bytes ≡ done n → Holds file bytes c n
-unfolding chart.startOf chart.stepOf chart.waitOf network.startOf network.stepOf network.waitOf _>>=_
+unfolding chart.startOf chart.stepOf chart.waitOf chart.longestOf network.startOf network.stepOf network.waitOf network.longestOf _>>=_
 holds-by h k = record {
   network-is = k;
   chart-starts = rw h;
   chart-steps = λ σ ms. rw h;
   chart-waits = λ σ d. rw h;
+  chart-longest = λ σ. rw h;
   network-starts = rw k;
   network-steps = λ σ ms. rw k;
   network-waits = λ σ d. rw k;
+  network-longest = λ σ. rw k;
 }
 
 pub demand3-by : AllClaims → Demand3

@@ -119,6 +119,7 @@ Alike (refused j) (refused k) = j ≡ k
 -- while urgent moves are owed
 pub record Owing (n : Network) (r : Run) : Type 0 where
   pub no-wait : (d : ℕ) → Accepts (network.wait n (r .network) d) → ⊥
+  pub longest : network.longest n (r .network) ≡ done 0
   pub only-urgent : (ms : List ℕ) → Accepts (network.step n (r .network) ms) → (isUrgent n ms ≡ true) × (carried n ms ≡ [])
   pub some-urgent : (ms : List ℕ) × Accepts (network.step n (r .network) ms)
 
@@ -127,6 +128,7 @@ pub record Settled (c : Chart) (n : Network) (r : Run) : Type 0 where
   pub pictures : r .network ≡ picture c (r .chart)
   pub carries : (ms : List ℕ) → Accepts (network.step n (r .network) ms) → carried n ms ≡ [] → ⊥
   pub waits : (d : ℕ) → Alike (network.wait n (r .network) d) (chart.wait c (r .chart) d)
+  pub longest : network.longest n (r .network) ≡ chart.longest c (r .chart)
   pub step-moves : (ts : List ℕ) → Accepts (chart.step c (r .chart) ts) → (ms : List ℕ) × Accepts (network.step n (r .network) ms) × (carried n ms ≡ ts)
   pub move-steps : (ms : List ℕ) → Accepts (network.step n (r .network) ms) → Accepts (chart.step c (r .chart) (carried n ms))
   pub only-one : (ms ns : List ℕ) → Accepts (network.step n (r .network) ms) → Accepts (network.step n (r .network) ns) → carried n ms ≡ carried n ns → ms ≡ ns
@@ -149,9 +151,11 @@ pub record Holds (file bytes : List ℕ) (c : Chart) (n : Network) : Type 0 wher
   pub chart-starts : chart.startOf file ≡ done (chart.start c)
   pub chart-steps : (σ : ChartConfiguration) (ms : List ℕ) → chart.stepOf file σ ms ≡ chart.step c σ ms
   pub chart-waits : (σ : ChartConfiguration) (d : ℕ) → chart.waitOf file σ d ≡ chart.wait c σ d
+  pub chart-longest : (σ : ChartConfiguration) → chart.longestOf file σ ≡ chart.longest c σ
   pub network-starts : network.startOf bytes ≡ done (network.start n)
   pub network-steps : (σ : NetworkConfiguration) (ms : List ℕ) → network.stepOf bytes σ ms ≡ network.step n σ ms
   pub network-waits : (σ : NetworkConfiguration) (d : ℕ) → network.waitOf bytes σ d ≡ network.wait n σ d
+  pub network-longest : (σ : NetworkConfiguration) → network.longestOf bytes σ ≡ network.longest n σ
 
 -- a chart list, but for what is refused, is read from some network list, which leads to where the chart list does
 pub record IsRead (c : Chart) (n : Network) (calls : List Call) : Type 0 where

@@ -26,8 +26,8 @@ use Rattle.reading.specs.Verdict.{verdictOf}
 use Rattle.reading.specs.declared.verdict.Verdict.{Verdict}
 use Rattle.reading.specs.declared.verdict.Verdict.the-variants as Vd
 use Rattle.agreement.specs.Agreement.{ChartConfiguration, NetworkConfiguration, Call, step, wait, onNetwork, left, carried, named, Run, moved, runFrom, run, Accepts, Agrees, Holds}
-use Rattle.agreement.proofs.Runs.{alike-accepts, extended-moving, extended-waiting, extended-step-refused, extended-wait-refused, run-more}
-use Rattle.agreement.proofs.Accepted.{accepted-at}
+use Rattle.agreement.proofs.Runs.{extended-moving, extended-waiting, extended-step-refused, extended-wait-refused, run-more}
+use Rattle.agreement.proofs.Accepted.{alike-accepts, accepted-at}
 use Rattle.agreement.proofs.Demand.{demand3}
 use Rattle.paired_run.specs.Paired.{listOf, Flattening, Stands, Follows, FollowsCall, Safe}
 use Rattle.paired_run.specs.declared.carry.Transitions.{Transitions}
