@@ -43,6 +43,7 @@ module _ (c : Chart) (σ : Configuration) where
       sym (all-map (λ r. keeps r cs) (λ s. stateAt c s .bounds) (keep (isActive σ) (states c))
       ∙ all-keep (λ s. keeps (stateAt c s .bounds) cs) (isActive σ) (states c))
 
+  -- so what is left under all of them, and to the limit, is the longest wait
   pub longest-tells : c .clocks ≤ 8 → TellsLongest (longest c σ) (wait c σ)
   unfolding longest wait tested
   longest-tells few = tells-unless 17 (isConfiguration c σ) _ _ (λ h.

@@ -43,6 +43,7 @@ module _ (n : Network) (σ : Configuration) where
   unfolding boundsKept place
   kept-rows cs = sym (all-map (λ r. keeps r cs) (λ a. locationAt n (place σ a) .bounds) (below (n .automata)))
 
+  -- what is left under all rows, and to the limit; and a configuration so much later
   abbrev left : ℕ
   left = ticksUnder n σ (below (n .automata)) (limitLeft (n .clocks) (σ .clocks))
 
@@ -58,6 +59,7 @@ module _ (n : Network) (σ : Configuration) where
       tells-rows (n .clocks) (rowsOf (below (n .automata))) (σ .clocks) (λ cs. boundsKept n (withClocks cs)) waited left few kept-rows k
       (under-rows (below (n .automata)) (limitLeft (n .clocks) (σ .clocks)))
 
+  -- so the answer is the longest wait
   pub longest-tells : n .clocks ≤ 8 → TellsLongest (longest n σ) (wait n σ)
   unfolding longest wait
   longest-tells few = tells-unless 26 (isConfiguration n σ) _ _ (λ h. tells-urgent few (configuration-bounds n σ h) (urgent n σ))
