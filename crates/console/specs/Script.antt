@@ -125,6 +125,16 @@ isCall Ca.Longest = true
 isCall Ca.Unknown = false
 isCall Ca.Number = false
 
+-- the call moves a machine: the longest wait is asked for, and leaves it as it is
+abbrev pub moves : Call → Bool
+moves Ca.Nothing = false
+moves Ca.Start = true
+moves Ca.Step = true
+moves (Ca.Wait ticks) = true
+moves Ca.Longest = false
+moves Ca.Unknown = false
+moves Ca.Number = false
+
 -- the number of the next line; the count stops at a million
 abbrev pub nextNumber : ℕ → ℕ
 nextNumber n = cond (ltb n 1000000) (n + 1) n
