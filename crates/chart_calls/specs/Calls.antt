@@ -6,17 +6,19 @@ use Rattle.chart_moves.specs.Machine.{startOf, stepOf, waitOf}
 use Rattle.chart_machine.specs.Outcomes.{outcomeOf, zeroConfiguration}
 use Rattle.chart_machine.specs.declared.operation.Outcome.{Outcome}
 use Rattle.chart_moves.specs.declared.configuration.Configuration.{Configuration}
-use Rattle.console.specs.Script.{isCall, numbersOf}
+use Rattle.console.specs.Script.{moves, numbersOf}
 use Rattle.console.specs.declared.script.Call.{Call}
 use Rattle.console.specs.declared.script.Call.the-variants as Cl
 use Rattle.console.specs.declared.script.Line.{Line}
 
--- by the call, with the numbers of a step; where there is no call a wait of no ticks, which is refused
+-- by the call, with the numbers of a step; where no call moves the machine a wait of no ticks, which is
+-- refused
 abbrev pub answerBy : List ℕ → Configuration → Call → List ℕ → Outcome
 answerBy file c Cl.Nothing ms = outcomeOf c (waitOf file c 0)
 answerBy file c Cl.Start ms = outcomeOf zeroConfiguration (startOf file)
 answerBy file c Cl.Step ms = outcomeOf c (stepOf file c ms)
 answerBy file c (Cl.Wait d) ms = outcomeOf c (waitOf file c d)
+answerBy file c Cl.Longest ms = outcomeOf c (waitOf file c 0)
 answerBy file c Cl.Unknown ms = outcomeOf c (waitOf file c 0)
 answerBy file c Cl.Number ms = outcomeOf c (waitOf file c 0)
 
@@ -24,6 +26,6 @@ answerBy file c Cl.Number ms = outcomeOf c (waitOf file c 0)
 abbrev pub answerTo : List ℕ → Configuration → Line → Outcome
 answerTo file c l = answerBy file c (l .call) (numbersOf l)
 
--- the configuration after a line: what its call leaves, and the same where it has none
+-- the configuration after a line: what its call leaves, and the same where it has none that moves the machine
 abbrev pub afterLine : List ℕ → Configuration → Line → Configuration
-afterLine file c l = cond (isCall (l .call)) (answerTo file c l .configuration) c
+afterLine file c l = cond (moves (l .call)) (answerTo file c l .configuration) c

@@ -2,7 +2,7 @@
 use mathlib.Core.Path.{_≡_, refl}
 use mathlib.Core.List.{[], _∷_}
 use Rattle.lists.specs.Lists.{all, position}
-use Rattle.console.specs.Script.{beforeComment, isSpace, ended, wordsAfter, words, sameWord, decimalAfter, decimal, isNumber, plainLine, listed, stepLine, waitLine, startLine, callLine, lineOf}
+use Rattle.console.specs.Script.{beforeComment, isSpace, ended, wordsAfter, words, sameWord, decimalAfter, decimal, isNumber, plainLine, listed, stepLine, waitLine, aloneLine, callLine, lineOf}
 use Rattle.console.specs.declared.script.Call.the-variants as Ca
 
 -- `step 3  70 # 5`
@@ -27,5 +27,15 @@ too-large = refl
 
 -- `start 1`
 start-more : lineOf (115 ∷ 116 ∷ 97 ∷ 114 ∷ 116 ∷ 32 ∷ 49 ∷ []) ≡ plainLine Ca.Unknown
-unfolding beforeComment position isSpace ended wordsAfter words sameWord startLine callLine lineOf
+unfolding beforeComment position isSpace ended wordsAfter words sameWord aloneLine callLine lineOf
 start-more = refl
+
+-- `longest # 5`
+longest-alone : lineOf (108 ∷ 111 ∷ 110 ∷ 103 ∷ 101 ∷ 115 ∷ 116 ∷ 32 ∷ 35 ∷ 32 ∷ 53 ∷ []) ≡ plainLine Ca.Longest
+unfolding beforeComment position isSpace ended wordsAfter words sameWord aloneLine callLine lineOf
+longest-alone = refl
+
+-- `longest 5`
+longest-more : lineOf (108 ∷ 111 ∷ 110 ∷ 103 ∷ 101 ∷ 115 ∷ 116 ∷ 32 ∷ 53 ∷ []) ≡ plainLine Ca.Unknown
+unfolding beforeComment position isSpace ended wordsAfter words sameWord aloneLine callLine lineOf
+longest-more = refl

@@ -1,4 +1,4 @@
--- The lines that the words after `step`, `wait` and `start` make.
+-- The lines that the words after `step`, `wait`, `start` and `longest` make.
 use mathlib.Core.Path.{_≡_, refl, sym, ap, _∙_}
 use mathlib.Core.Bool.{true, false, cond}
 use mathlib.Core.Logic.{⊎-elim}
@@ -12,7 +12,7 @@ use borrow.Author.Tests.{ltb-true, ltb-false, lt-ltb, le-ltb}
 use Rattle.lists.specs.Lists.{all, padded}
 use Rattle.lists.proofs.Bools.{decided}
 use Rattle.lists.proofs.Loops.{padded-more}
-use Rattle.console.specs.Script.{decimal, isNumber, plainLine, shortened, listed, stepLine, waitLine, startLine, stepWord, waitWord, startWord, callLine, sameWord}
+use Rattle.console.specs.Script.{decimal, isNumber, plainLine, shortened, listed, stepLine, waitLine, aloneLine, stepWord, waitWord, startWord, longestWord, callLine, sameWord}
 use Rattle.console.specs.Places.{withNumber}
 use Rattle.console.specs.declared.script.Line.{Line}
 use Rattle.console.specs.declared.script.Call.the-variants as Ca
@@ -100,10 +100,15 @@ module _ (w : List ℕ) (rest : List (List ℕ)) {ws : List (List ℕ)} (f : ws 
     call-wait b = rw (f, a, b)
 
     module _ (b : sameWord w waitWord ≡ false) where
-      pub call-start : sameWord w startWord ≡ true → callLine ws ≡ startLine rest
+      pub call-start : sameWord w startWord ≡ true → callLine ws ≡ aloneLine Ca.Start rest
       unfolding callLine
       call-start d = rw (f, a, b, d)
 
-      pub call-unknown : sameWord w startWord ≡ false → callLine ws ≡ plainLine Ca.Unknown
-      unfolding callLine
-      call-unknown d = rw (f, a, b, d)
+      module _ (d : sameWord w startWord ≡ false) where
+        pub call-longest : sameWord w longestWord ≡ true → callLine ws ≡ aloneLine Ca.Longest rest
+        unfolding callLine
+        call-longest e = rw (f, a, b, d, e)
+
+        pub call-unknown : sameWord w longestWord ≡ false → callLine ws ≡ plainLine Ca.Unknown
+        unfolding callLine
+        call-unknown e = rw (f, a, b, d, e)

@@ -1,4 +1,5 @@
--- Scripts of calls: what a line means. A line is words, and the first word names the call: start, step 3 7, wait 5.
+-- Scripts of calls: what a line means. A line is words, and the first word names the call: start, step 3 7, wait 5,
+-- longest.
 use mathlib.Core.Bool.{Bool, true, false, cond, _&&_, _||_}
 use mathlib.Core.List.{List, [], _∷_, _++_, map}
 use Prim.Native.Nat.{ℕ, _+_, _*_, _-_, min}
@@ -82,12 +83,12 @@ waitLine [] = plainLine Ca.Number
 waitLine (w ∷ []) = plainLine (cond (isNumber w) (Ca.Wait (decimal w)) Ca.Number)
 waitLine (w ∷ v ∷ ws) = plainLine Ca.Number
 
--- the words after `start`: none
-unfoldable pub startLine : List (List ℕ) → Line
-startLine [] = plainLine Ca.Start
-startLine (w ∷ ws) = plainLine Ca.Unknown
+-- the words after `start` and `longest`: none
+unfoldable pub aloneLine : Call → List (List ℕ) → Line
+aloneLine c [] = plainLine c
+aloneLine c (w ∷ ws) = plainLine Ca.Unknown
 
--- the bytes of step, wait and start
+-- the bytes of step, wait, start and longest
 abbrev pub stepWord : List ℕ
 stepWord = 115 ∷ 116 ∷ 101 ∷ 112 ∷ []
 
@@ -97,14 +98,18 @@ waitWord = 119 ∷ 97 ∷ 105 ∷ 116 ∷ []
 abbrev pub startWord : List ℕ
 startWord = 115 ∷ 116 ∷ 97 ∷ 114 ∷ 116 ∷ []
 
+abbrev pub longestWord : List ℕ
+longestWord = 108 ∷ 111 ∷ 110 ∷ 103 ∷ 101 ∷ 115 ∷ 116 ∷ []
+
 -- the call of a line's words
 unfoldable pub callLine : List (List ℕ) → Line
 callLine [] = plainLine Ca.Nothing
 callLine (w ∷ ws) =
     cond (sameWord w stepWord) (stepLine ws)
     (cond (sameWord w waitWord) (waitLine ws)
-    (cond (sameWord w startWord) (startLine ws)
-    (plainLine Ca.Unknown)))
+    (cond (sameWord w startWord) (aloneLine Ca.Start ws)
+    (cond (sameWord w longestWord) (aloneLine Ca.Longest ws)
+    (plainLine Ca.Unknown))))
 
 -- what a line says, or that it says nothing, or what is wrong with it
 unfoldable pub lineOf : List ℕ → Line
@@ -116,8 +121,19 @@ isCall Ca.Nothing = false
 isCall Ca.Start = true
 isCall Ca.Step = true
 isCall (Ca.Wait ticks) = true
+isCall Ca.Longest = true
 isCall Ca.Unknown = false
 isCall Ca.Number = false
+
+-- the call moves a machine: the longest wait is asked for, and leaves it as it is
+abbrev pub moves : Call → Bool
+moves Ca.Nothing = false
+moves Ca.Start = true
+moves Ca.Step = true
+moves (Ca.Wait ticks) = true
+moves Ca.Longest = false
+moves Ca.Unknown = false
+moves Ca.Number = false
 
 -- the number of the next line; the count stops at a million
 abbrev pub nextNumber : ℕ → ℕ

@@ -22,6 +22,13 @@ fn word(n: u32) {
     number(n as u64);
 }
 
+// The line of the longest wait.
+pub fn longest(ticks: u32) {
+    text(b"  longest wait");
+    word(ticks);
+    line_end();
+}
+
 pub fn signed_number(z: i32) {
     if expr::signed::is_negative(z) {
         text(b" -");

@@ -1,9 +1,9 @@
-// Scripts of calls, a line each: start, step 3 7, wait 5. What follows # is a comment.
+// Scripts of calls, a line each: start, step 3 7, wait 5, longest. What follows # is a comment.
 ghost use mathlib.Core.Path.{_≡_};
 ghost use Prim.Native.Nat.{_-_};
 ghost use lib.Dec.{eqb};
 ghost use Rattle.reading.specs.Places.{onward};
-ghost use Rattle.console.specs.Script.{isSpace, words, sameWord, isDigit, numberOf, plainLine, shortened, stepLine, waitLine, startLine, callLine, lineOf, isCall, nextNumber};
+ghost use Rattle.console.specs.Script.{isSpace, words, sameWord, isDigit, numberOf, plainLine, shortened, stepLine, waitLine, aloneLine, callLine, lineOf, isCall, nextNumber};
 ghost use Rattle.console.specs.Places.{placeOf, endsRun, withDigit, withNumber, wordsFound, WordFits};
 use crate::print;
 use reading::field::byte_at;
@@ -13,6 +13,7 @@ pub enum Call {
     Start,
     Step,
     Wait(u32),
+    Longest,
     Unknown,
     Number,
 }
@@ -228,15 +229,15 @@ fn wait_of(s: &[u8], at: usize) -> Line
     plain(Call::Wait(ticks))
 }
 
-// A start: nothing stands after it.
-fn start_of(s: &[u8], at: usize) -> Line
-    ensures { λ r. ⌜ r ≡ startLine (words (onward (now (s .entry)) at)) ⌝ }
+// A start or the longest wait: nothing stands after it.
+fn alone(s: &[u8], at: usize, call: Call) -> Line
+    ensures { λ r. ⌜ r ≡ aloneLine call (words (onward (now (s .entry)) at)) ⌝ }
 {
     let more = next_word(s, at);
     let Word::None = more else {
         return plain(Call::Unknown);
     };
-    plain(Call::Start)
+    plain(call)
 }
 
 // The call of a line without its comment.
@@ -255,7 +256,10 @@ fn call_of(s: &[u8]) -> Line
         return wait_of(s, to);
     }
     if same(word, b"start") {
-        return start_of(s, to);
+        return alone(s, to, Call::Start);
+    }
+    if same(word, b"longest") {
+        return alone(s, to, Call::Longest);
     }
     plain(Call::Unknown)
 }
@@ -294,7 +298,7 @@ pub fn is_call(call: Call, text: &[u8], number: u64) -> bool
             mistake(
                 number,
                 text,
-                b"' is no call; calls are start, step and numbers, wait and ticks",
+                b"' is no call; calls are start, step and numbers, wait and ticks, longest",
             );
             return false;
         }

@@ -2,6 +2,7 @@
 ghost use mathlib.Core.Path.{_≡_};
 ghost use Rattle.network_machine.specs.Answers.{zeroConfiguration};
 ghost use Rattle.network_calls.specs.Calls.{answerTo};
+use clocks::left::Longest;
 use console::print;
 use console::script::Call;
 use console::script::Line;
@@ -35,7 +36,16 @@ pub fn no_configuration() -> Configuration
     }
 }
 
-// What the machine answers to a call. A line without a call is a wait of no ticks, which is refused.
+// Asks for the longest wait, and shows it, or the refusal.
+pub fn show_longest(file: &[u8], c: Configuration) {
+    let longest = network_machine::operation::longest(file, c);
+    match longest {
+        Longest::Ticks(ticks) => print::longest(ticks),
+        Longest::Refused(k) => console::sentence::refused_call(k),
+    }
+}
+
+// What the machine answers to a call that moves it. Any other line is a wait of no ticks, which is refused.
 pub fn answer(file: &[u8], c: Configuration, line: Line) -> Outcome
     ensures { λ r. ⌜ r ≡ answerTo (now (file .entry)) c line ⌝ }
 {

@@ -15,9 +15,10 @@ use Rattle.reading.proofs.Places.{bind-got, bind-fault, framed-got, framed-long
 use Rattle.reading.proofs.Lengths.{byte-consumes, such-consumes}
 use Rattle.reading.proofs.InFront.{InFront, yield-front, bind-front, such-front, byte-front, byte2-front, byte4-front, many-front}
 use Rattle.requests.specs.Calls.{Call, stepped, waited, body, call, calls}
-use Rattle.requests.specs.Requests.{Operation, Request, asked, run-both, size, lent, block, called, run, operations, operation, request, callsOf}
+use Rattle.requests.specs.Requests.{Operation, Request, asked, run-both, longest, size, lent, block, called, run, longestFrom, operations, operation, request, callsOf}
 use Rattle.requests.specs.Requests as requests
 use Rattle.requests.specs.declared.request.Machine.{Machine}
+use Rattle.requests.specs.declared.request.Machine.the-variants as Mc
 
 -- so many bytes at a place that has them, and at one that has not
 module _ (s : List ℕ) (at n : ℕ) where
@@ -47,6 +48,21 @@ module _ (s : List ℕ) (at : ℕ) (m : Machine) (k : ℕ) {n : ℕ} (e : n ≡ 
     unfolding called
     called-fault b = bind-got _ _ _ given ∙ bind-fault _ _ _ b
 
+size-some : (m : Machine) → 1 ≤ size m
+size-some Mc.Chart = omega arith
+size-some Mc.Network = omega arith
+
+-- a configuration alone
+module _ (s : List ℕ) (at : ℕ) (m : Machine) {n l : ℕ} (e : n ≡ size m) (q : l ≡ length s - at) where
+  pub longest-none : l < n → longestFrom m (onward s at) ≡ fault length-fault
+  unfolding longestFrom
+  longest-none h = bind-fault _ _ _ (block-none s at (size m) (omega (arith, e, q)))
+
+  pub longest-got : n ≤ l
+      → (got (longest m (take (size m) (onward s at))) (onward s (at + n)) ≡ longestFrom m (onward s at)) × (at + n ≤ length s)
+  unfolding longestFrom yield
+  longest-got h = (sym (bind-got _ _ _ (rw e (block-some s at (size m) (omega (arith, e, q))))), omega (arith, e, q, size-some m))
+
 -- calls of which only the end was looked at
 module _ (b : List ℕ) where
   pub run-got : {t : List ℕ} → skipped (calls b) ≡ got tt t → run b ≡ got (run-both (callsOf (calls b))) t
@@ -58,22 +74,24 @@ module _ (b : List ℕ) where
   unfolding run skipped
   run-fault q = bind-fault _ _ _ (fault-at _ (calls b) q)
 
--- the number of an operation that is no other is that of a run
+-- the number of an operation that is no other is the last
 above : (n k : ℕ) → n ≤ k → (k ≡ n → ⊥) → n < k
 above n k h q = omega arith
 
 first : (k : ℕ) → 0 ≤ k
 first k = omega arith
 
-eight : (k : ℕ) → 7 < k → k < 9 → k ≡ 8
-eight k h l = omega arith
+ten : (k : ℕ) → 9 < k → k < 11 → k ≡ 10
+ten k h l = omega arith
 
-pub number-run : (k : ℕ) → k < 9 → (k ≡ 0 → ⊥) → (k ≡ 1 → ⊥) → (k ≡ 2 → ⊥) → (k ≡ 3 → ⊥) → (k ≡ 4 → ⊥) → (k ≡ 5 → ⊥) → (k ≡ 6 → ⊥) → (k ≡ 7 → ⊥) → k ≡ 8
-number-run k h n0 n1 n2 n3 n4 n5 n6 n7 =
-    eight k (above 7 k (above 6 k (above 5 k (above 4 k (above 3 k (above 2 k (above 1 k (above 0 k (first k) n0) n1) n2) n3) n4) n5) n6) n7) h
+pub number-last : (k : ℕ) → k < 11 → (k ≡ 0 → ⊥) → (k ≡ 1 → ⊥) → (k ≡ 2 → ⊥) → (k ≡ 3 → ⊥) → (k ≡ 4 → ⊥)
+    → (k ≡ 5 → ⊥) → (k ≡ 6 → ⊥) → (k ≡ 7 → ⊥) → (k ≡ 8 → ⊥) → (k ≡ 9 → ⊥) → k ≡ 10
+number-last k h n0 n1 n2 n3 n4 n5 n6 n7 n8 n9 =
+    let four : 4 < k = above 4 k (above 3 k (above 2 k (above 1 k (above 0 k (first k) n0) n1) n2) n3) n4 in
+    ten k (above 9 k (above 8 k (above 7 k (above 6 k (above 5 k four n5) n6) n7) n8) n9) h
 
 -- a request whose number was read
-module _ (b : List ℕ) {k : ℕ} {t : List ℕ} (h : such byte (λ k. ltb k 9) b ≡ got k t) where
+module _ (b : List ℕ) {k : ℕ} {t : List ℕ} (h : such byte (λ k. ltb k 11) b ≡ got k t) where
   pub file-fault : {f : Fault} → framed byte4 t ≡ fault f → request b ≡ fault f
   unfolding request
   file-fault e = bind-got _ _ _ h ∙ bind-fault _ _ _ e
@@ -124,6 +142,10 @@ called-front : (m : Machine) (k : ℕ) → InFront (called m k)
 unfolding called block
 called-front m k = bind-front (block (size m)) _ (framed-front _ (yield-front _)) (λ given. bind-front (body k) _ (body-front k) (λ c. yield-front _))
 
+longest-front : (m : Machine) → InFront (longestFrom m)
+unfolding longestFrom block
+longest-front m = bind-front (block (size m)) _ (framed-front _ (yield-front _)) (λ given. yield-front _)
+
 operation-front : (k : ℕ) → InFront (operation k)
 unfolding operation operations lent
 operation-front zero = yield-front _
@@ -135,7 +157,9 @@ operation-front (suc (suc (suc (suc (suc zero))))) = yield-front _
 operation-front (suc (suc (suc (suc (suc (suc zero)))))) = called-front _ _
 operation-front (suc (suc (suc (suc (suc (suc (suc zero))))))) = called-front _ _
 operation-front (suc (suc (suc (suc (suc (suc (suc (suc zero)))))))) = run-front
-operation-front (suc (suc (suc (suc (suc (suc (suc (suc (suc k))))))))) = run-front
+operation-front (suc (suc (suc (suc (suc (suc (suc (suc (suc zero))))))))) = longest-front _
+operation-front (suc (suc (suc (suc (suc (suc (suc (suc (suc (suc zero)))))))))) = longest-front _
+operation-front (suc (suc (suc (suc (suc (suc (suc (suc (suc (suc (suc k))))))))))) = run-front
 
 asked-front : (k : ℕ) → InFront (framed byte4 >>= λ file. operation k >>= λ o. yield (asked file o))
 asked-front k = bind-front (framed byte4) _ (framed-front byte4 byte4-front) (λ file. bind-front (operation k) _ (operation-front k) (λ o. yield-front _))

@@ -15,13 +15,14 @@ use Rattle.requests.specs.declared.request.OperationRead.the-variants as
 use Rattle.requests.specs.declared.request.RequestRead.{RequestRead}
 use Rattle.requests.specs.declared.request.RequestRead.the-variants as Rr
 
--- a call of a machine starts from a configuration, given as its bytes
+-- a call of a machine starts from a configuration, given as its bytes; of one the longest wait is asked too
 pub data Operation : Type 0 where
   check : Operation
   flatten : ℕ → Operation
   start : Machine → Operation
   call : Machine → List ℕ → Call → Operation
   run-both : List Call → Operation
+  longest : Machine → List ℕ → Operation
 
 pub data Request : Type 0 where
   asked : List ℕ → Operation → Request
@@ -49,6 +50,10 @@ called m k = do
 unfoldable pub run : Reader Operation
 run = calls >>= λ cs. yield (run-both cs)
 
+-- a configuration alone
+unfoldable pub longestFrom : Machine → Reader Operation
+longestFrom m = block (size m) >>= λ given. yield (longest m given)
+
 -- what follows the file, by the number of the operation
 unfoldable pub operations : List (Reader Operation)
 operations =
@@ -61,6 +66,8 @@ operations =
     ∷ called Mc.Network 0
     ∷ called Mc.Network 1
     ∷ run
+    ∷ longestFrom Mc.Chart
+    ∷ longestFrom Mc.Network
     ∷ []
 
 unfoldable pub operation : ℕ → Reader Operation
@@ -68,7 +75,7 @@ operation k = getD operations k run
 
 unfoldable pub request : Reader Request
 request = do
-  k ← such byte (λ k. ltb k 9)
+  k ← such byte (λ k. ltb k 11)
   file ← framed byte4
   o ← operation k
   yield (asked file o)
@@ -84,6 +91,7 @@ wanted s (Op.Flatten n) = flatten n
 wanted s (Op.Start m) = start m
 wanted s (Op.Call m at c) = call m (take (size m) (onward s at)) (meant s c)
 wanted s (Op.RunBoth at) = run-both (callsOf (calls (onward s at)))
+wanted s (Op.Longest m at) = longest m (take (size m) (onward s at))
 
 abbrev pub operationOf : List ℕ → OperationRead → Read Operation
 operationOf s (Or.Value o n) = got (wanted s o) (onward s n)

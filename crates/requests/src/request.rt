@@ -3,7 +3,7 @@ ghost use mathlib.Core.Path.{_≡_};
 ghost use Prim.Native.Nat.{_≤_, _<_};
 ghost use lib.ListN.{length};
 ghost use Rattle.reading.specs.Places.{onward};
-ghost use Rattle.requests.specs.Requests.{size, lent, called, run, operation, request, operationOf, operationEnd, requestOf, requestEnd, Beyond};
+ghost use Rattle.requests.specs.Requests.{size, lent, called, run, longestFrom, operation, request, operationOf, operationEnd, requestOf, requestEnd, Beyond};
 use crate::calls::Call;
 use crate::calls::CallRead;
 use crate::calls::read_body;
@@ -27,13 +27,15 @@ pub enum Machine {
 }
 
 // What is asked of a file: flattening into a buffer of so many bytes; a call of a machine from the configuration that
-// stands at a place; calls that stand from a place on, with their number in front.
+// stands at a place; calls that stand from a place on, with their number in front; the longest wait of the configuration
+// that stands at a place.
 pub enum Operation {
     Check,
     Flatten(u32),
     Start(Machine),
     Call(Machine, usize, Call),
     RunBoth(usize),
+    Longest(Machine, usize),
 }
 
 pub enum OperationRead {
@@ -108,9 +110,21 @@ fn read_run(s: &[u8], at: usize) -> OperationRead
     }
 }
 
+// A configuration alone.
+fn read_longest(s: &[u8], at: usize, m: Machine) -> OperationRead
+    ensures means { λ r. ⌜ operationOf (now (s .entry)) r ≡ longestFrom m (onward (now (s .entry)) at) ⌝ }
+    ensures within { λ r. ⌜ operationEnd r ≤ length (now (s .entry)) ⌝ }
+{
+    let taken = size(m);
+    if left(s, at) < taken {
+        return OperationRead::Fault(Fault::Length);
+    }
+    OperationRead::Value(Operation::Longest(m, at), at + taken)
+}
+
 // What follows the file.
 fn read_operation(s: &[u8], at: usize, code: u8) -> OperationRead
-    requires { ⌜ (at ≤ length (now s)) × (code < 9) ⌝ }
+    requires { ⌜ (at ≤ length (now s)) × (code < 11) ⌝ }
     ensures means { λ r. ⌜ operationOf (now (s .entry)) r ≡ operation code (onward (now (s .entry)) at) ⌝ }
     ensures within { λ r. ⌜ operationEnd r ≤ length (now (s .entry)) ⌝ }
 {
@@ -123,7 +137,9 @@ fn read_operation(s: &[u8], at: usize, code: u8) -> OperationRead
         5 => OperationRead::Value(Operation::Start(Machine::Network), at),
         6 => read_called(s, at, Machine::Network, 0),
         7 => read_called(s, at, Machine::Network, 1),
-        _ => read_run(s, at),
+        8 => read_run(s, at),
+        9 => read_longest(s, at, Machine::Chart),
+        _ => read_longest(s, at, Machine::Network),
     }
 }
 
@@ -133,7 +149,7 @@ pub fn read_request(s: &[u8], at: usize) -> RequestRead
     ensures within { λ r. ⌜ requestEnd r ≤ length (now (s .entry)) ⌝ }
     ensures beyond { λ r. ⌜ Beyond at r ⌝ }
 {
-    let b = read_below(s, at, 9);
+    let b = read_below(s, at, 11);
     let ByteRead::Value(code, next) = b else {
         return RequestRead::Fault(byte_fault(b));
     };

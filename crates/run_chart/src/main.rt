@@ -1,11 +1,12 @@
 // Runs a chart, the file that the first argument names, from a script of calls on standard input. After each call it
-// prints the configuration, or the number of the refusal and its sentence.
+// prints the configuration, or the longest wait where that is asked for, or the number of the refusal and its sentence.
 ghost use mathlib.Core.Path.{_≡_};
 ghost use Rattle.console.specs.Script.{lineOf};
 ghost use Rattle.chart_calls.specs.Calls.{afterLine};
 use chart_machine::operation::Outcome;
 use chart_moves::configuration::Configuration;
 use console::script;
+use console::script::Call;
 use reading::verdict::Verdict;
 
 // Shows what became of a call, and hands on the configuration after it.
@@ -28,6 +29,10 @@ fn take_line(file: &[u8], c: Configuration, text: &[u8], number: u64) -> Configu
     let line = script::read_line(text);
     let call = line.call;
     if !script::is_call(call, text, number) {
+        return c;
+    }
+    if let Call::Longest = call {
+        chart_calls::show_longest(file, c);
         return c;
     }
     shown(file, chart_calls::answer(file, c, line))

@@ -18,5 +18,6 @@ after-none c n r Ca.Nothing ms h = refl
 after-none c n r Ca.Start ms h = clash refl h
 after-none c n r Ca.Step ms h = clash refl h
 after-none c n r (Ca.Wait d) ms h = clash refl h
+after-none c n r Ca.Longest ms h = refl
 after-none c n r Ca.Unknown ms h = refl
 after-none c n r Ca.Number ms h = refl

@@ -12,13 +12,14 @@ use Rattle.console.specs.declared.script.Line.{Line}
 use Rattle.paired_run.specs.Paired.{Flattening, Stands}
 use Rattle.paired_run.specs.declared.run.Run.{Run}
 
--- by the call: a start begins the run anew, a step and a wait make it longer by one call of the network, and where there is
--- no call it stays
+-- by the call: a start begins the run anew, a step and a wait make it longer by one call of the network, and where the longest
+-- wait is asked for, or there is no call, it stays
 abbrev pub AfterBy : Chart → Network → Run → Call → List ℕ → Run → Type 0
 AfterBy c n r Ca.Nothing ms s = s ≡ r
 AfterBy c n r Ca.Start ms s = Stands s (agreed.run c n [])
 AfterBy c n r Ca.Step ms s = (calls : List agreed.Call) → Stands r (agreed.run c n calls) → Stands s (agreed.run c n (calls ++ (agreed.step ms ∷ [])))
 AfterBy c n r (Ca.Wait d) ms s = (calls : List agreed.Call) → Stands r (agreed.run c n calls) → Stands s (agreed.run c n (calls ++ (agreed.wait d ∷ [])))
+AfterBy c n r Ca.Longest ms s = s ≡ r
 AfterBy c n r Ca.Unknown ms s = s ≡ r
 AfterBy c n r Ca.Number ms s = s ≡ r
 

@@ -7,6 +7,7 @@ ghost use Rattle.agreement.specs.Agreement as agreed;
 ghost use Rattle.paired_run.specs.Paired.{Flattening, Stands};
 ghost use Rattle.side_by_side.specs.Lines.{AfterLine};
 use crate::show::show_call;
+use crate::show::show_longest;
 use crate::show::show_network;
 use crate::show::show_start;
 use console::script::Call;
@@ -48,6 +49,17 @@ fn shown(bytes: &[u8], f: Followed) -> Run
     r
 }
 
+// Both machines are asked for the longest wait, and stay as they are.
+fn asked(file: &[u8], bytes: &[u8], r: Run) -> Run
+    ensures { λ s. ⌜ s ≡ r ⌝ }
+{
+    network_calls::show_longest(bytes, r.network);
+    show_network(bytes, r.network);
+    show_longest();
+    chart_calls::show_longest(file, r.chart);
+    r
+}
+
 // The run after a call of the network.
 pub fn after_call(file: &[u8], bytes: &[u8], r: Run, line: Line) -> Run
     ensures { λ s. ⌜ AfterLine (now (file .entry)) (now (bytes .entry)) r line s ⌝ }
@@ -59,6 +71,7 @@ pub fn after_call(file: &[u8], bytes: &[u8], r: Run, line: Line) -> Run
         Call::Start => started(file, bytes),
         Call::Step => shown(bytes, run::after_step(file, bytes, r, &list[0..count])),
         Call::Wait(ticks) => shown(bytes, run::after_wait(file, bytes, r, ticks)),
+        Call::Longest => asked(file, bytes, r),
         _ => r,
     }
 }

@@ -26,6 +26,10 @@ pub fn show_start() {
     print::text(b" chart: start\n");
 }
 
+pub fn show_longest() {
+    print::text(b" chart: longest\n");
+}
+
 // The call of the chart that is read.
 pub fn show_call(reading: Reading, carried: Transitions) {
     let list = carried.list;

@@ -23,6 +23,14 @@ fn call(file: &[u8], m: Machine, s: &[u8], at: usize, c: Call) {
     }
 }
 
+// The longest wait of a machine from the configuration that stands at a place.
+fn longest(file: &[u8], m: Machine, s: &[u8], at: usize) {
+    match m {
+        Machine::Chart => chart_requests::longest(file, s, at),
+        Machine::Network => network_requests::longest(file, s, at),
+    }
+}
+
 // Answers a request, whose parts stand at places of s.
 pub fn answer(s: &[u8], q: Request) {
     let file = window::tail(window::front(s, q.to), q.from);
@@ -33,5 +41,6 @@ pub fn answer(s: &[u8], q: Request) {
         Operation::Start(m) => start(file, m),
         Operation::Call(m, at, c) => call(file, m, s, at, c),
         Operation::RunBoth(at) => paired_requests::run(file, window::tail(s, at)),
+        Operation::Longest(m, at) => longest(file, m, s, at),
     }
 }

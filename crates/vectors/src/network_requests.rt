@@ -51,3 +51,8 @@ pub fn call(file: &[u8], s: &[u8], at: usize, c: Call) {
         Call::Wait(ticks) => show_outcome(operation::wait(file, given, ticks)),
     }
 }
+
+// The longest wait of the configuration that stands at a place.
+pub fn longest(file: &[u8], s: &[u8], at: usize) {
+    show::longest(operation::longest(file, configuration(window::tail(s, at))));
+}

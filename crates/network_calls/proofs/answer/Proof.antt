@@ -4,7 +4,7 @@ use Prim.Native.Nat.{ℕ, _-_, min}
 use Rattle.console.specs.declared.script.Call.{Call}
 use Rattle.console.specs.declared.script.Call.the-variants as Cl
 use Rattle.network_calls.specs.Calls.{answerBy}
-use Rattle.console.proofs.Unread.{no-call}
+use Rattle.console.proofs.Unread.{no-move}
 use native.Mathlib.Omega.{arith}
 use borrow.Author.Needs.{needs}
 use Rattle.network_calls.proofs.answer.Statement.{statement}
@@ -62,7 +62,9 @@ returns-3 c = let a = c .before .before .before .before .before .before .before 
 
 returns-4 : tie.Need-returns-4
 returns-4 c = let a = c .before .before .before .before .before .args in
-    c .wait2 .ensures ∙ no-call (λ k. answerBy (a .file .now) (a .c) k (take (min (a .line .count) 17) (a .line .list))) _ refl refl refl (a .line .call) (c .before .match .keys4)
+    c .wait2 .ensures
+    ∙ no-move (λ k. answerBy (a .file .now) (a .c) k (take (min (a .line .count) 17) (a .line .list))) _ refl refl refl refl
+    (a .line .call) (c .before .match .keys4)
 
 pub answer-spec : {M : Type 1} → statement M
 answer-spec =

@@ -1,8 +1,9 @@
 use mathlib.Core.Path.{sym, ap, _∙_}
 use borrow.Author.Tests.{not-true, not-false}
 use Rattle.lists.proofs.Bools.{cond-yes, cond-no}
-use Rattle.console.specs.Script.{isCall}
+use Rattle.console.specs.Script.{moves}
 use Rattle.console.specs.declared.script.Line.{Line}
+use Rattle.console.proofs.Unread.{unmoved, moved}
 use Rattle.network_calls.specs.Calls.{answerTo}
 use Rattle.network_machine.specs.declared.outcome.Outcome.{Outcome}
 use borrow.Author.Needs.{needs}
@@ -17,8 +18,20 @@ is-call-requires c κs = search needs
 
 returns : tie.Need-returns
 returns c =
-    let line = c .before .before .read-line .ensures in
-    sym (cond-no _ _ (ap (λ (l : Line). isCall (l .call)) (sym line) ∙ sym (c .before .is-call .ensures) ∙ not-true _ (c .if1 .taken)))
+    let read = c .before .before .read-line in
+    let none = sym (c .before .is-call .ensures) ∙ not-true _ (c .if1 .taken) in
+    sym (cond-no _ _ (ap (λ (l : Line). moves (l .call)) (sym (read .ensures)) ∙ unmoved (read .result .call) none))
+
+enum-told : tie.Need-enum-told
+enum-told c = search needs
+
+show-longest-requires : tie.Need-show-longest-requires
+show-longest-requires c κs = search needs
+
+returns-2 : tie.Need-returns-2
+returns-2 c =
+    let line = c .before .before .before .before .before .read-line .ensures in
+    sym (cond-no _ _ (ap (λ (l : Line). moves (l .call)) (sym line) ∙ ap moves (c .before .enum-told .given .1)))
 
 answer-requires : tie.Need-answer-requires
 answer-requires c κs = search needs
@@ -26,15 +39,27 @@ answer-requires c κs = search needs
 shown-requires : tie.Need-shown-requires
 shown-requires c κs = search needs
 
-returns-2 : tie.Need-returns-2
-returns-2 c =
-    let place = c .before .before .before in
+returns-3 : tie.Need-returns-3
+returns-3 c =
+    let other = c .before .before in
+    let place = other .before .before in
     let a = place .before .before .before .before .args in
-    let line = place .before .read-line .ensures in
-    c .shown .ensures ∙ ap (λ (o : Outcome). o .configuration) (c .before .answer .ensures) ∙ ap (λ (l : Line). answerTo (a .file .now) (a .c) l .configuration) line
-    ∙ sym (cond-yes _ _ (ap (λ (l : Line). isCall (l .call)) (sym line) ∙ sym (place .is-call .ensures) ∙ not-false _ (c .before .before .if1 .left)))
+    let read = place .before .read-line in
+    let call = sym (place .is-call .ensures) ∙ not-false _ (other .before .if1 .left) in
+    c .shown .ensures ∙ ap (λ (o : Outcome). o .configuration) (c .before .answer .ensures)
+    ∙ ap (λ (l : Line). answerTo (a .file .now) (a .c) l .configuration) (read .ensures)
+    ∙ sym (cond-yes _ _ (ap (λ (l : Line). moves (l .call)) (sym (read .ensures)) ∙ moved (read .result .call) call (other .match .keys2)))
 
 pub take-line-spec : {M : Type 1} → statement M
 take-line-spec =
     tie.close
-    (tie.spec read-line-requires is-call-requires returns answer-requires shown-requires returns-2)
+    (tie.spec
+    read-line-requires
+    is-call-requires
+    returns
+    enum-told
+    show-longest-requires
+    returns-2
+    answer-requires
+    shown-requires
+    returns-3)

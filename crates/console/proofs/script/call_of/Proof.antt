@@ -6,7 +6,7 @@ use borrow.Author.Needs.{needs}
 use Rattle.reading.proofs.Places.{onward-all}
 use Rattle.console.specs.Script.{words, callLine}
 use Rattle.console.proofs.Words.{FirstWord, PartWithin, words-part, words-none, part-within}
-use Rattle.console.proofs.Steps.{call-step, call-wait, call-start, call-unknown}
+use Rattle.console.proofs.Steps.{call-step, call-wait, call-start, call-longest, call-unknown}
 use Rattle.console.proofs.script.call_of.Statement.{statement}
 use Rattle.console.proofs.script.call_of.Tie as tie
 
@@ -96,8 +96,8 @@ slice-aggregate-same-3 c = search needs
 same-requires-3 : tie.Need-same-requires-3
 same-requires-3 c κs = search needs
 
-start-of-requires : tie.Need-start-of-requires
-start-of-requires c κs = search needs
+alone-requires : tie.Need-alone-requires
+alone-requires c κs = search needs
 
 returns-4 : tie.Need-returns-4
 returns-4 c =
@@ -107,22 +107,51 @@ returns-4 c =
     let place-2 = place-1 .before .before .before in
     let if1 = place-2 .if1 in
     let same = place-2 .before .same in
-    c .start-of .ensures ∙ sym (call-start _ _ (found (place-2 .before .before .before .before)) (sym (same .ensures) ∙ if1 .left) (sym (same2 .ensures) ∙ if2 .left)
+    c .alone .ensures
+    ∙ sym (call-start _ _ (found (place-2 .before .before .before .before)) (sym (same .ensures) ∙ if1 .left) (sym (same2 .ensures) ∙ if2 .left)
     (sym (c .before .before .same3 .ensures) ∙ c .before .if3 .taken))
 
-plain-requires-2 : tie.Need-plain-requires-2
-plain-requires-2 c κs = search needs
+slice-aggregate-same-4 : tie.Need-slice-aggregate-same-4
+slice-aggregate-same-4 c = search needs
+
+same-requires-4 : tie.Need-same-requires-4
+same-requires-4 c κs = search needs
+
+alone-requires-2 : tie.Need-alone-requires-2
+alone-requires-2 c κs = search needs
 
 returns-5 : tie.Need-returns-5
 returns-5 c =
     let place-1 = c .before .before .before .before in
-    let if2 = place-1 .if2 in
-    let same2 = place-1 .before .same2 in
+    let if3 = place-1 .if3 in
+    let same3 = place-1 .before .same3 in
     let place-2 = place-1 .before .before .before in
-    let if1 = place-2 .if1 in
-    let same = place-2 .before .same in
-    c .plain2 .ensures ∙ sym (call-unknown _ _ (found (place-2 .before .before .before .before)) (sym (same .ensures) ∙ if1 .left) (sym (same2 .ensures) ∙ if2 .left)
-    (sym (c .before .before .same3 .ensures) ∙ c .before .if3 .left))
+    let if2 = place-2 .if2 in
+    let same2 = place-2 .before .same2 in
+    let place-3 = place-2 .before .before .before in
+    let if1 = place-3 .if1 in
+    let same = place-3 .before .same in
+    c .alone2 .ensures
+    ∙ sym (call-longest _ _ (found (place-3 .before .before .before .before)) (sym (same .ensures) ∙ if1 .left) (sym (same2 .ensures) ∙ if2 .left)
+    (sym (same3 .ensures) ∙ if3 .left) (sym (c .before .before .same4 .ensures) ∙ c .before .if4 .taken))
+
+plain-requires-2 : tie.Need-plain-requires-2
+plain-requires-2 c κs = search needs
+
+returns-6 : tie.Need-returns-6
+returns-6 c =
+    let place-1 = c .before .before .before .before in
+    let if3 = place-1 .if3 in
+    let same3 = place-1 .before .same3 in
+    let place-2 = place-1 .before .before .before in
+    let if2 = place-2 .if2 in
+    let same2 = place-2 .before .same2 in
+    let place-3 = place-2 .before .before .before in
+    let if1 = place-3 .if1 in
+    let same = place-3 .before .same in
+    c .plain2 .ensures
+    ∙ sym (call-unknown _ _ (found (place-3 .before .before .before .before)) (sym (same .ensures) ∙ if1 .left) (sym (same2 .ensures) ∙ if2 .left)
+    (sym (same3 .ensures) ∙ if3 .left) (sym (c .before .before .same4 .ensures) ∙ c .before .if4 .left))
 
 pub call-of-spec : {M : Type 1} → statement M
 call-of-spec =
@@ -146,7 +175,11 @@ call-of-spec =
     returns-3
     slice-aggregate-same-3
     same-requires-3
-    start-of-requires
+    alone-requires
     returns-4
+    slice-aggregate-same-4
+    same-requires-4
+    alone-requires-2
+    returns-5
     plain-requires-2
-    returns-5)
+    returns-6)

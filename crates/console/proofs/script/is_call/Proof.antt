@@ -15,16 +15,17 @@ use Rattle.console.proofs.script.is_call.Statement.{statement}
 use Rattle.console.proofs.script.is_call.Tie as tie
 
 -- the calls that are left in the last arm
-between : (x : ℕ) → OneOf (1 ∷ 2 ∷ 3 ∷ []) x → (1 ≤ x) × (x ≤ 3)
-between x h = ⊎-elim (λ e. omega arith) (⊎-elim (λ e. omega arith) (λ e. omega arith)) h
+between : (x : ℕ) → OneOf (1 ∷ 2 ∷ 3 ∷ 4 ∷ []) x → (1 ≤ x) × (x ≤ 4)
+between x h = ⊎-elim (λ e. omega arith) (⊎-elim (λ e. omega arith) (⊎-elim (λ e. omega arith) (λ e. omega arith))) h
 
-is-call-by : (call : Call) → OneOf (1 ∷ 2 ∷ 3 ∷ []) (tagOf the-type call) → true ≡ isCall call
+is-call-by : (call : Call) → OneOf (1 ∷ 2 ∷ 3 ∷ 4 ∷ []) (tagOf the-type call) → true ≡ isCall call
 is-call-by Ca.Nothing h = absurd (omega (arith, between 0 h))
 is-call-by Ca.Start h = refl
 is-call-by Ca.Step h = refl
 is-call-by (Ca.Wait ticks) h = refl
-is-call-by Ca.Unknown h = absurd (omega (arith, between 4 h))
-is-call-by Ca.Number h = absurd (omega (arith, between 5 h))
+is-call-by Ca.Longest h = refl
+is-call-by Ca.Unknown h = absurd (omega (arith, between 5 h))
+is-call-by Ca.Number h = absurd (omega (arith, between 6 h))
 
 enum-told : tie.Need-enum-told
 enum-told c = search needs

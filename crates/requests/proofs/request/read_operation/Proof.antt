@@ -1,7 +1,7 @@
 use native.Mathlib.Omega.{arith}
 use Rattle.reading.specs.Reading.{yield}
 use Rattle.requests.specs.Requests.{operations, operation}
-use Rattle.requests.proofs.Requests.{number-run}
+use Rattle.requests.proofs.Requests.{number-last}
 use borrow.Author.Needs.{needs}
 use Rattle.requests.proofs.request.read_operation.Statement.{statement}
 use Rattle.requests.proofs.request.read_operation.Tie as tie
@@ -23,6 +23,12 @@ read-called-requires-4 c κs = search needs
 
 read-run-requires : tie.Need-read-run-requires
 read-run-requires c κs = search needs
+
+read-longest-requires : tie.Need-read-longest-requires
+read-longest-requires c κs = search needs
+
+read-longest-requires-2 : tie.Need-read-longest-requires-2
+read-longest-requires-2 c κs = search needs
 
 returns : tie.Need-returns
 unfolding operation operations yield
@@ -58,9 +64,21 @@ returns-8 c = (rw (c .before .match .keys8) (c .read-called4 .ensures .0), c .re
 
 returns-9 : tie.Need-returns-9
 unfolding operation operations
-returns-9 c = let r = c .before .match .rest in
-    let z = number-run _ (c .before .before .before .pre .1) (r .0 .0 .0 .0 .0 .0 .0 .1) (r .0 .0 .0 .0 .0 .0 .1) (r .0 .0 .0 .0 .0 .1) (r .0 .0 .0 .0 .1) (r .0 .0 .0 .1) (r .0 .0 .1) (r .0 .1) (r .1) in
-    (rw z (c .read-run .ensures .0), c .read-run .ensures .1)
+returns-9 c = (rw (c .before .match .keys9) (c .read-run .ensures .0), c .read-run .ensures .1)
+
+returns-10 : tie.Need-returns-10
+unfolding operation operations
+returns-10 c = (rw (c .before .match .keys10) (c .read-longest .ensures .0), c .read-longest .ensures .1)
+
+returns-11 : tie.Need-returns-11
+unfolding operation operations
+returns-11 c =
+    let r = c .before .match .rest in
+    let u = r .0 .0 .0 .0 .0 in
+    let z =
+    number-last _ (c .before .before .before .pre .1) (u .0 .0 .0 .0 .1) (u .0 .0 .0 .1) (u .0 .0 .1) (u .0 .1) (u .1)
+    (r .0 .0 .0 .0 .1) (r .0 .0 .0 .1) (r .0 .0 .1) (r .0 .1) (r .1) in
+    (rw z (c .read-longest2 .ensures .0), c .read-longest2 .ensures .1)
 
 pub read-operation-spec : {M : Type 1} → statement M
 read-operation-spec =
@@ -72,6 +90,8 @@ read-operation-spec =
     read-called-requires-3
     read-called-requires-4
     read-run-requires
+    read-longest-requires
+    read-longest-requires-2
     returns
     returns-2
     returns-3
@@ -80,4 +100,6 @@ read-operation-spec =
     returns-6
     returns-7
     returns-8
-    returns-9)
+    returns-9
+    returns-10
+    returns-11)

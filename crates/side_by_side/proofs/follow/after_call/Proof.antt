@@ -54,6 +54,12 @@ after-wait-requires c κs = search needs
 shown-requires-2 : tie.Need-shown-requires-2
 shown-requires-2 c κs = search needs
 
+enum-told-3 : tie.Need-enum-told-3
+enum-told-3 c = search needs
+
+asked-requires : tie.Need-asked-requires
+asked-requires c κs = search needs
+
 returns : tie.Need-returns
 returns c = λ d n F.
     let a = c .before .before .before .before .before .before .before .args in
@@ -77,8 +83,13 @@ returns-3 c = λ d n F.
 
 returns-4 : tie.Need-returns-4
 returns-4 c = λ d n F.
+    let a = c .before .before .before .before .before .before .before .args in
+    subst (λ (k : Call). AfterBy d n (a .r) k (numbersOf (a .line)) (c .asked .result)) (sym (c .before .enum-told3 .given .1)) (c .asked .ensures)
+
+returns-5 : tie.Need-returns-5
+returns-5 c = λ d n F.
     let a = c .before .before .before .before .before .args in
-    after-none d n (a .r) (a .line .call) (numbersOf (a .line)) (sym (no-call isCall false refl refl refl (a .line .call) (c .match .keys4)))
+    after-none d n (a .r) (a .line .call) (numbersOf (a .line)) (sym (no-call isCall false refl refl refl (a .line .call) (c .match .keys5)))
 
 pub after-call-spec : {M : Type 1} → statement M
 after-call-spec =
@@ -96,7 +107,10 @@ after-call-spec =
     enum-known-call
     after-wait-requires
     shown-requires-2
+    enum-told-3
+    asked-requires
     returns
     returns-2
     returns-3
-    returns-4)
+    returns-4
+    returns-5)

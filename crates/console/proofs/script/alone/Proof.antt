@@ -1,9 +1,9 @@
 use mathlib.Core.Path.{sym, ap, _∙_}
 use borrow.Author.Needs.{needs}
-use Rattle.console.specs.Script.{startLine}
+use Rattle.console.specs.Script.{aloneLine}
 use Rattle.console.proofs.Words.{words-part, words-none}
-use Rattle.console.proofs.script.start_of.Statement.{statement}
-use Rattle.console.proofs.script.start_of.Tie as tie
+use Rattle.console.proofs.script.alone.Statement.{statement}
+use Rattle.console.proofs.script.alone.Tie as tie
 
 next-word-requires : tie.Need-next-word-requires
 next-word-requires c κs = search needs
@@ -18,18 +18,22 @@ plain-requires : tie.Need-plain-requires
 plain-requires c κs = search needs
 
 returns : tie.Need-returns
-unfolding startLine
-returns c = c .plain .ensures ∙ sym (ap startLine (words-part _ _ (c .before .before .before .next-word .result) (c .before .before .before .next-word .ensures .0) (c .before .enum-told2 .given .1)))
+unfolding aloneLine
+returns c =
+    let next-word = c .before .before .before .next-word in
+    c .plain .ensures ∙ sym (ap (aloneLine _) (words-part _ _ (next-word .result) (next-word .ensures .0) (c .before .enum-told2 .given .1)))
 
 plain-requires-2 : tie.Need-plain-requires-2
 plain-requires-2 c κs = search needs
 
 returns-2 : tie.Need-returns-2
-unfolding startLine
-returns-2 c = c .plain2 .ensures ∙ sym (ap startLine (words-none _ _ (c .before .before .before .next-word .result) (c .before .before .before .next-word .ensures .0) (c .before .enum-told .given .1)))
+unfolding aloneLine
+returns-2 c =
+    let next-word = c .before .before .before .next-word in
+    c .plain2 .ensures ∙ sym (ap (aloneLine _) (words-none _ _ (next-word .result) (next-word .ensures .0) (c .before .enum-told .given .1)))
 
-pub start-of-spec : {M : Type 1} → statement M
-start-of-spec =
+pub alone-spec : {M : Type 1} → statement M
+alone-spec =
     tie.close
     (tie.spec
     next-word-requires
