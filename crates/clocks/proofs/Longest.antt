@@ -98,6 +98,25 @@ unfolding rowsLeft
 rows-left-most n [] cs m = omega arith
 rows-left-most n (r ∷ rs) cs m = omega (arith, rows-left-most n rs cs (rowLeft n r cs m), row-left-most n r cs m)
 
+-- without a clock nothing stops a wait
+pub rows-no-clock : (rs : List (List ℕ)) (cs : List ℕ) → rowsLeft 0 rs cs (limitLeft 0 cs) ≡ all-ticks
+unfolding limitLeft rowsLeft rowLeft
+rows-no-clock rs cs = go rs
+  where
+    go : (rs : List (List ℕ)) → rowsLeft 0 rs cs all-ticks ≡ all-ticks
+    go [] = refl
+    go (r ∷ rs) = go rs
+
+-- with one no more is left than from it to the limit
+pub rows-limited : (n : ℕ) (rs : List (List ℕ)) (cs : List ℕ) → n ≤ 8 → inLimit n cs ≡ true → (i : ℕ) → i < n → i < length cs
+    → getD cs i 0 + rowsLeft n rs cs (limitLeft n cs) ≤ clock-limit
+rows-limited n rs cs few t i a b = elim (decLt 0 (rowsLeft n rs cs (limitLeft n cs))) [
+  | yes s ↦
+      let e = limit-left-at n cs _ few s (rows-left-most n rs cs (limitLeft n cs)) in
+      omega (arith, limit-at n _ (e .0) i a, later-moved n (rowsLeft n rs cs (limitLeft n cs)) cs i a b)
+  | no s ↦ omega (arith, limit-at n cs t i a)
+]
+
 -- an operation that answers m tells the longest wait where just the waits from 1 to m are accepted
 pub tells-ticks : {A : Type 0} (m : ℕ) (w : ℕ → Answer A) → m ≤ all-ticks → ((d : ℕ) → 1 ≤ d → d ≤ m → (a : A) × (w d ≡ done a))
     → ((d : ℕ) (a : A) → d ≤ all-ticks → w d ≡ done a → (1 ≤ d) × (d ≤ m)) → TellsLongest (done m) w

@@ -1,5 +1,6 @@
 // Charts.
 ghost use mathlib.Core.Path.{_≡_};
+ghost use Rattle.clocks.specs.Longest.{Tells};
 ghost use Rattle.chart_records.specs.Rules.{chartOf};
 ghost use Rattle.chart_moves.specs.Machine.{startOf, stepOf, waitOf, longestOf};
 ghost use Rattle.library.specs.Numbers.{numberOf, after, chartParts, chartStepped, chartWaited};
@@ -111,8 +112,7 @@ pub extern "C" fn figrummy_longest_wait_chart(
     clocks: &[u32; 8],
     ticks: &mut u32,
 ) -> u8
-    ensures number { λ r. ⌜ r ≡ numberOf (longestOf (now (file .entry)) (chartParts (now (active .entry)) (now (variables .entry)) (now (clocks .entry)))) ⌝ }
-    ensures ticks { λ r. ⌜ now (ticks .exit) ≡ after (now (ticks .entry)) (longestOf (now (file .entry)) (chartParts (now (active .entry)) (now (variables .entry)) (now (clocks .entry)))) ⌝ }
+    ensures { λ r. ⌜ Tells (now (ticks .entry)) (longestOf (now (file .entry)) (chartParts (now (active .entry)) (now (variables .entry)) (now (clocks .entry)))) (now (ticks .exit)) r ⌝ }
 {
     let given = Configuration {
         active: *active,

@@ -1,5 +1,6 @@
 // Networks.
 ghost use mathlib.Core.Path.{_≡_};
+ghost use Rattle.clocks.specs.Longest.{Tells};
 ghost use Rattle.network_moves.specs.Machine.{startOf, stepOf, waitOf, longestOf};
 ghost use Rattle.library.specs.Numbers.{numberOf, after, networkParts as parts, networkStepped, networkWaited};
 use clocks::left::tell;
@@ -111,8 +112,7 @@ pub extern "C" fn figrummy_longest_wait_network(
     clocks: &[u32; 8],
     ticks: &mut u32,
 ) -> u8
-    ensures number { λ r. ⌜ r ≡ numberOf (longestOf (now (file .entry)) (parts (now (locations .entry)) (now (flags .entry)) (now (variables .entry)) (now (clocks .entry)))) ⌝ }
-    ensures ticks { λ r. ⌜ now (ticks .exit) ≡ after (now (ticks .entry)) (longestOf (now (file .entry)) (parts (now (locations .entry)) (now (flags .entry)) (now (variables .entry)) (now (clocks .entry)))) ⌝ }
+    ensures { λ r. ⌜ Tells (now (ticks .entry)) (longestOf (now (file .entry)) (parts (now (locations .entry)) (now (flags .entry)) (now (variables .entry)) (now (clocks .entry)))) (now (ticks .exit)) r ⌝ }
 {
     let given = Configuration {
         locations: *locations,
