@@ -1,26 +1,41 @@
 -- The test of a bound: what it says that a bound is kept, and which waits the ticks left allow.
 use mathlib.Core.Path.{_≡_, refl, sym, ap, _∙_}
-use mathlib.Core.Bool.{true, false}
+use mathlib.Core.Bool.{Bool, true, false}
 use mathlib.Core.List.{List, [], _∷_}
 use Prim.Native.Nat.{ℕ, zero, suc, _+_, _-_, _≤_, _<_, min}
 use native.Mathlib.Omega.{arith}
 use native.Mathlib.Decide.{decLe}
 use native.Mathlib.Nat.{zero-min, min-zero, suc-min-suc}
 use native.Mathlib.Numerals.{add-one}
-use borrow.Author.Tests.{leb-true, le-leb, lt-leb}
+use borrow.Author.Tests.{le-leb, lt-leb}
 use lib.Dec.{leb}
 use lib.ListN.{length, getD}
-use Rattle.clocks.specs.Clocks.{clock-limit, ticksLeft, isKept, fewest, rowLeft}
+use Rattle.clocks.specs.Clocks.{clock-limit, leftWhere, ticksLeft, isKept, fewest, rowLeft}
 use Rattle.clocks.specs.declared.left.Left.the-variants as Le
+
+-- ticks are left just where what is tested is kept
+pub where-kept : {b : Bool} (n : ℕ) → b ≡ true → leftWhere b n ≡ Le.Ticks n
+where-kept n h = rw h
+
+pub where-broken : {b : Bool} (n : ℕ) → b ≡ false → leftWhere b n ≡ Le.Broken
+where-broken n h = rw h
+
+pub was-kept : (b : Bool) (n : ℕ) {m : ℕ} → Le.Ticks m ≡ leftWhere b n → (b ≡ true) × (m ≡ n)
+was-kept true n e = (refl, cc)
+was-kept false n e = absurd (let z : _≡_ {A = ℕ} 0 1 = cc in omega arith)
+
+pub was-broken : (b : Bool) (n : ℕ) → Le.Broken ≡ leftWhere b n → b ≡ false
+was-broken true n e = absurd (let z : _≡_ {A = ℕ} 0 1 = cc in omega arith)
+was-broken false n e = refl
 
 -- a bound that the clock is within leaves ticks, another is broken
 pub left-kept : (b c : ℕ) → c ≤ b → ticksLeft b c ≡ Le.Ticks (min b clock-limit - c)
 unfolding ticksLeft
-left-kept b c h = rw (le-leb c b h)
+left-kept b c h = where-kept _ (le-leb c b h)
 
 pub left-broken : (b c : ℕ) → b < c → ticksLeft b c ≡ Le.Broken
 unfolding ticksLeft
-left-broken b c h = rw (lt-leb c b h)
+left-broken b c h = where-broken _ (lt-leb c b h)
 
 pub kept-is : (b c : ℕ) → isKept (ticksLeft b c) ≡ leb c b
 kept-is b c = elim (decLe c b) [

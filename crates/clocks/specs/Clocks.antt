@@ -28,10 +28,15 @@ join a b = zipWith min a b
 unfoldable pub joinTables : List (List ℕ) → List (List ℕ) → List (List ℕ)
 joinTables a b = zipWith join a b
 
+-- so many ticks left, where what is tested is kept
+abbrev pub leftWhere : Bool → ℕ → Left
+leftWhere true n = Le.Ticks n
+leftWhere false n = Le.Broken
+
 -- the test of a bound: the ticks left before the clock passes it or the limit, or that it is broken. So no bound leaves
 -- what the limit leaves
 unfoldable pub ticksLeft : ℕ → ℕ → Left
-ticksLeft b c = cond (leb c b) (Le.Ticks (min b clock-limit - c)) Le.Broken
+ticksLeft b c = leftWhere (leb c b) (min b clock-limit - c)
 
 abbrev pub isKept : Left → Bool
 isKept (Le.Ticks n) = true

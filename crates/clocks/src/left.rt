@@ -2,8 +2,9 @@
 ghost use mathlib.Core.Path.{_≡_};
 ghost use Prim.Native.Nat.{ℕ, _-_, min};
 ghost use Rattle.reading.specs.Answer.{Answer};
-ghost use Rattle.clocks.specs.Clocks.{clock-limit, ticksLeft, isKept, fewest, rowLeft, limitLeft};
+ghost use Rattle.clocks.specs.Clocks.{clock-limit, leftWhere, ticksLeft, isKept, keeps, fewest, rowLeft, limitLeft};
 ghost use Rattle.clocks.specs.Longest.{told, Tells};
+use crate::clock::keeps;
 use crate::clock::least;
 
 // The ticks left before a clock passes its bound or the limit, or that the bound is broken.
@@ -56,7 +57,7 @@ pub fn fewest(left: Left, others: u32) -> u32
 }
 
 // The ticks left for the first `count` clocks under the bounds of a row, and `ticks` at most.
-pub fn row_left(count: usize, bounds: [u32; 8], clocks: [u32; 8], ticks: u32) -> u32
+fn row_left(count: usize, bounds: [u32; 8], clocks: [u32; 8], ticks: u32) -> u32
     ensures { λ r. ⌜ r ≡ rowLeft count bounds clocks ticks ⌝ }
 {
     let n = lists::number::least(count, 8);
@@ -65,6 +66,16 @@ pub fn row_left(count: usize, bounds: [u32; 8], clocks: [u32; 8], ticks: u32) ->
         left = fewest(ticks_left(bounds[i], clocks[i]), left);
     }
     left
+}
+
+// The same where clocks keep the row, or that they break a bound of it.
+pub fn under_row(count: usize, bounds: [u32; 8], clocks: [u32; 8], ticks: u32) -> Left
+    ensures { λ r. ⌜ r ≡ leftWhere (keeps bounds clocks) (rowLeft count bounds clocks ticks) ⌝ }
+{
+    if !keeps(bounds, clocks) {
+        return Left::Broken;
+    }
+    Left::Ticks(row_left(count, bounds, clocks, ticks))
 }
 
 // The ticks left for the first `count` clocks where there is no bound.

@@ -5,3 +5,4 @@ pub mod Longest
 pub mod Moving
 pub mod Stepping
 pub mod Taken
+pub mod Stands

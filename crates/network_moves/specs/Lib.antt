@@ -2,4 +2,5 @@
 pub mod Choices
 pub mod Longest
 pub mod Machine
+pub mod Stands
 pub mod Turns

@@ -5,9 +5,11 @@ ghost use lib.Dec.{ltb, eqb};
 ghost use lib.ListN.{length};
 ghost use Rattle.lists.specs.Lists.{all, below};
 ghost use Rattle.network_records.specs.Network.{Network, locationAt};
-ghost use Rattle.clocks.specs.Clocks.{limitLeft};
+ghost use Rattle.clocks.specs.Clocks.{leftWhere, limitLeft};
 ghost use Rattle.network_moves.specs.Machine.{place, start, boundsKept, ticksUnder, isConfiguration, urgent};
+ghost use Rattle.network_moves.specs.Stands.{stands};
 ghost use Rattle.network_records.specs.Layout.{Located};
+use clocks::left::Left;
 use clocks::left::limit_left;
 use network::initial::initial_locations;
 use network_records::header::Counts;
@@ -73,19 +75,23 @@ pub fn bounds_kept(rest: &[u8], counts: Counts, c: Configuration) -> bool
     true
 }
 
-// The ticks left under the bounds of all occupied locations, and to the limit.
-pub fn ticks_under(rest: &[u8], counts: Counts, c: Configuration) -> u32
-    ensures { λ r. ⌜ ((n : Network) → Located (now (rest .entry)) counts n → r ≡ ticksUnder n c (below (n .automata)) (limitLeft (n .clocks) (c .clocks))) ⌝ }
+// The ticks left under the bounds of all occupied locations, and to the limit, or that the clocks break a bound.
+pub fn bounds_left(rest: &[u8], counts: Counts, c: Configuration) -> Left
+    ensures { λ r. ⌜ ((n : Network) → Located (now (rest .entry)) counts n → r ≡ leftWhere (boundsKept n c) (ticksUnder n c (below (n .automata)) (limitLeft (n .clocks) (c .clocks)))) ⌝ }
 {
     let clocks = c.clocks;
     let mut ticks = limit_left(counts.clocks as usize, clocks);
     let mut a = 0;
     while a < counts.automata {
         let l = place(c, a);
-        ticks = left_under(rest, counts, l, clocks, ticks);
+        let left = left_under(rest, counts, l, clocks, ticks);
+        let Left::Ticks(n) = left else {
+            return Left::Broken;
+        };
+        ticks = n;
         a += 1;
     }
-    ticks
+    Left::Ticks(ticks)
 }
 
 // Whether an urgent location is occupied.
@@ -126,9 +132,9 @@ fn at_own_locations(rest: &[u8], counts: Counts, c: Configuration) -> bool
     true
 }
 
-// Whether c is a configuration of the network: what is not declared is 0.
-pub fn is_configuration(rest: &[u8], counts: Counts, c: Configuration) -> bool
-    ensures { λ r. ⌜ ((n : Network) → Located (now (rest .entry)) counts n → r ≡ isConfiguration n c) ⌝ }
+// Whether c is a configuration of the network but for its bounds: what is not declared is 0.
+pub fn stands(rest: &[u8], counts: Counts, c: Configuration) -> bool
+    ensures { λ r. ⌜ ((n : Network) → Located (now (rest .entry)) counts n → r ≡ stands n c) ⌝ }
 {
     let locations = c.locations;
     let flags = c.flags;
@@ -142,7 +148,13 @@ pub fn is_configuration(rest: &[u8], counts: Counts, c: Configuration) -> bool
     let variables_zero = clocks::clock::zeros_past(counts.variables as usize, variables);
     let within = clocks::clock::in_limit(timed, clocks);
     let clocks_zero = clocks::clock::zero_past(timed, clocks);
-    let kept = bounds_kept(rest, counts, c);
-    let clocks_right = within & (clocks_zero & kept);
-    at_locations & (locations_zero & (flags_zero & (variables_zero & clocks_right)))
+    at_locations & (locations_zero & (flags_zero & (variables_zero & (within & clocks_zero))))
+}
+
+// Whether c is a configuration of the network.
+pub fn is_configuration(rest: &[u8], counts: Counts, c: Configuration) -> bool
+    ensures { λ r. ⌜ ((n : Network) → Located (now (rest .entry)) counts n → r ≡ isConfiguration n c) ⌝ }
+{
+    let standing = stands(rest, counts, c);
+    standing & bounds_kept(rest, counts, c)
 }

@@ -4,10 +4,11 @@ ghost use Prim.Native.Nat.{_+_, _<_};
 ghost use lib.Dec.{eqb};
 ghost use Rattle.reading.specs.Reading.{byte, many, recorded, skipped};
 ghost use Rattle.reading.specs.Places.{onward, reached};
-ghost use Rattle.clocks.specs.Clocks.{row, keeps, rowLeft};
+ghost use Rattle.clocks.specs.Clocks.{leftWhere, row, keeps, rowLeft};
 ghost use Rattle.network_records.specs.Network.{Network, location, locationAt, urgentAt};
 ghost use Rattle.network_records.specs.Layout.{locationPlace, Located};
 use crate::header::Counts;
+use clocks::left::Left;
 use reading::field::ByteRead;
 use reading::field::Frame;
 use reading::field::Reached;
@@ -122,14 +123,14 @@ pub fn keeps_bounds(rest: &[u8], counts: Counts, i: u8, clocks: [u32; 8]) -> boo
     }
 }
 
-// The ticks left for clocks under the bounds of location i, and `ticks` at most.
-pub fn left_under(rest: &[u8], counts: Counts, i: u8, clocks: [u32; 8], ticks: u32) -> u32
-    ensures { λ r. ⌜ ((n : Network) → Located (now (rest .entry)) counts n → r ≡ rowLeft (n .clocks) (locationAt n i .bounds) clocks ticks) ⌝ }
+// The ticks left for clocks under the bounds of location i, and `ticks` at most, or that they break one.
+pub fn left_under(rest: &[u8], counts: Counts, i: u8, clocks: [u32; 8], ticks: u32) -> Left
+    ensures { λ r. ⌜ ((n : Network) → Located (now (rest .entry)) counts n → r ≡ leftWhere (keeps (locationAt n i .bounds) clocks) (rowLeft (n .clocks) (locationAt n i .bounds) clocks ticks)) ⌝ }
 {
     if i < counts.locations {
         let bounds = bounds_of(rest, counts, i);
-        clocks::left::row_left(counts.clocks as usize, bounds, clocks, ticks)
+        clocks::left::under_row(counts.clocks as usize, bounds, clocks, ticks)
     } else {
-        ticks
+        Left::Ticks(ticks)
     }
 }

@@ -1,9 +1,9 @@
 use native.Mathlib.Omega.{arith}
 use borrow.Author.Needs.{needs}
 use mathlib.Core.Path.{_≡_, refl, ap, ap₂, _∙_}
-use Prim.Native.Nat.{ℕ, _-_, _≤_, min}
-use lib.ListN.{length, getD}
-use Rattle.clocks.specs.Clocks.{ticksLeft, fewest, rowLeft}
+use Prim.Native.Nat.{_-_, _≤_, min}
+use lib.ListN.{length}
+use Rattle.clocks.specs.Clocks.{fewest, rowLeft}
 use Rattle.clocks.proofs.Ticks.{row-left-more, row-left-min}
 use Rattle.clocks.proofs.left.row_left.Statement.{statement}
 use Rattle.clocks.proofs.left.row_left.Tie as tie

@@ -1,41 +1,45 @@
 use mathlib.Core.Path.{sym, ap, _∙_}
-use borrow.Author.Tests.{not-true, not-false}
 use Rattle.clocks.specs.Longest.{told}
 use Rattle.clocks.specs.declared.left.Longest.the-variants as Lo
+use Rattle.clocks.proofs.Ticks.{was-kept, was-broken}
 use Rattle.network_machine.proofs.Waits.{longest-elsewhere, longest-urgent, longest-ticks}
 use borrow.Author.Needs.{needs}
 use Rattle.network_machine.proofs.longest.longest_checked.Statement.{statement}
 use Rattle.network_machine.proofs.longest.longest_checked.Tie as tie
 
-is-configuration-requires : tie.Need-is-configuration-requires
-is-configuration-requires c κs = search needs
+ticks-left-requires : tie.Need-ticks-left-requires
+ticks-left-requires c κs = search needs
+
+enum-known-left : tie.Need-enum-known-left
+enum-known-left c = search needs
+
+enum-told : tie.Need-enum-told
+enum-told c = search needs
 
 returns : tie.Need-returns
-returns c = λ n L. ap told (sym (longest-elsewhere n _ (sym (c .before .is-configuration .ensures n L) ∙ not-true _ (c .if1 .taken))))
+returns c = λ n L. ap told (sym (longest-elsewhere n _ (was-broken _ _ (sym (c .enum-told .given .1) ∙ c .before .before .ticks-left .ensures n L))))
 
 urgent-requires : tie.Need-urgent-requires
 urgent-requires c κs = search needs
 
 returns-2 : tie.Need-returns-2
-returns-2 c = λ n L. let k = c .before .before in
-    let h = sym (k .before .is-configuration .ensures n L) ∙ not-false _ (k .if1 .left) in
-    ap told (sym (longest-urgent n _ h (sym (c .before .urgent .ensures n L) ∙ c .if2 .taken)))
-
-ticks-under-requires : tie.Need-ticks-under-requires
-ticks-under-requires c κs = search needs
+returns-2 c = λ n L. let k = c .before .before .before in
+    let w = was-kept _ _ (sym (k .left .given .1) ∙ k .before .before .ticks-left .ensures n L) in
+    ap told (sym (longest-urgent n _ (w .0) (sym (c .before .urgent .ensures n L) ∙ c .if1 .taken)))
 
 returns-3 : tie.Need-returns-3
 returns-3 c = λ n L. let k = c .before .before .before in
-    let h = sym (k .before .is-configuration .ensures n L) ∙ not-false _ (k .if1 .left) in
-    ap Lo.Ticks (c .ticks-under .ensures n L) ∙ ap told (sym (longest-ticks n _ h (sym (c .before .before .urgent .ensures n L) ∙ c .before .if2 .left)))
+    let w = was-kept _ _ (sym (k .left .given .1) ∙ k .before .before .ticks-left .ensures n L) in
+    ap Lo.Ticks (w .1) ∙ ap told (sym (longest-ticks n _ (w .0) (sym (c .before .urgent .ensures n L) ∙ c .if1 .left)))
 
 pub longest-checked-spec : {M : Type 1} → statement M
 longest-checked-spec =
     tie.close
     (tie.spec
-    is-configuration-requires
+    ticks-left-requires
+    enum-known-left
+    enum-told
     returns
     urgent-requires
     returns-2
-    ticks-under-requires
     returns-3)

@@ -1,64 +1,18 @@
-use mathlib.Core.Path.{sym, ap, ap₂, _∙_}
+use mathlib.Core.Path.{ap₂, _∙_}
 use mathlib.Core.Bool.{_&&_}
-use Prim.Native.Nat.{ℕ}
-use Rattle.clocks.specs.Clocks.{inLimit, zeroPast, zerosPast}
-use Rattle.network_moves.specs.Machine.{isConfiguration}
+use Rattle.network_moves.proofs.Stands.{configuration-is}
 use borrow.Author.Needs.{needs}
 use Rattle.network_moves.proofs.configuration.is_configuration.Statement.{statement}
 use Rattle.network_moves.proofs.configuration.is_configuration.Tie as tie
 
-cast-automata : tie.Need-cast-automata
-cast-automata c = search needs
-
-cast-timed : tie.Need-cast-timed
-cast-timed c = search needs
-
-at-own-locations-requires : tie.Need-at-own-locations-requires
-at-own-locations-requires c κs = search needs
-
-zero-bytes-past-requires : tie.Need-zero-bytes-past-requires
-zero-bytes-past-requires c κs = search needs
-
-zero-bytes-past-requires-2 : tie.Need-zero-bytes-past-requires-2
-zero-bytes-past-requires-2 c κs = search needs
-
-cast-zeros-past : tie.Need-cast-zeros-past
-cast-zeros-past c = search needs
-
-zeros-past-requires : tie.Need-zeros-past-requires
-zeros-past-requires c κs = search needs
-
-in-limit-requires : tie.Need-in-limit-requires
-in-limit-requires c κs = search needs
-
-zero-past-requires : tie.Need-zero-past-requires
-zero-past-requires c κs = search needs
+stands-requires : tie.Need-stands-requires
+stands-requires c κs = search needs
 
 bounds-kept-requires : tie.Need-bounds-kept-requires
 bounds-kept-requires c κs = search needs
 
 returns : tie.Need-returns
-unfolding isConfiguration
-returns c = λ n L. let a = c .before .before .before .before .before .before .before .before .before .before .before .before .before .before .before .args in
-    ap₂ _&&_ (c .before .before .before .before .before .before .before .at-own-locations .ensures n L)
-    (ap₂ _&&_ (c .before .before .before .before .before .before .zero-bytes-past .ensures ∙ ap (λ (m : ℕ). zeroPast m (a .c .locations)) (sym (L .automata)))
-    (ap₂ _&&_ (c .before .before .before .before .before .zero-bytes-past2 .ensures ∙ ap (λ (m : ℕ). zeroPast m (a .c .flags)) (sym (L .automata)))
-    (ap₂ _&&_ (c .before .before .before .zeros-past .ensures ∙ ap (λ (m : ℕ). zerosPast m (a .c .variables)) (sym (L .variables)))
-    (ap₂ _&&_ (c .before .before .in-limit .ensures ∙ ap (λ (m : ℕ). inLimit m (a .c .clocks)) (sym (L .clocks)))
-    (ap₂ _&&_ (c .before .zero-past .ensures ∙ ap (λ (m : ℕ). zeroPast m (a .c .clocks)) (sym (L .clocks))) (c .bounds-kept .ensures n L))))))
+returns c = λ n L. ap₂ _&&_ (c .before .stands .ensures n L) (c .bounds-kept .ensures n L) ∙ configuration-is n _
 
 pub is-configuration-spec : {M : Type 1} → statement M
-is-configuration-spec =
-    tie.close
-    (tie.spec
-    cast-automata
-    cast-timed
-    at-own-locations-requires
-    zero-bytes-past-requires
-    zero-bytes-past-requires-2
-    cast-zeros-past
-    zeros-past-requires
-    in-limit-requires
-    zero-past-requires
-    bounds-kept-requires
-    returns)
+is-configuration-spec = tie.close (tie.spec stands-requires bounds-kept-requires returns)

@@ -1,7 +1,8 @@
 use mathlib.Core.Path.{sym, ap, ap₂, _∙_}
 use mathlib.Core.List.{List}
 use Prim.Native.Nat.{ℕ}
-use Rattle.clocks.specs.Clocks.{rowLeft}
+use Rattle.clocks.specs.Clocks.{leftWhere, keeps, rowLeft}
+use Rattle.clocks.specs.declared.left.Left.the-variants as Le
 use Rattle.clocks.proofs.Ticks.{row-left-none}
 use Rattle.network_records.specs.Network.{Location}
 use Rattle.network_records.proofs.Records.{no-location}
@@ -12,22 +13,25 @@ use Rattle.network_records.proofs.location.left_under.Tie as tie
 bounds-of-requires : tie.Need-bounds-of-requires
 bounds-of-requires c κs = search needs
 
-cast-row-left : tie.Need-cast-row-left
-cast-row-left c = search needs
+cast-under-row : tie.Need-cast-under-row
+cast-under-row c = search needs
 
-row-left-requires : tie.Need-row-left-requires
-row-left-requires c κs = search needs
+under-row-requires : tie.Need-under-row-requires
+under-row-requires c κs = search needs
 
 returns : tie.Need-returns
 returns c = λ n L. let a = c .before .before .before .before .before .before .args in
     let at-bounds = c .before .before in
-    c .row-left .ensures
-    ∙ ap₂ (λ (k : ℕ) (b : List ℕ). rowLeft k b (a .clocks) (a .ticks)) (sym (L .clocks)) (at-bounds .bounds-of .ensures n L (at-bounds .before .if1 .taken))
+    c .under-row .ensures
+    ∙ ap₂ (λ (k : ℕ) (b : List ℕ). leftWhere (keeps b (a .clocks)) (rowLeft k b (a .clocks) (a .ticks))) (sym (L .clocks))
+    (at-bounds .bounds-of .ensures n L (at-bounds .before .if1 .taken))
 
 returns-2 : tie.Need-returns-2
+unfolding keeps
 returns-2 c = λ n L. let a = c .before .before .before .args in
-    sym (ap (λ (l : Location). rowLeft (n .clocks) (l .bounds) (a .clocks) (a .ticks)) (no-location L (c .if1 .left)) ∙ row-left-none _ _ _)
+    sym (ap (λ (l : Location). leftWhere (keeps (l .bounds) (a .clocks)) (rowLeft (n .clocks) (l .bounds) (a .clocks) (a .ticks))) (no-location L (c .if1 .left))
+    ∙ ap Le.Ticks (row-left-none _ _ _))
 
 pub left-under-spec : {M : Type 1} → statement M
 left-under-spec =
-    tie.close (tie.spec bounds-of-requires cast-row-left row-left-requires returns returns-2)
+    tie.close (tie.spec bounds-of-requires cast-under-row under-row-requires returns returns-2)
