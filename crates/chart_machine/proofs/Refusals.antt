@@ -1,6 +1,6 @@
 -- The refusals of a step, of a wait and of the longest wait, in order.
-use mathlib.Core.Path.{_≡_, sym, ap, _∙_}
-use mathlib.Core.Bool.{Bool, true, false}
+use mathlib.Core.Path.{_≡_, refl, sym, ap, _∙_}
+use mathlib.Core.Bool.{Bool, true, false, _&&_}
 use mathlib.Core.Logic.{_≢_}
 use mathlib.Core.List.{List, map}
 use Prim.Native.Nat.{ℕ, _≤_}
@@ -8,19 +8,37 @@ use native.Mathlib.Omega.{arith}
 use borrow.Author.Tests.{lt-leb, le-leb}
 use lib.ListN.{length}
 use Rattle.lists.specs.Lists.{all}
-use Rattle.clocks.specs.Clocks.{limitLeft, later, inLimit}
+use Rattle.clocks.specs.Clocks.{limitLeft, later, inLimit, zeroPast, zerosPast}
 use Rattle.steps.specs.Moves.{known, allowed}
 use Rattle.reading.specs.Answer.{done, refused, unless}
 use Rattle.chart_records.specs.Chart.{Chart, transitionAt, states, home}
-use Rattle.chart_moves.specs.Machine.{boundsKept, isConfiguration, activeTransition, after, tested, step, wait, ticksUnder, longest}
+use Rattle.chart_moves.specs.Machine.{isTree, boundsKept, isConfiguration, activeTransition, after, tested, step, wait, ticksUnder, longest}
 use Rattle.chart.specs.Ready.{Ready}
-use Rattle.chart_machine.specs.Outcomes.{Grown}
+use Rattle.chart_machine.specs.Outcomes.{stands, Grown}
 use Rattle.chart_records.specs.declared.header.Counts.{Counts}
 use Rattle.chart_tree.specs.declared.table.Tree.{Tree}
 use Rattle.chart_moves.specs.declared.configuration.Configuration.{Configuration}
 
 pub grown-of : {rest : List ℕ} {n : Counts} {offsets : List ℕ} {tree : Tree} {c : Chart} → Ready rest n offsets tree c → Grown rest n tree c
 grown-of R = record { stated = R .laid .stated; tabled = R .tabled; parents = R .parents }
+
+-- 17: what stands in the chart and keeps its bounds
+last : (a b c d k : Bool) → ((a && (b && (c && d))) && k) ≡ (a && (b && (c && (d && k))))
+last false b c d k = refl
+last true false c d k = refl
+last true true false d k = refl
+last true true true d k = refl
+
+module _ (c : Chart) (σ : Configuration) where
+  configuration-is : (stands c σ && boundsKept c σ) ≡ isConfiguration c σ
+  unfolding stands isConfiguration
+  configuration-is = last (isTree c σ) (zerosPast (c .variables) (σ .variables)) (inLimit (c .clocks) (σ .clocks)) (zeroPast (c .clocks) (σ .clocks)) (boundsKept c σ)
+
+  pub stands-not : stands c σ ≡ false → isConfiguration c σ ≡ false
+  stands-not h = sym configuration-is ∙ ap (λ (b : Bool). b && boundsKept c σ) h
+
+  pub stands-bounds : stands c σ ≡ true → boundsKept c σ ≡ isConfiguration c σ
+  stands-bounds h = sym (ap (λ (b : Bool). b && boundsKept c σ) h) ∙ configuration-is
 
 -- 21
 module _ (c : Chart) (τ : Configuration) where

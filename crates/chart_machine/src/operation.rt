@@ -1,15 +1,16 @@
 // The chart machine: start, step, wait and the longest wait.
 ghost use mathlib.Core.Path.{_≡_};
 ghost use Prim.Native.Nat.{_<_};
+ghost use Rattle.clocks.specs.Clocks.{leftWhere, limitLeft};
 ghost use Rattle.clocks.specs.Longest.{told};
-ghost use Rattle.chart_records.specs.Chart.{Chart};
+ghost use Rattle.chart_records.specs.Chart.{Chart, states};
 ghost use Rattle.chart_records.specs.Layout.{Stated};
-ghost use Rattle.chart_moves.specs.Machine.{boundsKept, isConfiguration, tested, step, wait, longest, startOf, stepOf, waitOf, longestOf};
-ghost use Rattle.chart_machine.specs.Outcomes.{outcomeOf, zeroConfiguration, boundKept, Grown};
+ghost use Rattle.chart_moves.specs.Machine.{boundsKept, isConfiguration, tested, step, wait, ticksUnder, longest, startOf, stepOf, waitOf, longestOf};
+ghost use Rattle.chart_machine.specs.Outcomes.{outcomeOf, zeroConfiguration, boundKept, stands, Grown};
 ghost use Rattle.chart_moves.specs.declared.configuration.Configuration.{Configuration as Given};
 ghost use Rattle.chart.specs.Ready.{Ready};
 ghost use Rattle.reading.specs.Answer.{refused};
-use crate::ticks::ticks_under;
+use crate::ticks::bounds_left;
 use chart::check::checked;
 use chart_moves::activity::is_tree;
 use chart_moves::allowed::all_active;
@@ -20,6 +21,7 @@ use chart_records::header::Counts;
 use chart_records::state::bounds_of;
 use chart_tree::table::Tree;
 use chart_tree::table::is_in;
+use clocks::left::Left;
 use clocks::left::Longest;
 use reading::verdict::Verdict;
 use reading::verdict::number_of;
@@ -55,9 +57,9 @@ fn bounds_kept(rest: &[u8], counts: Counts, active: [bool; 48], clocks: [u32; 8]
     true
 }
 
-// 17
-fn is_configuration(rest: &[u8], counts: Counts, tree: Tree, given: Configuration) -> bool
-    ensures { λ r. ⌜ ((c : Chart) → Grown (now (rest .entry)) counts tree c → r ≡ isConfiguration c given) ⌝ }
+// 17 but for the bounds.
+fn stands(rest: &[u8], counts: Counts, tree: Tree, given: Configuration) -> bool
+    ensures { λ r. ⌜ ((c : Chart) → Grown (now (rest .entry)) counts tree c → r ≡ stands c given) ⌝ }
 {
     let active = given.active;
     let variables = given.variables;
@@ -71,9 +73,18 @@ fn is_configuration(rest: &[u8], counts: Counts, tree: Tree, given: Configuratio
     if !clocks::clock::in_limit(counts.clocks as usize, clocks) {
         return false;
     }
-    if !clocks::clock::zero_past(counts.clocks as usize, clocks) {
+    clocks::clock::zero_past(counts.clocks as usize, clocks)
+}
+
+// 17
+fn is_configuration(rest: &[u8], counts: Counts, tree: Tree, given: Configuration) -> bool
+    ensures { λ r. ⌜ ((c : Chart) → Grown (now (rest .entry)) counts tree c → r ≡ isConfiguration c given) ⌝ }
+{
+    if !stands(rest, counts, tree, given) {
         return false;
     }
+    let active = given.active;
+    let clocks = given.clocks;
     bounds_kept(rest, counts, active, clocks)
 }
 
@@ -161,16 +172,27 @@ fn wait_checked(
     tested(rest, counts, given, moved)
 }
 
+// The ticks left in a configuration of the chart, by the same look at its bounds that tells whether it is one.
+fn ticks_left(rest: &[u8], counts: Counts, tree: Tree, given: Configuration) -> Left
+    ensures { λ r. ⌜ ((c : Chart) → Grown (now (rest .entry)) counts tree c → r ≡ leftWhere (isConfiguration c given) (ticksUnder c given (states c) (limitLeft (c .clocks) (given .clocks)))) ⌝ }
+{
+    if !stands(rest, counts, tree, given) {
+        return Left::Broken;
+    }
+    let active = given.active;
+    let clocks = given.clocks;
+    bounds_left(rest, counts, active, clocks)
+}
+
 // How long a wait may be.
 fn longest_checked(rest: &[u8], counts: Counts, tree: Tree, given: Configuration) -> Longest
     ensures { λ r. ⌜ ((c : Chart) → Grown (now (rest .entry)) counts tree c → r ≡ told (longest c given)) ⌝ }
 {
-    if !is_configuration(rest, counts, tree, given) {
-        return Longest::Refused(17);
+    let left = ticks_left(rest, counts, tree, given);
+    match left {
+        Left::Ticks(ticks) => Longest::Ticks(ticks),
+        Left::Broken => Longest::Refused(17),
     }
-    let active = given.active;
-    let clocks = given.clocks;
-    Longest::Ticks(ticks_under(rest, counts, active, clocks))
 }
 
 fn zero_configuration() -> Configuration

@@ -1,16 +1,16 @@
 -- The chart machine: start, step, wait and the longest wait.
-use Prim.Native.Nat.{ℕ, zero, suc, _+_, _*_, _-_, _^_}
-use mathlib.Core.Bool.{Bool, true, false, cond, not, _&&_, _||_}
-use mathlib.Core.List.{List, [], _∷_, _++_, map}
-use lib.IntN.{ℤ, pos}
+use Prim.Native.Nat.{ℕ}
+use mathlib.Core.Bool.{Bool, false, cond, not, _&&_, _||_}
+use mathlib.Core.List.{List, [], _∷_, map}
+use lib.IntN.{pos}
 use lib.Dec.{leb, ltb, eqb}
 use lib.ListN.{getD, length, replicate, drop}
 use Rattle.lists.specs.Lists.{has, all, any, below, keep, implies}
-use Rattle.labels.specs.Label.{Label, guardsHold}
+use Rattle.labels.specs.Label.{guardsHold}
 use Rattle.clocks.specs.Clocks.{keeps, rowLeft, limitLeft, later, inLimit, zeroPast, zerosPast}
 use Rattle.steps.specs.Moves.{known, allowed, variablesAfter, clocksAfter}
-use Rattle.reading.specs.Answer.{Answer, done, refused, unless, _>>=_}
-use Rattle.chart_records.specs.Chart.{Chart, State, Transition, stateAt, transitionAt, states, parentOf, basic, sequential, parallel, home}
+use Rattle.reading.specs.Answer.{Answer, done, unless, _>>=_}
+use Rattle.chart_records.specs.Chart.{Chart, Transition, stateAt, transitionAt, states, parentOf, basic, sequential, parallel, home}
 use Rattle.chart_records.specs.Tree.{under, children, entered}
 use Rattle.chart_records.specs.Rules.{chartOf}
 use Rattle.chart_moves.specs.declared.configuration.Configuration.{Configuration}

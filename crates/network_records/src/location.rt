@@ -12,7 +12,6 @@ use clocks::left::Left;
 use reading::field::ByteRead;
 use reading::field::Frame;
 use reading::field::Reached;
-use reading::field::WordRead;
 
 // The content of a location's record.
 fn read_location(s: &[u8], at: usize, automata: u8, clocks: u8) -> Reached

@@ -1,128 +1,26 @@
 use mathlib.Core.Path.{refl, sym, _∙_}
 use borrow.Author.Tests.{not-true, not-false}
-use Rattle.chart_records.specs.Chart.{stateAt, states}
-use Rattle.chart_moves.specs.Machine.{isConfiguration, boundsKept}
+use Rattle.chart_machine.proofs.Refusals.{stands-not, stands-bounds}
 use borrow.Author.Needs.{needs}
 use Rattle.chart_machine.proofs.operation.is_configuration.Statement.{statement}
 use Rattle.chart_machine.proofs.operation.is_configuration.Tie as tie
 
-is-tree-requires : tie.Need-is-tree-requires
-is-tree-requires c κs = search needs
+stands-requires : tie.Need-stands-requires
+stands-requires c κs = search needs
 
 returns : tie.Need-returns
-unfolding isConfiguration
-returns c = λ k G. rw (sym (c .before .is-tree .ensures k (c .before .before .before .before .before .before .args .given) (G .tabled) (G .parents) refl) ∙ not-true _ (c .if1 .taken))
-
-cast-zeros-past : tie.Need-cast-zeros-past
-cast-zeros-past c = search needs
-
-zeros-past-requires : tie.Need-zeros-past-requires
-zeros-past-requires c κs = search needs
-
-returns-2 : tie.Need-returns-2
-unfolding isConfiguration
-returns-2 c =
-    let place-1 = c .before .before .before in
-    let if1 = place-1 .if1 in
-    let is-tree = place-1 .before .is-tree in
-    let args = place-1 .before .before .before .before .before .before .args in
-    λ k G. rw (
-      sym (is-tree .ensures k (args .given) (G .tabled) (G .parents) refl) ∙ not-false _ (if1 .left),
-      G .stated .variables,
-      sym (c .before .zeros-past .ensures) ∙ not-true _ (c .if2 .taken),
-    )
-
-cast-in-limit : tie.Need-cast-in-limit
-cast-in-limit c = search needs
-
-in-limit-requires : tie.Need-in-limit-requires
-in-limit-requires c κs = search needs
-
-returns-3 : tie.Need-returns-3
-unfolding isConfiguration
-returns-3 c =
-    let place-1 = c .before .before .before in
-    let if2 = place-1 .if2 in
-    let zeros-past = place-1 .before .zeros-past in
-    let place-2 = place-1 .before .before .before in
-    let if1 = place-2 .if1 in
-    let is-tree = place-2 .before .is-tree in
-    let args = place-2 .before .before .before .before .before .before .args in
-    λ k G. rw (
-      sym (is-tree .ensures k (args .given) (G .tabled) (G .parents) refl) ∙ not-false _ (if1 .left),
-      G .stated .variables,
-      sym (zeros-past .ensures) ∙ not-false _ (if2 .left),
-      G .stated .clocks,
-      sym (c .before .in-limit .ensures) ∙ not-true _ (c .if3 .taken),
-    )
-
-cast-zero-past : tie.Need-cast-zero-past
-cast-zero-past c = search needs
-
-zero-past-requires : tie.Need-zero-past-requires
-zero-past-requires c κs = search needs
-
-returns-4 : tie.Need-returns-4
-unfolding isConfiguration
-returns-4 c =
-    let place-1 = c .before .before .before in
-    let if3 = place-1 .if3 in
-    let in-limit = place-1 .before .in-limit in
-    let place-2 = place-1 .before .before .before in
-    let if2 = place-2 .if2 in
-    let zeros-past = place-2 .before .zeros-past in
-    let place-3 = place-2 .before .before .before in
-    let if1 = place-3 .if1 in
-    let is-tree = place-3 .before .is-tree in
-    let args = place-3 .before .before .before .before .before .before .args in
-    λ k G. rw (
-      sym (is-tree .ensures k (args .given) (G .tabled) (G .parents) refl) ∙ not-false _ (if1 .left),
-      G .stated .variables,
-      sym (zeros-past .ensures) ∙ not-false _ (if2 .left),
-      G .stated .clocks,
-      sym (in-limit .ensures) ∙ not-false _ (if3 .left),
-      sym (c .before .zero-past .ensures) ∙ not-true _ (c .if4 .taken),
-    )
+returns c = λ k G. sym (stands-not k _ (sym (c .before .stands .ensures k G) ∙ not-true _ (c .if1 .taken)))
 
 bounds-kept-requires : tie.Need-bounds-kept-requires
 bounds-kept-requires c κs = search needs
 
-returns-5 : tie.Need-returns-5
-unfolding isConfiguration boundsKept stateAt states
-returns-5 c =
-    let place-1 = c .before .before .before .before in
-    let if3 = place-1 .if3 in
-    let in-limit = place-1 .before .in-limit in
-    let place-2 = place-1 .before .before .before in
-    let if2 = place-2 .if2 in
-    let zeros-past = place-2 .before .zeros-past in
-    let place-3 = place-2 .before .before .before in
-    let if1 = place-3 .if1 in
-    let is-tree = place-3 .before .is-tree in
-    let args = place-3 .before .before .before .before .before .before .args in
-    λ k G. rw (
-      sym (is-tree .ensures k (args .given) (G .tabled) (G .parents) refl) ∙ not-false _ (if1 .left),
-      G .stated .variables,
-      sym (zeros-past .ensures) ∙ not-false _ (if2 .left),
-      G .stated .clocks,
-      sym (in-limit .ensures) ∙ not-false _ (if3 .left),
-      sym (c .before .before .zero-past .ensures) ∙ not-false _ (c .before .if4 .left),
-    ) (c .bounds-kept .ensures k (args .given) (G .stated) refl refl)
+returns-2 : tie.Need-returns-2
+returns-2 c = λ k G.
+    let place = c .before .before .before in
+    let given = place .before .before .before .args .given in
+    c .bounds-kept .ensures k given (G .stated) refl refl
+    ∙ stands-bounds k given (sym (place .before .stands .ensures k G) ∙ not-false _ (place .if1 .left))
 
 pub is-configuration-spec : {M : Type 1} → statement M
 is-configuration-spec =
-    tie.close
-    (tie.spec
-    is-tree-requires
-    returns
-    cast-zeros-past
-    zeros-past-requires
-    returns-2
-    cast-in-limit
-    in-limit-requires
-    returns-3
-    cast-zero-past
-    zero-past-requires
-    returns-4
-    bounds-kept-requires
-    returns-5)
+    tie.close (tie.spec stands-requires returns bounds-kept-requires returns-2)

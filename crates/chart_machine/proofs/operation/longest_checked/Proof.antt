@@ -1,28 +1,30 @@
-use mathlib.Core.Path.{refl, sym, ap, _∙_}
-use borrow.Author.Tests.{not-true, not-false}
+use mathlib.Core.Path.{sym, ap, _∙_}
 use Rattle.clocks.specs.Longest.{told}
 use Rattle.clocks.specs.declared.left.Longest.the-variants as Lo
+use Rattle.clocks.proofs.Ticks.{was-kept, was-broken}
 use Rattle.chart_machine.proofs.Refusals.{longest-elsewhere, longest-ticks}
 use borrow.Author.Needs.{needs}
 use Rattle.chart_machine.proofs.operation.longest_checked.Statement.{statement}
 use Rattle.chart_machine.proofs.operation.longest_checked.Tie as tie
 
-is-configuration-requires : tie.Need-is-configuration-requires
-is-configuration-requires c κs = search needs
+ticks-left-requires : tie.Need-ticks-left-requires
+ticks-left-requires c κs = search needs
+
+enum-known-left : tie.Need-enum-known-left
+enum-known-left c = search needs
+
+enum-told : tie.Need-enum-told
+enum-told c = search needs
 
 returns : tie.Need-returns
-returns c = λ k G. ap told (sym (longest-elsewhere k _ (sym (c .before .is-configuration .ensures k G) ∙ not-true _ (c .if1 .taken))))
-
-ticks-under-requires : tie.Need-ticks-under-requires
-ticks-under-requires c κs = search needs
+returns c = λ k G.
+    let place = c .before in
+    let w = was-kept _ _ (sym (place .left .given .1) ∙ place .before .before .ticks-left .ensures k G) in
+    ap Lo.Ticks (w .1) ∙ ap told (sym (longest-ticks k _ (w .0)))
 
 returns-2 : tie.Need-returns-2
-returns-2 c = λ k G.
-    let place = c .before .before .before in
-    let given = place .before .before .before .args .given in
-    let h = sym (place .before .is-configuration .ensures k G) ∙ not-false _ (place .if1 .left) in
-    ap Lo.Ticks (c .ticks-under .ensures k given (G .stated) refl refl) ∙ ap told (sym (longest-ticks k given h))
+returns-2 c = λ k G. ap told (sym (longest-elsewhere k _ (was-broken _ _ (sym (c .enum-told .given .1) ∙ c .before .before .ticks-left .ensures k G))))
 
 pub longest-checked-spec : {M : Type 1} → statement M
 longest-checked-spec =
-    tie.close (tie.spec is-configuration-requires returns ticks-under-requires returns-2)
+    tie.close (tie.spec ticks-left-requires enum-known-left enum-told returns returns-2)

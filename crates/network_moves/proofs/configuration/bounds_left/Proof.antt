@@ -1,6 +1,6 @@
-use mathlib.Core.Path.{_≡_, refl, sym, ap, ap₂, _∙_}
-use mathlib.Core.Bool.{Bool, true, false}
-use mathlib.Core.List.{List, [], _∷_}
+use mathlib.Core.Path.{_≡_, refl, sym, ap, _∙_}
+use mathlib.Core.Bool.{Bool}
+use mathlib.Core.List.{List, _∷_}
 use Prim.Native.Nat.{ℕ, _-_}
 use lib.ListN.{drop}
 use Rattle.lists.specs.Lists.{all, below}
@@ -46,9 +46,9 @@ limit-left-requires c κs = search needs
 loop-holds : tie.Need-loop-holds Inv-loop μ-loop
 unfolding boundsKept
 loop-holds c = λ n L. let a = c .before .before .before .before .args in (
-      refl,
-      ap (ticksUnder n (a .c) (below (n .automata))) (ap (λ (k : ℕ). limitLeft k (a .c .clocks)) (L .clocks) ∙ sym (c .limit-left .ensures)),
-    )
+  refl,
+  ap (ticksUnder n (a .c) (below (n .automata))) (ap (λ (k : ℕ). limitLeft k (a .c .clocks)) (L .clocks) ∙ sym (c .limit-left .ensures)),
+)
 
 place-requires : tie.Need-place-requires Inv-loop μ-loop
 place-requires c κs = search needs
