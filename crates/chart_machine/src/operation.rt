@@ -135,7 +135,12 @@ fn step_checked(
     if !is_allowed(rest, counts, offsets, tree, given, list) {
         return refuse(20, given);
     }
-    let next = taken::after(rest, counts, offsets, tree, given, list);
+    let after = taken::after(rest, counts, offsets, tree, given, list);
+    let within = after.within;
+    if !within {
+        return refuse(28, given);
+    }
+    let next = after.configuration;
     tested(rest, counts, given, next)
 }
 

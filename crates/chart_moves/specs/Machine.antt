@@ -8,7 +8,7 @@ use lib.ListN.{getD, length, replicate, drop}
 use Rattle.lists.specs.Lists.{has, all, any, below, keep, implies}
 use Rattle.labels.specs.Label.{guardsHold}
 use Rattle.clocks.specs.Clocks.{keeps, rowLeft, limitLeft, later, inLimit, zeroPast, zerosPast}
-use Rattle.steps.specs.Moves.{known, allowed, variablesAfter, clocksAfter}
+use Rattle.steps.specs.Moves.{known, allowed, allStay, variablesAfter, clocksAfter}
 use Rattle.reading.specs.Answer.{Answer, done, unless, _>>=_}
 use Rattle.chart_records.specs.Chart.{Chart, Transition, stateAt, transitionAt, states, parentOf, basic, sequential, parallel, home}
 use Rattle.chart_records.specs.Tree.{under, children, entered}
@@ -79,7 +79,8 @@ step c σ ms =
     (unless 18 (known (length (c .transitions)) ms)
     (unless 19 (all (activeTransition c σ) ts)
     (unless 20 (allowed (λ m. transitionAt c m .label) (home c) (λ m. activeTransition c σ (transitionAt c m)) (length (c .transitions)) (c .rendezvous) ms)
-    (tested c (after c ts σ)))))
+    (unless 28 (allStay (map (λ t. t .label) ts) (σ .variables))
+    (tested c (after c ts σ))))))
 
 unfoldable pub wait : Chart → Configuration → ℕ → Answer Configuration
 wait c σ d =

@@ -2,7 +2,7 @@
 ghost use mathlib.Core.Path.{_≡_};
 ghost use mathlib.Core.Bool.{true};
 ghost use mathlib.Core.List.{map};
-ghost use Rattle.steps.specs.Moves.{known, variablesAfter, clocksAfter};
+ghost use Rattle.steps.specs.Moves.{known, allStay, variablesAfter, clocksAfter};
 ghost use Rattle.chart_records.specs.Chart.{Chart, transitionAt};
 ghost use Rattle.chart_moves.specs.Machine.{after};
 ghost use Rattle.chart_moves.specs.Active.{Moved};
@@ -21,6 +21,7 @@ use chart_records::transition::entry_of;
 use chart_records::transition::resets_of;
 use chart_records::transition::source_of;
 use chart_tree::table::Tree;
+use updates::update::Assigned;
 
 // Where the transitions of a list come from and go to, and by which entries.
 fn moves_of(rest: &[u8], offsets: &[u32], list: &[u16]) -> Moves
@@ -40,16 +41,18 @@ fn moves_of(rest: &[u8], offsets: &[u32], list: &[u16]) -> Moves
     moves
 }
 
-// The variables after the assignments of the transitions, all of which read `old`.
+// The variables after the updates of the transitions, all of which read `old`.
 fn variables_after(
     rest: &[u8],
     counts: Counts,
     offsets: &[u32],
     list: &[u16],
     old: [i32; 16],
-) -> [i32; 16]
-    ensures { λ r. ⌜ ((c : Chart) → Laid (now (rest .entry)) counts (now (offsets .entry)) c → known (counts .transitions) (now (list .entry)) ≡ true → r ≡ variablesAfter (map (λ m. transitionAt c m .label) (now (list .entry))) old) ⌝ }
+) -> Assigned
+    ensures within { λ r. ⌜ ((c : Chart) → Laid (now (rest .entry)) counts (now (offsets .entry)) c → known (counts .transitions) (now (list .entry)) ≡ true → r .within ≡ allStay (map (λ m. transitionAt c m .label) (now (list .entry))) old) ⌝ }
+    ensures values { λ r. ⌜ ((c : Chart) → Laid (now (rest .entry)) counts (now (offsets .entry)) c → known (counts .transitions) (now (list .entry)) ≡ true → r .values ≡ variablesAfter (map (λ m. transitionAt c m .label) (now (list .entry))) old) ⌝ }
 {
+    let mut within = true;
     let mut values = old;
     let mut i = 0;
     while i < list.len() {
@@ -64,10 +67,11 @@ fn variables_after(
             old,
             values,
         );
-        values = next;
+        within = within & next.within;
+        values = next.values;
         i += 1;
     }
-    values
+    Assigned { within, values }
 }
 
 // The clocks, with those at 0 that a transition resets.
@@ -86,7 +90,13 @@ fn clocks_after(rest: &[u8], offsets: &[u32], list: &[u16], clocks: [u32; 8]) ->
     after
 }
 
-// The configuration after the transitions of a list.
+// The configuration after some transitions, and whether their updates stayed in the range.
+pub struct After {
+    pub within: bool,
+    pub configuration: Configuration,
+}
+
+// The same of the transitions of a list.
 pub fn after(
     rest: &[u8],
     counts: Counts,
@@ -94,19 +104,24 @@ pub fn after(
     tree: Tree,
     given: Configuration,
     list: &[u16],
-) -> Configuration
-    ensures { λ r. ⌜ ((c : Chart) → Ready (now (rest .entry)) counts (now (offsets .entry)) tree c → known (counts .transitions) (now (list .entry)) ≡ true → r ≡ after c (map (transitionAt c) (now (list .entry))) given) ⌝ }
+) -> After
+    ensures within { λ r. ⌜ ((c : Chart) → Ready (now (rest .entry)) counts (now (offsets .entry)) tree c → known (counts .transitions) (now (list .entry)) ≡ true → r .within ≡ allStay (map (λ m. transitionAt c m .label) (now (list .entry))) (given .variables)) ⌝ }
+    ensures configuration { λ r. ⌜ ((c : Chart) → Ready (now (rest .entry)) counts (now (offsets .entry)) tree c → known (counts .transitions) (now (list .entry)) ≡ true → r .configuration ≡ after c (map (transitionAt c) (now (list .entry))) given) ⌝ }
 {
     let before = given.active;
     let values = given.variables;
     let times = given.clocks;
     let moves = moves_of(rest, offsets, list);
     let active = active_after(tree, before, moves);
-    let variables = variables_after(rest, counts, offsets, list, values);
+    let assigned = variables_after(rest, counts, offsets, list, values);
+    let variables = assigned.values;
     let clocks = clocks_after(rest, offsets, list, times);
-    Configuration {
-        active,
-        variables,
-        clocks,
+    After {
+        within: assigned.within,
+        configuration: Configuration {
+            active,
+            variables,
+            clocks,
+        },
     }
 }

@@ -6,19 +6,18 @@ ghost use lib.ListN.{length, getD};
 ghost use lib.Dec.{ltb};
 ghost use Rattle.reading.specs.Reading.{byte, byte4, such, mapped, skipped};
 ghost use Rattle.expr.specs.Integer.{signed};
-ghost use Rattle.expr.specs.Expression.{divisor, expression, value, combined, divided};
-ghost use Rattle.reading.specs.Places.{onward, byteOf, byteEnd, wordOf, wordEnd, valueOf, valueEnd, reached, reachedEnd, byteReached, wordReached};
-use crate::signed::difference;
+ghost use Rattle.expr.specs.Value.{divided, valueOf, valueEnd};
+ghost use Rattle.expr.specs.Expression.{divisor, expression, value};
+ghost use Rattle.reading.specs.Places.{onward, byteOf, byteEnd, wordOf, wordEnd, reached, reachedEnd, byteReached, wordReached};
 use crate::signed::is_divisor;
-use crate::signed::product;
-use crate::signed::quotient;
-use crate::signed::remainder;
 use crate::signed::signed;
-use crate::signed::sum;
+use crate::value::Value;
+use crate::value::ValueRead;
+use crate::value::combine;
+use crate::value::divide;
 use reading::field::ByteRead;
 use reading::field::Fault;
 use reading::field::Reached;
-use reading::field::ValueRead;
 use reading::field::WordRead;
 use reading::field::byte_fault;
 use reading::field::read_below;
@@ -48,14 +47,14 @@ fn word_reached(w: WordRead) -> Reached
 
 // The signed number whose bits are the four bytes.
 fn read_signed(s: &[u8], at: usize) -> ValueRead
-    ensures means { λ r. ⌜ valueOf (now (s .entry)) r ≡ mapped signed (byte4 (onward (now (s .entry)) at)) ⌝ }
+    ensures means { λ r. ⌜ valueOf (now (s .entry)) r ≡ mapped (λ x. Value.Number (signed x)) (byte4 (onward (now (s .entry)) at)) ⌝ }
     ensures within { λ r. ⌜ valueEnd r ≤ length (now (s .entry)) ⌝ }
 {
     let w = read_word(s, at);
     let WordRead::Value(x, next) = w else {
         return ValueRead::Fault(word_fault(w));
     };
-    ValueRead::Value(signed(x), next)
+    ValueRead::Value(Value::Number(signed(x)), next)
 }
 
 // A constant of four bytes.
@@ -128,29 +127,18 @@ pub fn variable_value(i: u8, values: [i32; 16]) -> i32
 
 // The value of the variable whose number stands at a place.
 fn evaluate_variable(s: &[u8], at: usize, variables: u8, values: &[i32; 16]) -> ValueRead
-    ensures means { λ r. ⌜ valueOf (now (s .entry)) r ≡ mapped (λ i. getD (now (values .entry)) i (pos 0)) (such byte (λ i. ltb i variables) (onward (now (s .entry)) at)) ⌝ }
+    ensures means { λ r. ⌜ valueOf (now (s .entry)) r ≡ mapped (λ i. Value.Number (getD (now (values .entry)) i (pos 0))) (such byte (λ i. ltb i variables) (onward (now (s .entry)) at)) ⌝ }
     ensures within { λ r. ⌜ valueEnd r ≤ length (now (s .entry)) ⌝ }
 {
     let b = read_below(s, at, variables);
     let ByteRead::Value(i, next) = b else {
         return ValueRead::Fault(byte_fault(b));
     };
-    ValueRead::Value(variable_value(i, *values), next)
-}
-
-// The sum, difference or product, by the code.
-fn combine(code: u8, x: i32, y: i32) -> i32
-    ensures { λ r. ⌜ r ≡ combined code x y ⌝ }
-{
-    match code {
-        2 => sum(x, y),
-        3 => difference(x, y),
-        _ => product(x, y),
-    }
+    ValueRead::Value(Value::Number(variable_value(i, *values)), next)
 }
 
 // The quotient or remainder, by the code, with the divisor that stands at a place.
-fn divide(s: &[u8], at: usize, code: u8, x: i32) -> ValueRead
+fn divide_by(s: &[u8], at: usize, code: u8, x: Value) -> ValueRead
     ensures means { λ r. ⌜ valueOf (now (s .entry)) r ≡ mapped (divided code x) (divisor (onward (now (s .entry)) at)) ⌝ }
     ensures within { λ r. ⌜ valueEnd r ≤ length (now (s .entry)) ⌝ }
 {
@@ -158,11 +146,7 @@ fn divide(s: &[u8], at: usize, code: u8, x: i32) -> ValueRead
     let WordRead::Value(d, next) = w else {
         return ValueRead::Fault(word_fault(w));
     };
-    if code == 5 {
-        ValueRead::Value(quotient(x, d), next)
-    } else {
-        ValueRead::Value(remainder(x, d), next)
-    }
+    ValueRead::Value(divide(code, x, d), next)
 }
 
 // The value of the expression in front of s.
@@ -196,7 +180,7 @@ pub fn evaluate(s: &[u8], levels: u8, variables: u8, values: &[i32; 16]) -> Valu
             let ValueRead::Value(x, n) = first else {
                 return first;
             };
-            divide(s, 1 + n, code, x)
+            divide_by(s, 1 + n, code, x)
         }
         _ => ValueRead::Fault(Fault::Range),
     }

@@ -1,3 +1,4 @@
 // Expressions and guards.
 pub mod expression;
 pub mod signed;
+pub mod value;

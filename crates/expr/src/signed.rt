@@ -1,14 +1,14 @@
-// Signed 32-bit numbers: sums, differences and products that wrap, the floored quotient and remainder, and the relations.
+// Signed 32-bit numbers: the floored quotient and remainder, and the relations.
 // A signed operation is hard to reason about and an unsigned one easy, so a number is taken apart once
 // (`below_zero`, `magnitude`) and put together once (`signed`, `with_sign`).
 ghost use mathlib.Core.Path.{_≡_};
 ghost use mathlib.Core.Bool.{cond, _&&_};
 ghost use Prim.Native.Nat.{_≤_, _<_, _^_};
-ghost use lib.IntN.{pos, negsuc, natAbs, _+ℤ_, _-ℤ_, _*ℤ_};
+ghost use lib.IntN.{pos, negsuc, natAbs, _+ℤ_};
 ghost use lib.Signed.{mag, ltZ, leZ};
 ghost use lib.Dec.{leb};
 ghost use lib.ListN.{getD};
-ghost use Rattle.expr.specs.Integer.{signed, wrap, isDivisor, floorDiv, floorMod};
+ghost use Rattle.expr.specs.Integer.{signed, isDivisor, floorDiv, floorMod};
 ghost use Rattle.expr.specs.Relation.{lt, relations, compareℕ, compareℤ};
 
 fn below_zero(x: i64) -> bool
@@ -18,7 +18,7 @@ fn below_zero(x: i64) -> bool
 }
 
 // n for n and for -(n + 1).
-fn magnitude(x: i64) -> u64
+pub fn magnitude(x: i64) -> u64
     ensures { λ r. ⌜ r ≡ mag x ⌝ }
 {
     if x < 0 { (-1 - x) as u64 } else { x as u64 }
@@ -43,18 +43,6 @@ pub fn signed(u: u32) -> i32
     }
 }
 
-// The low 32 bits of x, read as signed.
-pub fn wrap(x: i64) -> i32
-    ensures { λ r. ⌜ r ≡ wrap x ⌝ }
-{
-    let m = magnitude(x) % 4294967296;
-    if below_zero(x) {
-        signed((4294967295 - m) as u32)
-    } else {
-        signed(m as u32)
-    }
-}
-
 pub fn is_negative(x: i32) -> bool
     ensures { λ r. ⌜ r ≡ ltZ x (pos 0) ⌝ }
 {
@@ -70,24 +58,6 @@ pub fn absolute(x: i32) -> u32
     if below_zero(z) { m + 1 } else { m }
 }
 
-pub fn sum(x: i32, y: i32) -> i32
-    ensures { λ r. ⌜ r ≡ wrap (x +ℤ y) ⌝ }
-{
-    wrap((x as i64) + (y as i64))
-}
-
-pub fn difference(x: i32, y: i32) -> i32
-    ensures { λ r. ⌜ r ≡ wrap (x -ℤ y) ⌝ }
-{
-    wrap((x as i64) - (y as i64))
-}
-
-pub fn product(x: i32, y: i32) -> i32
-    ensures { λ r. ⌜ r ≡ wrap (x *ℤ y) ⌝ }
-{
-    wrap((x as i64) * (y as i64))
-}
-
 // Whether a number can be a divisor.
 pub fn is_divisor(d: u32) -> bool
     ensures { λ r. ⌜ r ≡ isDivisor d ⌝ }
@@ -95,25 +65,15 @@ pub fn is_divisor(d: u32) -> bool
     1 <= d && d < 2147483648
 }
 
-// The number where it is asked for, else 0.
-fn only_where(asked: bool, n: u32) -> u32
-    ensures is { λ r. ⌜ r ≡ cond asked n 0 ⌝ }
-    ensures within { λ r. ⌜ r ≤ n ⌝ }
-{
-    if asked { n } else { 0 }
-}
-
-// The quotient rounded down: below zero its size is rounded up. By what is no divisor it is 0.
+// The quotient rounded down. By what is no divisor it is 0.
 pub fn quotient(x: i32, d: u32) -> i32
     ensures { λ r. ⌜ r ≡ cond (isDivisor d) (floorDiv x d) (pos 0) ⌝ }
 {
     if !is_divisor(d) {
         return 0;
     }
-    let negative = is_negative(x);
-    let size = absolute(x) + only_where(negative, d - 1);
-    let q = (size / d) as i64;
-    if negative { wrap(0 - q) } else { wrap(q) }
+    let m = magnitude(x as i64) as u32;
+    with_sign(is_negative(x), m / d)
 }
 
 // What the quotient of z rounded down leaves. By what is no divisor it is 0.
@@ -138,7 +98,7 @@ pub fn remainder(x: i32, d: u32) -> i32
 }
 
 // The remainder and the numerator of an advance, added exactly.
-fn total(remainder: i32, numerator: u16) -> i64
+pub fn total(remainder: i32, numerator: u16) -> i64
     ensures is { λ r. ⌜ r ≡ remainder +ℤ pos numerator ⌝ }
     ensures within { λ r. ⌜ mag r < 2 ^ 32 ⌝ }
 {
@@ -146,23 +106,13 @@ fn total(remainder: i32, numerator: u16) -> i64
 }
 
 // The quotient of z rounded down.
-fn floored(z: i64, d: u16) -> i64
+pub fn floored(z: i64, d: u16) -> i64
     requires { ⌜ 1 ≤ d ⌝ }
     ensures is { λ r. ⌜ r ≡ floorDiv z d ⌝ }
     ensures within { λ r. ⌜ mag r ≤ mag z ⌝ }
 {
     let q = (magnitude(z) / (d as u64)) as i64;
     if below_zero(z) { -1 - q } else { q }
-}
-
-// The steps after an advance: the whole part is added, and the sum wraps. By a denominator of 0 they stay.
-pub fn steps_after(steps: i32, remainder: i32, numerator: u16, denominator: u16) -> i32
-    ensures { λ r. ⌜ r ≡ cond (leb 1 denominator) (wrap (steps +ℤ floorDiv (remainder +ℤ pos numerator) denominator)) steps ⌝ }
-{
-    if denominator == 0 {
-        return steps;
-    }
-    wrap((steps as i64) + floored(total(remainder, numerator), denominator))
 }
 
 // The remainder after an advance: what the whole part leaves. By a denominator of 0 it is 0.

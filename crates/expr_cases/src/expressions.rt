@@ -1,16 +1,19 @@
 // Expressions, guards, updates and labels, from the bytes of a file.
 use crate::show::fault;
+use crate::show::none;
 use crate::show::number;
 use crate::show::signed_number;
 use crate::show::truth;
 use expr::expression;
 use expr::signed;
+use expr::value;
+use expr::value::Value;
+use expr::value::ValueRead;
 use labels::guard;
 use labels::label;
 use labels::label::LabelRead;
 use reading::field::Reached;
 use reading::field::TestRead;
-use reading::field::ValueRead;
 
 // The first two of sixteen variables.
 fn variables(a: i32, b: i32) -> [i32; 16] {
@@ -28,13 +31,21 @@ fn clocks(x: u32, y: u32) -> [u32; 8] {
     times
 }
 
+// A value: a number, or that there is none.
+fn value_or_none(x: Value) {
+    match x {
+        Value::Number(z) => signed_number(z),
+        Value::None => none(),
+    }
+}
+
 // The value of an expression where a is -7 and b is 8, and how many bytes it takes.
 pub fn show_value(s: &[u8]) {
     let values = variables(-7, 8);
     let v = expression::evaluate(s, expression::LEVELS, 16, &values);
     match v {
-        ValueRead::Value(z, n) => {
-            signed_number(z);
+        ValueRead::Value(x, n) => {
+            value_or_none(x);
             number(n as u64);
         }
         ValueRead::Fault(f) => fault(f),
@@ -67,8 +78,10 @@ pub fn show_guard(s: &[u8]) {
 pub fn show_assigned(s: &[u8]) {
     let values = variables(3, 8);
     let after = label::assigned(s, 0, 2, 0, 16, values, values);
-    signed_number(after[0]);
-    signed_number(after[1]);
+    let variables = after.values;
+    truth(after.within);
+    signed_number(variables[0]);
+    signed_number(variables[1]);
 }
 
 // An advance of steps and a remainder, in two's complement, by a ratio.
@@ -77,7 +90,7 @@ pub fn show_advance(steps: u32, remainder: u32, numerator: u32, denominator: u32
     let y = signed::signed(remainder);
     let p = (numerator % 65536) as u16;
     let q = (denominator % 65536) as u16;
-    signed_number(signed::steps_after(x, y, p, q));
+    value_or_none(value::steps_after(x, y, p, q));
     signed_number(signed::remainder_after(y, p, q));
 }
 

@@ -28,6 +28,10 @@ pub fn truth(b: bool) {
     }
 }
 
+pub fn none() {
+    text(b" none");
+}
+
 pub fn fault(f: Fault) {
     match f {
         Fault::Length => text(b" fault of the length"),

@@ -6,8 +6,9 @@ use lib.IntN.{ℤ}
 use lib.Dec.{ltb}
 use lib.ListN.{getD}
 use Rattle.reading.specs.Reading.{Reader, yield, _>>=_, byte, byte4, such}
+use Rattle.expr.specs.Value.{compared}
 use Rattle.expr.specs.Expression.{Expr, expression, levels, value}
-use Rattle.expr.specs.Relation.{lt, Relation, compareℕ, compareℤ, relations}
+use Rattle.expr.specs.Relation.{lt, Relation, compareℕ, relations}
 
 pub data Guard : Type 0 where
   data-guard : Relation → Expr → Expr → Guard
@@ -50,8 +51,8 @@ differenceGuard clocks = do
 unfoldable pub guard : ℕ → ℕ → Reader Guard
 guard clocks variables = such byte (λ k. ltb k 3) >>= λ k. getD (dataGuard variables ∷ clockGuard clocks ∷ differenceGuard clocks ∷ []) k (dataGuard variables)
 
--- a guard holds of variables and clocks. c - d ~ n is c ~ d + n
+-- a guard holds of variables and clocks; one on variables only where both sides are numbers. c - d ~ n is c ~ d + n
 unfoldable pub holds : List ℤ → List ℕ → Guard → Bool
-holds vars clocks (data-guard r a b) = compareℤ r (value vars a) (value vars b)
+holds vars clocks (data-guard r a b) = compared r (value vars a) (value vars b)
 holds vars clocks (clock-guard c r n) = compareℕ r (getD clocks c 0) n
 holds vars clocks (difference-guard c d r n) = compareℕ r (getD clocks c 0) (getD clocks d 0 + n)

@@ -5,15 +5,17 @@ ghost use lib.ListN.{getD};
 ghost use Rattle.reading.specs.Reading.{mapped, skipped};
 ghost use Rattle.expr.specs.Expression.{expression, value};
 ghost use Rattle.labels.specs.Guard.{ticks, dataGuard, clockGuard, differenceGuard, guard, holds};
-ghost use Rattle.reading.specs.Places.{onward, wordOf, valueOf, testOf, reached, testReached};
+ghost use Rattle.reading.specs.Places.{onward, wordOf, testOf, reached, testReached};
+ghost use Rattle.expr.specs.Value.{valueOf};
 use expr::expression;
 use expr::signed;
+use expr::value;
+use expr::value::ValueRead;
 use reading::field;
 use reading::field::ByteRead;
 use reading::field::Fault;
 use reading::field::Reached;
 use reading::field::TestRead;
-use reading::field::ValueRead;
 use reading::field::WordRead;
 
 // A constant that a clock is compared with.
@@ -139,13 +141,13 @@ fn data_guard_holds(s: &[u8], at: usize, variables: u8, values: &[i32; 16]) -> T
     };
     let v = expression::value_at(s, at1, variables, values);
     let ValueRead::Value(x, at2) = v else {
-        return TestRead::Fault(field::value_fault(v));
+        return TestRead::Fault(value::value_fault(v));
     };
     let w = expression::value_at(s, at2, variables, values);
     let ValueRead::Value(y, at3) = w else {
-        return TestRead::Fault(field::value_fault(w));
+        return TestRead::Fault(value::value_fault(w));
     };
-    TestRead::Value(signed::compare(relation, x, y), at3)
+    TestRead::Value(value::compare_values(relation, x, y), at3)
 }
 
 // A guard, as a file is checked. No value is needed, and none is computed on variables.

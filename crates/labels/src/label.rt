@@ -5,7 +5,7 @@ ghost use lib.Dec.{eqb};
 ghost use Rattle.lists.specs.Lists.{all, distinct};
 ghost use Rattle.reading.specs.Reading.{got, byte, such, many, mapped, skipped};
 ghost use Rattle.labels.specs.Guard.{guard, holds};
-ghost use Rattle.updates.specs.Update.{update, targets, assign};
+ghost use Rattle.updates.specs.Update.{update, targets, stays, assign};
 ghost use Rattle.labels.specs.Label.{limits, bodyOnce, body, channelFits, label, heading};
 ghost use Rattle.reading.specs.Places.{onward, byteOf, testOf, reached};
 ghost use Rattle.labels.specs.Headings.{labelOf, labelFault};
@@ -16,6 +16,7 @@ use reading::field::Fault;
 use reading::field::Reached;
 use reading::field::TestRead;
 use updates::update;
+use updates::update::Assigned;
 use updates::update::FormRead;
 
 // So many guards from a place on, as a file is checked.
@@ -92,9 +93,11 @@ fn all_assigned(
     variables: u8,
     old: [i32; 16],
     new: [i32; 16],
-) -> [i32; 16]
-    ensures { λ r. ⌜ ((us : _) (t : _) → many count (update version variables) (onward (now (s .entry)) at) ≡ got us t → r ≡ assign old us new) ⌝ }
+) -> Assigned
+    ensures within { λ r. ⌜ ((us : _) (t : _) → many count (update version variables) (onward (now (s .entry)) at) ≡ got us t → r .within ≡ all (stays old) us) ⌝ }
+    ensures values { λ r. ⌜ ((us : _) (t : _) → many count (update version variables) (onward (now (s .entry)) at) ≡ got us t → r .values ≡ assign old us new) ⌝ }
 {
+    let mut within = true;
     let mut values = new;
     let mut place = at;
     let mut i = 0;
@@ -102,13 +105,25 @@ fn all_assigned(
         let u = update::updated_at(s, place, version, variables, old, values);
         let q = u.reached;
         let Reached::At(next) = q else {
-            return old;
+            return Assigned {
+                within: false,
+                values: old,
+            };
         };
+        within = within & u.within;
         values = u.values;
         place = next;
         i += 1;
     }
-    values
+    Assigned { within, values }
+}
+
+// Nothing assigned.
+fn unassigned(values: [i32; 16]) -> Assigned {
+    Assigned {
+        within: true,
+        values,
+    }
 }
 
 // Rule 13 of a label with so many updates: a receiver has none, and no variable is written twice.
@@ -263,20 +278,21 @@ pub fn assigned(
     variables: u8,
     old: [i32; 16],
     new: [i32; 16],
-) -> [i32; 16]
-    ensures { λ r. ⌜ ((b : _) (t : _) → body (limits version clocks variables) (onward (now (s .entry)) at) ≡ got b t → r ≡ assign old (b .updates) new) ⌝ }
+) -> Assigned
+    ensures within { λ r. ⌜ ((b : _) (t : _) → body (limits version clocks variables) (onward (now (s .entry)) at) ≡ got b t → r .within ≡ all (stays old) (b .updates)) ⌝ }
+    ensures values { λ r. ⌜ ((b : _) (t : _) → body (limits version clocks variables) (onward (now (s .entry)) at) ≡ got b t → r .values ≡ assign old (b .updates) new) ⌝ }
 {
     let g = field::read_byte(s, at);
     let ByteRead::Value(guards, at1) = g else {
-        return new;
+        return unassigned(new);
     };
     let a = field::read_byte(s, at1);
     let ByteRead::Value(updates, at2) = a else {
-        return new;
+        return unassigned(new);
     };
     let q = read_guards(s, at2, guards, clocks, variables);
     let Reached::At(at3) = q else {
-        return new;
+        return unassigned(new);
     };
     all_assigned(s, at3, updates, version, variables, old, new)
 }

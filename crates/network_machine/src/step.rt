@@ -55,7 +55,12 @@ fn step_along(
     if !is_allowed(rest, counts, offsets, c, list) {
         return refused(20, c);
     }
-    let next = configuration_after(rest, counts, offsets, list, c);
+    let after = configuration_after(rest, counts, offsets, list, c);
+    let within = after.within;
+    if !within {
+        return refused(28, c);
+    }
+    let next = after.configuration;
     if !bounds_kept(rest, counts, next) {
         return refused(21, c);
     }

@@ -8,7 +8,7 @@ use lib.ListN.{getD, length, replicate, set}
 use Rattle.lists.specs.Lists.{has, all, any, below, implies, bitsOf}
 use Rattle.labels.specs.Label.{guardsHold}
 use Rattle.clocks.specs.Clocks.{keeps, rowLeft, limitLeft, later, inLimit, zeroPast, zerosPast}
-use Rattle.steps.specs.Moves.{known, allowed, variablesAfter, clocksAfter}
+use Rattle.steps.specs.Moves.{known, allowed, allStay, variablesAfter, clocksAfter}
 use Rattle.reading.specs.Answer.{Answer, done, unless, _>>=_}
 use Rattle.network_records.specs.Network.{Edge, Network, locationAt, urgentAt, edgeAt, ownerOf, initials, networkOf}
 use Rattle.network_moves.specs.declared.configuration.Configuration.{Configuration}
@@ -81,7 +81,8 @@ step n c ms =
     (unless 19 (all (activeEdge n c) es)
     (unless 27 (implies (urgent n c) (any (λ e. urgentAt n (e .source)) es))
     (unless 20 (allowed (λ m. edgeAt n m .label) (λ m. ownerOf n (edgeAt n m)) (λ m. activeEdge n c (edgeAt n m)) (length (n .edges)) (n .rendezvous) ms)
-    (tested n (after n es c))))))
+    (unless 28 (allStay (map (λ e. e .label) es) (c .variables))
+    (tested n (after n es c)))))))
 
 unfoldable pub wait : Network → Configuration → ℕ → Answer Configuration
 wait n c d =

@@ -1,8 +1,11 @@
 // What becomes of a configuration when edges are taken.
 ghost use mathlib.Core.Path.{_≡_};
+ghost use mathlib.Core.Bool.{_&&_};
 ghost use mathlib.Core.List.{map};
 ghost use lib.ListN.{getD, set};
-ghost use Rattle.updates.specs.Update.{assign};
+ghost use Rattle.lists.specs.Lists.{all};
+ghost use Rattle.updates.specs.Update.{stays, assign};
+ghost use Rattle.steps.specs.Moves.{allStay};
 ghost use Rattle.network_records.specs.Network.{Network, edgeAt};
 ghost use Rattle.network_moves.specs.Choices.{Known};
 ghost use Rattle.network_moves.specs.Machine.{overwrite, after};
@@ -14,6 +17,7 @@ use network::laid::edge_of;
 use network_records::edge::Edge;
 use network_records::header::Counts;
 use network_records::location::automaton_of;
+use updates::update::Assigned;
 
 // The locations with one automaton at another. There are sixteen; one that is not there changes none.
 fn with_location(locations: [u8; 16], automaton: u8, target: u8) -> [u8; 16]
@@ -46,9 +50,10 @@ fn with_flags(flags: [u8; 16], automaton: u8, written: u8, values: u8) -> [u8; 1
     next
 }
 
-// The new variables with the assignments of one more edge, which read the old values.
-fn assigned_by(rest: &[u8], counts: Counts, e: Edge, old: [i32; 16], new: [i32; 16]) -> [i32; 16]
-    ensures { λ r. ⌜ ((d : _) → Kept counts (now (rest .entry)) e d → r ≡ assign old (d .label .body .updates) new) ⌝ }
+// The new variables with the updates of one more edge, which read the old values.
+fn assigned_by(rest: &[u8], counts: Counts, e: Edge, old: [i32; 16], new: [i32; 16]) -> Assigned
+    ensures within { λ r. ⌜ ((d : _) → Kept counts (now (rest .entry)) e d → r .within ≡ all (stays old) (d .label .body .updates)) ⌝ }
+    ensures values { λ r. ⌜ ((d : _) → Kept counts (now (rest .entry)) e d → r .values ≡ assign old (d .label .body .updates) new) ⌝ }
 {
     labels::label::assigned(
         rest,
@@ -61,35 +66,51 @@ fn assigned_by(rest: &[u8], counts: Counts, e: Edge, old: [i32; 16], new: [i32; 
     )
 }
 
-// The configuration with one more edge taken. Its assignments read the old values.
-fn taken(rest: &[u8], counts: Counts, old: [i32; 16], c: Configuration, e: Edge) -> Configuration
-    ensures { λ r. ⌜ ((n : Network) (d : _) → Located (now (rest .entry)) counts n → Kept counts (now (rest .entry)) e d → r ≡ taken n d old c) ⌝ }
+// The configuration after some edges, and whether their updates stayed in the range.
+pub struct After {
+    pub within: bool,
+    pub configuration: Configuration,
+}
+
+// The same with one more edge taken. Its updates read the old values.
+fn taken(rest: &[u8], counts: Counts, old: [i32; 16], before: After, e: Edge) -> After
+    ensures within { λ r. ⌜ ((d : _) → Kept counts (now (rest .entry)) e d → r .within ≡ (before .within && all (stays old) (d .label .body .updates))) ⌝ }
+    ensures configuration { λ r. ⌜ ((n : Network) (d : _) → Located (now (rest .entry)) counts n → Kept counts (now (rest .entry)) e d → r .configuration ≡ taken n d old (before .configuration)) ⌝ }
 {
+    let c = before.configuration;
     let locations = c.locations;
     let flags = c.flags;
     let variables = c.variables;
     let clocks = c.clocks;
     let owner = automaton_of(rest, counts, e.source);
-    Configuration {
-        locations: with_location(locations, owner, e.target),
-        flags: with_flags(flags, owner, e.written, e.values),
-        variables: assigned_by(rest, counts, e, old, variables),
-        clocks: clocks::clock::reset(e.resets, clocks),
+    let assigned = assigned_by(rest, counts, e, old, variables);
+    After {
+        within: before.within & assigned.within,
+        configuration: Configuration {
+            locations: with_location(locations, owner, e.target),
+            flags: with_flags(flags, owner, e.written, e.values),
+            variables: assigned.values,
+            clocks: clocks::clock::reset(e.resets, clocks),
+        },
     }
 }
 
-// The configuration after the edges of the list are taken. All assignments read the values that it has now.
+// The same of all edges of the list. All updates read the values that the configuration has now.
 pub fn configuration_after(
     rest: &[u8],
     counts: Counts,
     offsets: &[u32; 1024],
     list: &[u16],
     c: Configuration,
-) -> Configuration
-    ensures { λ r. ⌜ ((n : Network) → Laid (now (rest .entry)) counts (now (offsets .entry)) n → Known counts (now (list .entry)) → r ≡ after n (map (edgeAt n) (now (list .entry))) c) ⌝ }
+) -> After
+    ensures within { λ r. ⌜ ((n : Network) → Laid (now (rest .entry)) counts (now (offsets .entry)) n → Known counts (now (list .entry)) → r .within ≡ allStay (map (λ m. edgeAt n m .label) (now (list .entry))) (c .variables)) ⌝ }
+    ensures configuration { λ r. ⌜ ((n : Network) → Laid (now (rest .entry)) counts (now (offsets .entry)) n → Known counts (now (list .entry)) → r .configuration ≡ after n (map (edgeAt n) (now (list .entry))) c) ⌝ }
 {
     let old = c.variables;
-    let mut after = c;
+    let mut after = After {
+        within: true,
+        configuration: c,
+    };
     let mut i = 0;
     while i < list.len() {
         let m = list[i];

@@ -3,7 +3,6 @@ use Prim.Native.Nat.{ℕ, _-_, _≤_}
 use mathlib.Core.Bool.{Bool, cond}
 use mathlib.Core.List.{List}
 use lib.Dec.{ltb}
-use lib.IntN.{ℤ}
 use lib.ListN.{length, take, drop}
 use Rattle.reading.specs.Reading.{Read, got, fault, length-fault, range-fault}
 use Rattle.reading.specs.Reading as reading
@@ -13,8 +12,6 @@ use Rattle.reading.specs.declared.field.ByteRead.{ByteRead}
 use Rattle.reading.specs.declared.field.ByteRead.the-variants as Bt
 use Rattle.reading.specs.declared.field.ShortRead.{ShortRead}
 use Rattle.reading.specs.declared.field.ShortRead.the-variants as Sh
-use Rattle.reading.specs.declared.field.ValueRead.{ValueRead}
-use Rattle.reading.specs.declared.field.ValueRead.the-variants as Vl
 use Rattle.reading.specs.declared.field.TestRead.{TestRead}
 use Rattle.reading.specs.declared.field.TestRead.the-variants as Te
 use Rattle.reading.specs.declared.field.WordRead.{WordRead}
@@ -47,14 +44,6 @@ shortOf s (Sh.Fault f) = fault (faultOf f)
 abbrev pub shortEnd : ShortRead → ℕ
 shortEnd (Sh.Value x n) = n
 shortEnd (Sh.Fault f) = 0
-
-abbrev pub valueOf : List ℕ → ValueRead → Read ℤ
-valueOf s (Vl.Value z n) = got z (onward s n)
-valueOf s (Vl.Fault f) = fault (faultOf f)
-
-abbrev pub valueEnd : ValueRead → ℕ
-valueEnd (Vl.Value z n) = n
-valueEnd (Vl.Fault f) = 0
 
 abbrev pub testOf : List ℕ → TestRead → Read Bool
 testOf s (Te.Value b n) = got b (onward s n)
@@ -120,10 +109,6 @@ shortFault (Sh.Fault f) = f
 abbrev pub wordFault : WordRead → Fault
 wordFault (Wd.Value x n) = Fl.Length
 wordFault (Wd.Fault f) = f
-
-abbrev pub valueFault : ValueRead → Fault
-valueFault (Vl.Value z n) = Fl.Length
-valueFault (Vl.Fault f) = f
 
 abbrev pub testFault : TestRead → Fault
 testFault (Te.Value b n) = Fl.Length

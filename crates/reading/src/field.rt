@@ -6,8 +6,8 @@ ghost use mathlib.Core.Bool.{_||_};
 ghost use mathlib.Core.List.{List};
 ghost use lib.Dec.{ltb, eqb};
 ghost use Rattle.reading.specs.Reading.{Reader, got, byte, byte2, byte4, such, framed};
-ghost use Rattle.reading.specs.Places.{onward, byteOf, byteEnd, shortOf, shortEnd, wordOf, wordEnd, valueOf, valueEnd, frameOf};
-ghost use Rattle.reading.specs.Places.{FrameFits, wholly, byteFault, shortFault, wordFault, valueFault, testFault, frameFault};
+ghost use Rattle.reading.specs.Places.{onward, byteOf, byteEnd, shortOf, shortEnd, wordOf, wordEnd, frameOf};
+ghost use Rattle.reading.specs.Places.{FrameFits, wholly, byteFault, shortFault, wordFault, testFault, frameFault};
 ghost use Rattle.reading.specs.Places.{reachedFault};
 
 // What a file can have wrong: a length, or a field out of its range.
@@ -29,12 +29,6 @@ pub enum ShortRead {
 
 pub enum WordRead {
     Value(u32, usize),
-    Fault(Fault),
-}
-
-// The value of an expression.
-pub enum ValueRead {
-    Value(i32, usize),
     Fault(Fault),
 }
 
@@ -71,15 +65,6 @@ pub fn short_fault(h: ShortRead) -> Fault
     match h {
         ShortRead::Fault(f) => f,
         ShortRead::Value(_, _) => Fault::Length,
-    }
-}
-
-pub fn value_fault(v: ValueRead) -> Fault
-    ensures { λ r. ⌜ r ≡ valueFault v ⌝ }
-{
-    match v {
-        ValueRead::Fault(f) => f,
-        ValueRead::Value(_, _) => Fault::Length,
     }
 }
 

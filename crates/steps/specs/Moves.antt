@@ -7,7 +7,7 @@ use lib.IntN.{ℤ}
 use lib.Dec.{leb, ltb, eqb}
 use lib.ListN.{length}
 use Rattle.lists.specs.Lists.{all, any, elem, below, keep, concat, ascending, distinct}
-use Rattle.updates.specs.Update.{assign}
+use Rattle.updates.specs.Update.{stays, assign}
 use Rattle.labels.specs.Label.{Label, sends, receives}
 use Rattle.clocks.specs.Clocks.{reset}
 
@@ -42,6 +42,10 @@ allowed label owner active count rendezvous (m ∷ ms) =
     && cond (eqb (label m .signal) 0)
     (eqb (length ms) 0)
     (oneSends label ch (m ∷ ms) && cond (ltb ch rendezvous) (eqb (length ms) 1) (maximal label owner active count ch (m ∷ ms)))
+
+-- 28: the updates of all members stay in the range
+unfoldable pub allStay : List Label → List ℤ → Bool
+allStay ls vars = all (stays vars) (concat (λ l. l .body .updates) ls)
 
 -- all assignments read the old values. Only the sender or the one member has any
 unfoldable pub variablesAfter : List Label → List ℤ → List ℤ

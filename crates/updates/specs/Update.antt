@@ -8,8 +8,10 @@ use lib.ListN.{getD, set}
 use Rattle.lists.specs.Lists.{concat}
 use Rattle.reading.specs.Reading.{Reader, yield, _>>=_, byte, byte2, such}
 use Rattle.reading.specs.Version.{hasAdvances}
-use Rattle.expr.specs.Integer.{wrap, floorDiv, floorMod}
+use Rattle.expr.specs.Integer.{floorDiv, floorMod}
+use Rattle.expr.specs.Value.{exactly, isNumber, numberOf}
 use Rattle.expr.specs.Expression.{Expr, expression, levels, value}
+use Rattle.expr.specs.declared.value.Value.{Value}
 use Rattle.updates.specs.declared.update.Advance.{Advance}
 use Rattle.updates.specs.declared.update.Form.{Form}
 use Rattle.updates.specs.declared.update.Form.the-variants as Fm
@@ -63,16 +65,22 @@ targets us = concat (λ u. writes (formOf u)) us
 unfoldable pub total : List ℤ → Advance → ℤ
 total old a = getD old (a .remainder) (pos 0) +ℤ pos (a .numerator)
 
-unfoldable pub stepsAfter : List ℤ → Advance → ℤ
-stepsAfter old a = wrap (getD old (a .steps) (pos 0) +ℤ floorDiv (total old a) (a .denominator))
+-- the steps after an advance, as a value: none where they are outside the range. The remainder is always inside
+unfoldable pub stepsAfter : List ℤ → Advance → Value
+stepsAfter old a = exactly (getD old (a .steps) (pos 0) +ℤ floorDiv (total old a) (a .denominator))
 
 unfoldable pub remainderAfter : List ℤ → Advance → ℤ
 remainderAfter old a = floorMod (total old a) (a .denominator)
 
+-- 28: an update stays in the range. Every operation of an assignment counts, and of an advance only what is stored
+unfoldable pub stays : List ℤ → Update → Bool
+stays old (assignment v e) = isNumber (value old e)
+stays old (advance a) = isNumber (stepsAfter old a)
+
 -- what an update, which reads `old`, makes of the new variables
 unfoldable pub updated : List ℤ → Update → List ℤ → List ℤ
-updated old (assignment v e) new = set new v (value old e)
-updated old (advance a) new = set (set new (a .steps) (stepsAfter old a)) (a .remainder) (remainderAfter old a)
+updated old (assignment v e) new = set new v (numberOf (value old e))
+updated old (advance a) new = set (set new (a .steps) (numberOf (stepsAfter old a))) (a .remainder) (remainderAfter old a)
 
 -- the variables after some updates, all of which read `old`
 unfoldable pub assign : List ℤ → List Update → List ℤ → List ℤ

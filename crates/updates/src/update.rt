@@ -4,19 +4,21 @@ ghost use mathlib.Core.List.{[], _∷_, _++_};
 ghost use lib.ListN.{set};
 ghost use Prim.Native.Nat.{_≤_};
 ghost use Rattle.reading.specs.Reading.{byte, byte2, such, mapped};
-ghost use Rattle.reading.specs.Places.{onward, byteOf, shortOf, valueOf, reached};
+ghost use Rattle.reading.specs.Places.{onward, byteOf, shortOf, reached};
+ghost use Rattle.expr.specs.Value.{valueOf};
 ghost use Rattle.expr.specs.Expression.{expression, value};
-ghost use Rattle.updates.specs.Update.{opens, advanced, form, ofForm, update, formOf, writes, advance, updated};
+ghost use Rattle.updates.specs.Update.{opens, advanced, form, ofForm, update, formOf, writes, advance, stays, updated};
 ghost use Rattle.updates.specs.Forms.{formRead, formFault, Noted};
 ghost use lib.Dec.{leb};
 use expr::expression;
 use expr::signed;
+use expr::value;
+use expr::value::ValueRead;
 use reading::field;
 use reading::field::ByteRead;
 use reading::field::Fault;
 use reading::field::Reached;
 use reading::field::ShortRead;
-use reading::field::ValueRead;
 use reading::version;
 
 // Two variables and a ratio. The whole part is added to the steps, and what it leaves is kept as the remainder.
@@ -192,27 +194,36 @@ fn stored(values: [i32; 16], variable: u8, z: i32) -> [i32; 16]
     next
 }
 
-// The variables after an advance, which reads `old`.
-fn after_advance(a: Advance, old: [i32; 16], new: [i32; 16]) -> [i32; 16]
-    ensures { λ r. ⌜ (1 ≤ a .denominator → r ≡ updated old (advance a) new) ⌝ }
-{
-    let steps = expression::variable_value(a.steps, old);
-    let rest = expression::variable_value(a.remainder, old);
-    let next = stored(
-        new,
-        a.steps,
-        signed::steps_after(steps, rest, a.numerator, a.denominator),
-    );
-    stored(
-        next,
-        a.remainder,
-        signed::remainder_after(rest, a.numerator, a.denominator),
-    )
+// The variables after some updates, and whether these stayed in the range.
+pub struct Assigned {
+    pub within: bool,
+    pub values: [i32; 16],
 }
 
-// The variables after an update, and the place after it: a fault stands beside an array, which no enum can hold.
+// The variables after an advance, which reads `old`.
+fn after_advance(a: Advance, old: [i32; 16], new: [i32; 16]) -> Assigned
+    ensures within { λ r. ⌜ (1 ≤ a .denominator → r .within ≡ stays old (advance a)) ⌝ }
+    ensures values { λ r. ⌜ (1 ≤ a .denominator → r .values ≡ updated old (advance a) new) ⌝ }
+{
+    let before = expression::variable_value(a.steps, old);
+    let rest = expression::variable_value(a.remainder, old);
+    let steps = value::steps_after(before, rest, a.numerator, a.denominator);
+    let next = stored(new, a.steps, value::number_of(steps));
+    Assigned {
+        within: value::is_number(steps),
+        values: stored(
+            next,
+            a.remainder,
+            signed::remainder_after(rest, a.numerator, a.denominator),
+        ),
+    }
+}
+
+// The variables after an update, whether it stayed in the range, and the place after it: a fault stands beside an array,
+// which no enum can hold.
 pub struct Updated {
     pub reached: Reached,
+    pub within: bool,
     pub values: [i32; 16],
 }
 
@@ -221,7 +232,22 @@ fn not_updated(f: Fault, values: [i32; 16]) -> Updated
 {
     Updated {
         reached: Reached::Fault(f),
+        within: false,
         values,
+    }
+}
+
+// The variables after an advance that ends at a place.
+fn advanced_to(next: usize, a: Advance, old: [i32; 16], new: [i32; 16]) -> Updated
+    ensures reached { λ r. ⌜ r .reached ≡ Reached.At next ⌝ }
+    ensures within { λ r. ⌜ (1 ≤ a .denominator → r .within ≡ stays old (advance a)) ⌝ }
+    ensures values { λ r. ⌜ (1 ≤ a .denominator → r .values ≡ updated old (advance a) new) ⌝ }
+{
+    let after = after_advance(a, old, new);
+    Updated {
+        reached: Reached::At(next),
+        within: after.within,
+        values: after.values,
     }
 }
 
@@ -234,25 +260,24 @@ pub fn updated_at(
     old: [i32; 16],
     new: [i32; 16],
 ) -> Updated
-    ensures { λ r. ⌜ reached (now (s .entry)) (r .values) (r .reached) ≡ mapped (λ u. updated old u new) (update version variables (onward (now (s .entry)) at)) ⌝ }
+    ensures within { λ r. ⌜ reached (now (s .entry)) (r .within) (r .reached) ≡ mapped (stays old) (update version variables (onward (now (s .entry)) at)) ⌝ }
+    ensures values { λ r. ⌜ reached (now (s .entry)) (r .values) (r .reached) ≡ mapped (λ u. updated old u new) (update version variables (onward (now (s .entry)) at)) ⌝ }
 {
     let f = read_form(s, at, version, variables);
     let FormRead::Form(form, from) = f else {
         return not_updated(form_fault(f), new);
     };
     match form {
-        Form::Advance(a) => Updated {
-            reached: Reached::At(from),
-            values: after_advance(a, old, new),
-        },
+        Form::Advance(a) => advanced_to(from, a, old, new),
         Form::Assignment(v) => {
             let x = value_from(s, from, variables, old);
             let ValueRead::Value(z, next) = x else {
-                return not_updated(field::value_fault(x), new);
+                return not_updated(value::value_fault(x), new);
             };
             Updated {
                 reached: Reached::At(next),
-                values: stored(new, v, z),
+                within: value::is_number(z),
+                values: stored(new, v, value::number_of(z)),
             }
         }
     }
