@@ -12,10 +12,11 @@ use lib.Dec.{ltb}
 use lib.IntN.{ℤ}
 use lib.ListN.{length, getD, take, drop}
 use Rattle.reading.specs.Reading.{Fault, length-fault, range-fault, Read, got, fault, Reader, yield, next, _>>=_, byte, byte4, such, mapped}
-use Rattle.expr.specs.Integer.{signed, isDivisor, floorDiv, floorMod}
+use Rattle.expr.specs.Integer.{signed, isDivisor}
+use Rattle.expr.specs.Value.{combined, divided}
 use Rattle.expr.specs.Expression.{Expr, constant, variable, sum, difference, product, quotient, remainder, Code, constant-code}
 use Rattle.expr.specs.Expression.{variable-code, sum-code, difference-code, product-code, quotient-code, remainder-code, codes}
-use Rattle.expr.specs.Expression.{divisor, two, by, after, expression, value, combined, divided}
+use Rattle.expr.specs.Expression.{divisor, two, by, after, expression, value}
 use Rattle.reading.specs.Places.{onward}
 use Rattle.reading.proofs.Reading.{such-at, mapped-fault, mapped-yield}
 use Rattle.reading.proofs.InFront.{InFront, yield-front, fault-front, bind-front, such-front, byte-front, byte4-front}
@@ -80,14 +81,6 @@ division-value vars (suc (suc (suc (suc zero)))) h l a d = absurd (omega arith)
 division-value vars (suc (suc (suc (suc (suc zero))))) h l a d = refl
 division-value vars (suc (suc (suc (suc (suc (suc zero)))))) h l a d = refl
 division-value vars (suc (suc (suc (suc (suc (suc (suc n))))))) h l a d = absurd (omega arith)
-
-pub divided-quotient : {c : ℕ} (x : ℤ) (d : ℕ) → c ≡ 5 → divided c x d ≡ floorDiv x d
-unfolding divided
-divided-quotient {c} x d h = rw (eq-eqb c 5 h)
-
-pub divided-remainder : {c : ℕ} (x : ℤ) (d : ℕ) → c ≢ 5 → divided c x d ≡ floorMod x d
-unfolding divided
-divided-remainder {c} x d h = rw (ne-eqb c 5 h)
 
 -- a divisor that is read is one
 pub divisor-in : (s : List ℕ) {d : ℕ} {t : List ℕ} → divisor s ≡ got d t → isDivisor d ≡ true

@@ -14,7 +14,7 @@ use borrow.Author.Tests.{leb-true, ltb-true, lt-ltb, le-ltb}
 use mir.Syntax.{Width, w32, w64}
 use mir.Val.{SFits, ofZ, toZ}
 use mir.ValLaws.{toZ-ofZ, toZ-pos}
-use Rattle.expr.specs.Integer.{signed, residue, wrap, isDivisor, floorDiv, floorMod}
+use Rattle.expr.specs.Integer.{signed, isDivisor, floorDiv, floorMod}
 use Rattle.expr.specs.Relation.{lt, relations}
 use Rattle.lists.proofs.Bools.{clash, and-l, and-r, cond-yes}
 
@@ -85,22 +85,9 @@ module _ (x y : ℤ) (f : SFits w32 x) (g : SFits w32 y) where
       let m : (mag x + 1) * (mag y + 1) ≤ 2 ^ 31 * 2 ^ 31 = mul-le-mul {n₁ = mag x + 1} {m₁ = mag y + 1} {n₂ = 2 ^ 31} {m₂ = 2 ^ 31} (omega (arith, f .sfits)) (omega (arith, g .sfits)) in
       record { sfits = omega (arith, mag-mul x y) }
 
--- what the machine reads of a natural number of 32 bits in 64 bits, and of its opposite
-module _ (n : ℕ) (h : n < 2 ^ 32) where
-  pub natural-fits : SFits w64 (pos n)
-  natural-fits = record { sfits = omega arith }
-
-  pub natural-read : toZ w64 n ≡ pos n
-  natural-read = toZ-pos w64 n (omega arith)
-
-  opposite : SFits w64 (pos 0 -ℤ pos n)
-  opposite = record { sfits = omega (arith, mag-add (pos 0) (negℤ (pos n)), mag-neg-pos n) }
-
-  pub opposite-fits : SFits w64 (pos 0 -ℤ toZ w64 n)
-  opposite-fits = rw natural-read opposite
-
-  pub opposite-read : toZ w64 (ofZ w64 (pos 0 -ℤ toZ w64 n)) ≡ pos 0 -ℤ pos n
-  opposite-read = rw natural-read (toZ-ofZ w64 _ opposite)
+-- what the machine reads of a natural number of 32 bits in 64 bits
+pub natural-read : (n : ℕ) → n < 2 ^ 32 → toZ w64 n ≡ pos n
+natural-read n h = toZ-pos w64 n (omega arith)
 
 -- the complement -1 - z: the magnitude of a negative number, and back
 complement-negative : (z : ℤ) → ltZ z (pos 0) ≡ true → negsuc 0 -ℤ z ≡ pos (mag z)
@@ -128,49 +115,9 @@ module _ (w : Width) (z : ℤ) (f : SFits w z) where
   pub not-negative-read : ltZ (toZ w (ofZ w z)) (pos 0) ≡ false → toZ w (ofZ w z) ≡ pos (mag z)
   not-negative-read e = toZ-ofZ w z f ∙ not-negative z (rw (toZ-ofZ w z f) at e)
 
--- a number that fits is what its low 32 bits mean
-pub wrap-small : (z : ℤ) → mag z < 2 ^ 31 → wrap z ≡ z
-unfolding wrap residue
-wrap-small (pos n) h = rw (mod-eq-of-lt {n = n} {m = 2 ^ 32} (omega arith)) (signed-low n h)
-wrap-small (negsuc n) h = rw (mod-eq-of-lt {n = n} {m = 2 ^ 32} (omega arith)) (signed-high (2 ^ 32 - suc n) (omega arith) ∙ ap negsuc (omega arith))
-
 -- what can divide
 pub divisor-range : (d : ℕ) → isDivisor d ≡ true → (1 ≤ d) × (d < 2 ^ 31)
 divisor-range d h = (leb-true 1 d (and-l _ _ h), ltb-true d (2 ^ 31) (and-r (leb 1 d) _ h))
-
--- the size of a number, with what is added to round its quotient up, fits 32 bits
-pub size-fits : (z : ℤ) (d : ℕ) {a u : ℕ} → mag z < 2 ^ 31 → isDivisor d ≡ true → a ≡ natAbs z → u ≤ d - 1 → a + u < 2 ^ 32
-size-fits z d h i e l = omega (arith, absolute-le z, divisor-range d i)
-  where
-    absolute-le : (z : ℤ) → natAbs z ≤ mag z + 1
-    absolute-le (pos n) = omega arith
-    absolute-le (negsuc n) = omega arith
-
--- the floored quotient by the sign and the size: below zero the quotient of the sizes is rounded up
-minus-suc : (k : ℕ) → pos 0 -ℤ pos (suc k) ≡ negsuc k
-minus-suc k = rw (lt-ltb 0 (suc k) (omega arith)) (ap negsuc (omega arith))
-
-rounded-up : (n d : ℕ) → 0 < d → (suc n + (d - 1)) / d ≡ suc (n / d)
-rounded-up n d h =
-    let e : suc n + (d - 1) ≡ n + d = omega arith in
-    ap (λ (k : ℕ). k / d) e ∙ add-div-right n h ∙ add-one (n / d)
-
-module _ (z : ℤ) (d : ℕ) {a u : ℕ} (h : mag z < 2 ^ 31) (i : isDivisor d ≡ true) (e : a ≡ natAbs z) where
-  pub quotient-negative : ltZ z (pos 0) ≡ true → u ≡ d - 1 → wrap (pos 0 -ℤ pos ((a + u) / d)) ≡ cond (isDivisor d) (floorDiv z d) (pos 0)
-  unfolding floorDiv
-  quotient-negative l k = rw (e, k) (go z h l) ∙ sym (cond-yes _ _ i)
-    where
-      go : (z : ℤ) → mag z < 2 ^ 31 → ltZ z (pos 0) ≡ true → wrap (pos 0 -ℤ pos ((natAbs z + (d - 1)) / d)) ≡ floorDiv z d
-      go (pos n) h l = absurd (omega (arith, ltb-true n 0 l))
-      go (negsuc n) h l = rw (rounded-up n d (divisor-range d i .0), minus-suc (n / d)) (wrap-small (negsuc (n / d)) (omega (arith, div-le-self n d)))
-
-  pub quotient-not-negative : ltZ z (pos 0) ≡ false → u ≡ 0 → wrap (pos ((a + u) / d)) ≡ cond (isDivisor d) (floorDiv z d) (pos 0)
-  unfolding floorDiv
-  quotient-not-negative l k = rw (e, k) (go z h l) ∙ sym (cond-yes _ _ i)
-    where
-      go : (z : ℤ) → mag z < 2 ^ 31 → ltZ z (pos 0) ≡ false → wrap (pos ((natAbs z + 0) / d)) ≡ floorDiv z d
-      go (pos n) h l = rw (add-zero n) (wrap-small (pos (n / d)) (omega (arith, div-le-self n d)))
-      go (negsuc n) h l = clash refl l
 
 -- the floored quotient by the sign and the magnitude, which is no greater than that of the number
 pub floored-negative : (z : ℤ) (d : ℕ) → ltZ z (pos 0) ≡ true → negsuc (mag z / d) ≡ floorDiv z d
@@ -183,6 +130,11 @@ unfolding floorDiv
 floored-not-negative (pos n) d e = refl
 floored-not-negative (negsuc n) d e = clash refl e
 
+pub floored-signed : (z : ℤ) (d : ℕ) → cond (ltZ z (pos 0)) (negsuc (mag z / d)) (pos (mag z / d)) ≡ floorDiv z d
+unfolding floorDiv
+floored-signed (pos n) d = rw (le-ltb n 0 (omega arith))
+floored-signed (negsuc n) d = refl
+
 -- the sum of a 32-bit number and a number of 16 bits without sign, and of a 32-bit number and one of some 32 bits
 pub total-within : (x : ℤ) (n : ℕ) → SFits w32 x → n < 2 ^ 16 → mag (x +ℤ pos n) < 2 ^ 32
 total-within x n f h = omega (arith, mag-add x (pos n), f .sfits)
@@ -190,7 +142,7 @@ total-within x n f h = omega (arith, mag-add x (pos n), f .sfits)
 pub step-fits : (x y : ℤ) → SFits w32 x → mag y < 2 ^ 32 → SFits w64 (x +ℤ y)
 step-fits x y f h = record { sfits = omega (arith, mag-add x y, f .sfits) }
 
--- the floored remainder, and the low 32 bits, by the sign and the magnitude
+-- the floored remainder by the sign and the magnitude
 pub remainder-negative : (z : ℤ) (d : ℕ) → ltZ z (pos 0) ≡ true → pos (d - 1 - mag z % d) ≡ floorMod z d
 unfolding floorMod
 remainder-negative (pos n) d e = absurd (omega (arith, ltb-true n 0 e))
@@ -200,16 +152,6 @@ pub remainder-not-negative : (z : ℤ) (d : ℕ) → ltZ z (pos 0) ≡ false →
 unfolding floorMod
 remainder-not-negative (pos n) d e = refl
 remainder-not-negative (negsuc n) d e = clash refl e
-
-pub residue-negative : (z : ℤ) → ltZ z (pos 0) ≡ true → 4294967295 - mag z % 4294967296 ≡ residue z
-unfolding residue
-residue-negative (pos n) e = absurd (omega (arith, ltb-true n 0 e))
-residue-negative (negsuc n) e = omega arith
-
-pub residue-not-negative : (z : ℤ) → ltZ z (pos 0) ≡ false → mag z % 4294967296 ≡ residue z
-unfolding residue
-residue-not-negative (pos n) e = refl
-residue-not-negative (negsuc n) e = clash refl e
 
 -- a number that stands for no relation but the first
 pub first-relation : (n : ℕ) → (n ≡ 1 → ⊥) → (n ≡ 2 → ⊥) → (n ≡ 3 → ⊥) → (n ≡ 4 → ⊥) → (n ≡ 5 → ⊥) → getD relations n lt ≡ lt

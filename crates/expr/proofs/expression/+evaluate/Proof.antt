@@ -5,9 +5,11 @@ use native.Mathlib.Omega.{arith}
 use lib.IntN.{ℤ}
 use lib.ListN.{length, getD}
 use Rattle.reading.specs.Reading.{Reader, yield, _>>=_, mapped}
-use Rattle.expr.specs.Expression.{divisor, expression, value, combined, divided}
-use Rattle.reading.specs.Places.{onward, valueOf, valueEnd}
-use Rattle.reading.specs.declared.field.ValueRead.the-variants as Vl
+use Rattle.expr.specs.Value.{combined, divided, valueOf, valueEnd}
+use Rattle.expr.specs.Expression.{divisor, expression, value}
+use Rattle.reading.specs.Places.{onward}
+use Rattle.expr.specs.declared.value.Value.{Value}
+use Rattle.expr.specs.declared.value.ValueRead.the-variants as Vl
 use Rattle.lists.proofs.Parts.{part-end}
 use Rattle.reading.proofs.Places.{answered}
 use Rattle.expr.proofs.Integers.{read-back}
@@ -18,8 +20,8 @@ use borrow.Fn.PlainCycle.{Measures, is, falls, and}
 use Rattle.expr.proofs.expression.evaluate.Reads as evaluate
 use Rattle.expr.proofs.expression.evaluate.Kinds as evaluate-kinds
 use Rattle.expr.proofs.expression.+evaluate.Lts-evaluate as evaluate-lts
-use Rattle.expr.proofs.expression.combine.Reads as combine-reads
-use Rattle.expr.proofs.expression.divide.Reads as divide-reads
+use Rattle.expr.proofs.value.combine.Reads as combine-reads
+use Rattle.expr.proofs.expression.divide_by.Reads as divide-by-reads
 use Rattle.expr.proofs.expression.evaluate_variable.Reads as evaluate-variable-reads
 use Rattle.expr.proofs.expression.read_signed.Reads as read-signed-reads
 use Rattle.expr.proofs.expression.+evaluate.{statement}
@@ -45,12 +47,12 @@ evaluate-cs t = (
   evaluate.Post,
   combine-reads.Asked,
   combine-reads.Learnt,
-  divide-reads.Asked,
-  divide-reads.Learnt,
+  divide-by-reads.Asked,
+  divide-by-reads.Learnt,
 )
 
 -- the value of an expression and where it ends, or its fault
-abbrev values : List ℤ → ℕ → ℕ → Reader ℤ
+abbrev values : List ℤ → ℕ → ℕ → Reader Value
 values vars v k s = mapped (value vars) (expression v k s)
 
 -- a sum, difference or product: its arguments, one after the other
@@ -226,13 +228,13 @@ evaluate-returns-5 t c =
       omega (arith, ap valueEnd (c .enum-told3 .given .1)),
     )
 
-evaluate-add-divide : (t : ℕ) → evaluate-lts.Need-add-divide (evaluate-cs t) (evaluate-at t) evaluate.Post
-evaluate-add-divide t c =
+evaluate-add-divide-by : (t : ℕ) → evaluate-lts.Need-add-divide-by (evaluate-cs t) (evaluate-at t) evaluate.Post
+evaluate-add-divide-by t c =
     let start = c .before .before .before .before .before .before .before .before .before .before .before .before in
     omega (arith, dividend-in t (c .before .before .before) _ (c .before .first2 .given .1), start .good .0 .0)
 
-evaluate-divide-requires : (t : ℕ) → evaluate-lts.Need-divide-requires (evaluate-cs t) (evaluate-at t) evaluate.Post
-evaluate-divide-requires t c κs = tt
+evaluate-divide-by-requires : (t : ℕ) → evaluate-lts.Need-divide-by-requires (evaluate-cs t) (evaluate-at t) evaluate.Post
+evaluate-divide-by-requires t c κs = tt
 
 evaluate-returns-6 : (t : ℕ) → evaluate-lts.Need-returns-6 (evaluate-cs t) (evaluate-at t) evaluate.Post
 unfolding value
@@ -269,9 +271,9 @@ evaluate-returns-9 : (t : ℕ) → evaluate-lts.Need-returns-9 (evaluate-cs t) (
 evaluate-returns-9 t c =
     let at-first = c .before .before in
     let read-first = answered (valueOf _) (at-first .before .before .evaluate3 .ensures .0) (at-first .first2 .given .1) in (
-      (rw (read-back (at-first .first2 .given .0 .0) (c .before .known-told3 .given .0 .1)) at (c .divide .ensures .0))
+      (rw (read-back (at-first .first2 .given .0 .0) (c .before .known-told3 .given .0 .1)) at (c .divide-by .ensures .0))
           ∙ sym (dividend t (at-first .before .before) ∙ first-got (values _ _ _) _ _ _ read-first),
-      c .divide .ensures .1,
+      c .divide-by .ensures .1,
     )
 
 evaluate-returns-10 : (t : ℕ) → evaluate-lts.Need-returns-10 (evaluate-cs t) (evaluate-at t) evaluate.Post
@@ -314,8 +316,8 @@ pub +evaluate-spec : {M : Type 1} → statement M
     (evaluate-enum-known-first-2 t)
     (evaluate-enum-told-3 t)
     (evaluate-returns-5 t)
-    (evaluate-add-divide t)
-    (evaluate-divide-requires t)
+    (evaluate-add-divide-by t)
+    (evaluate-divide-by-requires t)
     (evaluate-returns-6 t)
     (evaluate-returns-7 t)
     (evaluate-returns-8 t)

@@ -12,8 +12,8 @@ use mir.Val.{toZ, ofZ}
 use mir.ValLaws.{toZ-ofZ}
 use Rattle.expr.specs.Integer.{floorDiv, wrap}
 use Rattle.expr.proofs.Integers.{read-back, read-wide, cast-fits, step-fits}
-use Rattle.expr.proofs.signed.steps_after.Statement.{statement}
-use Rattle.expr.proofs.signed.steps_after.Tie as tie
+use Rattle.expr.proofs.value.steps_after.Statement.{statement}
+use Rattle.expr.proofs.value.steps_after.Tie as tie
 
 returns : tie.Need-returns
 returns c = read-back _ (c .before .fits .steps .sfits) ∙ sym (cond-no _ _ (lt-leb 1 (c .before .args .denominator) (omega (arith, c .if1 .taken))))

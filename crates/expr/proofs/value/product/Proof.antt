@@ -5,8 +5,8 @@ use mir.Syntax.{w64}
 use mir.ValLaws.{toZ-ofZ}
 use Rattle.expr.specs.Integer.{wrap}
 use Rattle.expr.proofs.Integers.{read-back, cast-fits, read-wide, mul-fits}
-use Rattle.expr.proofs.signed.product.Statement.{statement}
-use Rattle.expr.proofs.signed.product.Tie as tie
+use Rattle.expr.proofs.value.product.Statement.{statement}
+use Rattle.expr.proofs.value.product.Tie as tie
 
 cast-wrap : tie.Need-cast-wrap
 cast-wrap c = cast-fits _ (c .fits .x)

@@ -5,8 +5,8 @@ use mir.Syntax.{w64}
 use mir.ValLaws.{toZ-ofZ}
 use Rattle.expr.specs.Integer.{wrap}
 use Rattle.expr.proofs.Integers.{read-back, cast-fits, read-wide, add-fits}
-use Rattle.expr.proofs.signed.sum.Statement.{statement}
-use Rattle.expr.proofs.signed.sum.Tie as tie
+use Rattle.expr.proofs.value.sum.Statement.{statement}
+use Rattle.expr.proofs.value.sum.Tie as tie
 
 cast-wrap : tie.Need-cast-wrap
 cast-wrap c = cast-fits _ (c .fits .x)
