@@ -12,7 +12,6 @@ use Rattle.expr.specs.declared.value.Value.{Value}
 use Rattle.expr.specs.declared.value.ValueRead.the-variants as Vl
 use Rattle.lists.proofs.Parts.{part-end}
 use Rattle.reading.proofs.Places.{answered}
-use Rattle.expr.proofs.Integers.{read-back}
 use Rattle.expr.proofs.Expressions.{read-empty, read-deep, read-unknown, read-constant, read-variable, read-two, read-by}
 use Rattle.expr.proofs.Expressions.{first-fault, first-got, second-fault, both-got, operator-value, division-value}
 use borrow.Fn.Kinds.{In}
@@ -70,7 +69,7 @@ operands t c =
     read-two _ _ _ _ (at-if1 .if1 .left) (at-match .before .before .if2 .left) _ (operator-value _ _ n m l) n m l
 
 -- the first argument ends within the bytes
-first-in : (t : ℕ) (c : evaluate-lts.After-evaluate (evaluate-cs t) (evaluate-at t) evaluate.Post) {z : ℤ} (n : ℕ) →
+first-in : (t : ℕ) (c : evaluate-lts.After-evaluate (evaluate-cs t) (evaluate-at t) evaluate.Post) {z : Value} (n : ℕ) →
     let start = c .before .before .before .before .before .before .before .before in
     c .evaluate .result ≡ Vl.Value z n → 1 + n ≤ length (start .args .s .now)
 first-in t c n q =
@@ -78,7 +77,7 @@ first-in t c n q =
     part-end (start .args .s .now) 1 (omega arith) (ap valueEnd q) (c .evaluate .ensures .1)
 
 -- and so does the second
-second-in : (t : ℕ) (c : evaluate-lts.After-evaluate2 (evaluate-cs t) (evaluate-at t) evaluate.Post) {z : ℤ} (n : ℕ) →
+second-in : (t : ℕ) (c : evaluate-lts.After-evaluate2 (evaluate-cs t) (evaluate-at t) evaluate.Post) {z : Value} (n : ℕ) →
     let at-first = c .before .before .before in
     let start = at-first .before .before .before .before .before .before .before .before .before .before in
     c .evaluate2 .result ≡ Vl.Value z n → 1 + at-first .first .given .0 .1 .0 + n ≤ length (start .args .s .now)
@@ -101,7 +100,7 @@ dividend t c =
     let l = c .before .before .if4 .taken in
     read-by _ _ _ _ (at-if2 .before .if1 .left) (at-if2 .if2 .left) _ (division-value _ _ n l) n l
 
-dividend-in : (t : ℕ) (c : evaluate-lts.After-evaluate3 (evaluate-cs t) (evaluate-at t) evaluate.Post) {z : ℤ} (n : ℕ) →
+dividend-in : (t : ℕ) (c : evaluate-lts.After-evaluate3 (evaluate-cs t) (evaluate-at t) evaluate.Post) {z : Value} (n : ℕ) →
     let start = c .before .before .before .before .before .before .before .before .before in
     c .evaluate3 .result ≡ Vl.Value z n → 1 + n ≤ length (start .args .s .now)
 dividend-in t c n q =
@@ -259,10 +258,8 @@ evaluate-returns-8 t c =
     let at-second = c .before .before in
     let at-first = at-second .before .before .before .before .before in
     let read-first = answered (valueOf _) (at-first .before .before .evaluate .ensures .0) (at-first .first .given .1) in
-    let read-second = answered (valueOf _) (at-second .before .before .evaluate2 .ensures .0) (at-second .second .given .1) in
-    let first-back = read-back (at-first .first .given .0 .0) (at-second .before .before .before .before .known-told .given .0 .1) in
-    let second-back = read-back (at-second .second .given .0 .0) (c .before .known-told2 .given .0 .1) in (
-      rw (read-back (c .combine .result) (c .combine .ok), c .combine .ensures, first-back, second-back)
+    let read-second = answered (valueOf _) (at-second .before .before .evaluate2 .ensures .0) (at-second .second .given .1) in (
+      rw (c .combine .ensures)
           (sym (operands t (at-first .before .before) ∙ both-got (values _ _ _) _ _ _ read-first _ read-second)),
       second-in t (at-second .before .before) _ (at-second .second .given .1),
     )
@@ -271,7 +268,7 @@ evaluate-returns-9 : (t : ℕ) → evaluate-lts.Need-returns-9 (evaluate-cs t) (
 evaluate-returns-9 t c =
     let at-first = c .before .before in
     let read-first = answered (valueOf _) (at-first .before .before .evaluate3 .ensures .0) (at-first .first2 .given .1) in (
-      (rw (read-back (at-first .first2 .given .0 .0) (c .before .known-told3 .given .0 .1)) at (c .divide-by .ensures .0))
+      c .divide-by .ensures .0
           ∙ sym (dividend t (at-first .before .before) ∙ first-got (values _ _ _) _ _ _ read-first),
       c .divide-by .ensures .1,
     )

@@ -1,39 +1,51 @@
+use mathlib.Core.Path.{_≡_, sym, ap, _∙_}
+use native.Mathlib.Omega.{arith}
+use Rattle.reading.specs.Reading.{got}
+use Rattle.expr.specs.Expression.{divisor}
+use Rattle.reading.specs.Places.{onward, wordOf, wordEnd, wordFault}
+use Rattle.reading.proofs.Reading.{mapped-got, mapped-fault}
+use Rattle.reading.proofs.Places.{handed-on, answered}
+use Rattle.expr.proofs.Expressions.{divisor-in}
 use borrow.Author.Needs.{needs}
 use Rattle.expr.proofs.expression.divide_by.Statement.{statement}
 use Rattle.expr.proofs.expression.divide_by.Tie as tie
-use Rattle.expr.proofs.expression.divide_by.Reads as reads
-use Rattle.expr.proofs.expression.divide_by.Lts as lts
-use Rattle.expr.proofs.expression.read_divisor.Reads as read-divisor-reads
-use Rattle.expr.proofs.value.divide.Reads as divide-reads
-use Rattle.reading.proofs.field.word_fault.Reads as word-fault-reads
 
--- src/expression.rt:145:9
+-- the divisor that was read
+taken : (c : tie.After-known-told) →
+    let start = c .before .before .before .before .before in
+    divisor (onward (start .args .s .now) (start .args .at))
+    ≡ got (c .before .w .given .0 .0) (onward (start .args .s .now) (c .before .w .given .0 .1 .0))
+taken c = answered (wordOf _) (c .before .before .before .read-divisor .ensures .0) (c .before .w .given .1)
+
 read-divisor-requires : tie.Need-read-divisor-requires
 read-divisor-requires c κs = search needs
 
--- src/expression.rt:146:25
 enum-known-w : tie.Need-enum-known-w
 enum-known-w c = search needs
 
--- src/expression.rt:147:33
 enum-told : tie.Need-enum-told
 enum-told c = search needs
 
--- src/expression.rt:147:33
 word-fault-requires : tie.Need-word-fault-requires
 word-fault-requires c κs = search needs
 
--- src/expression.rt:147:9
 returns : tie.Need-returns
-returns c = ?
+returns c =
+    let at-read-divisor = c .before .before .before in
+    let fails = answered (wordOf _) (at-read-divisor .read-divisor .ensures .0) (c .before .enum-told .given .1) in (
+      handed-on wordFault (c .word-fault .ensures) (c .before .enum-told .given .1) (mapped-fault _ fails),
+      omega arith,
+    )
 
--- src/expression.rt:149:22
 divide-requires : tie.Need-divide-requires
 divide-requires c κs = search needs
 
--- src/expression.rt:141:1
 returns-2 : tie.Need-returns-2
-returns-2 c = ?
+returns-2 c =
+    let at-w = c .before .before in (
+      rw (c .divide .ensures (divisor-in _ (taken (c .before)))) (sym (mapped-got _ (taken (c .before)))),
+      omega (arith, ap wordEnd (at-w .w .given .1), at-w .before .before .read-divisor .ensures .1),
+    )
 
 pub divide-by-spec : {M : Type 1} → statement M
 divide-by-spec =

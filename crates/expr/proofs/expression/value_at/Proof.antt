@@ -7,7 +7,6 @@ use Rattle.expr.specs.Value.{valueOf, valueEnd}
 use Rattle.reading.proofs.Places.{length-onward, part-got, part-fault, answered}
 use Rattle.lists.proofs.Parts.{part-length}
 use Rattle.expr.proofs.Expressions.{read-empty}
-use Rattle.expr.proofs.Integers.{read-back}
 use borrow.Author.Needs.{needs}
 use Rattle.expr.proofs.expression.value_at.Statement.{statement}
 use Rattle.expr.proofs.expression.value_at.Tie as tie
@@ -59,8 +58,7 @@ returns-3 c =
     let start = at-evaluate .before .before .before .before in
     let read-v = answered (valueOf _) (at-evaluate .evaluate .ensures .0) (c .before .v .given .1) in
     let a = start .args in
-    rw (read-back (c .before .v .given .0 .0) (c .known-told .given .0 .1))
-    (sym (part-got (λ b. mapped (value (a .values .now)) (expression (a .variables) 8 b)) (a .s .now) (a .at) _ read-v))
+    sym (part-got (λ b. mapped (value (a .values .now)) (expression (a .variables) 8 b)) (a .s .now) (a .at) _ read-v)
 
 pub value-at-spec : {M : Type 1} → statement M
 value-at-spec =

@@ -1,58 +1,63 @@
+-- None where an argument has none, else what the operation of the code gives of the two numbers.
+use borrow.Author.Needs.{needs}
+use mathlib.Core.Path.{_∙_}
+use lib.IntN.{_+ℤ_, _-ℤ_, _*ℤ_}
+use mir.Syntax.{w32}
+use mir.Val.{SFits}
+use Rattle.expr.specs.Value.{exactly}
+use Rattle.expr.proofs.Integers.{read-both}
+use Rattle.expr.proofs.Values.{combined-left, combined-right, combined-sum, combined-difference, combined-product}
 use Rattle.expr.proofs.value.combine.Statement.{statement}
 use Rattle.expr.proofs.value.combine.Tie as tie
-use Rattle.expr.proofs.value.combine.Reads as reads
-use Rattle.expr.proofs.value.combine.Lts as lts
-use Rattle.expr.proofs.value.difference.Reads as difference-reads
-use Rattle.expr.proofs.value.product.Reads as product-reads
-use Rattle.expr.proofs.value.sum.Reads as sum-reads
 
--- src/value.rt:71:23
+-- the two numbers fit
+first : (c : tie.After-known-told2) → SFits w32 (c .before .before .before .before .x .given .0 .0)
+first c = record { sfits = c .before .before .before .known-told .given .0 .1 }
+
+second : (c : tie.After-known-told2) → SFits w32 (c .before .y .given .0 .0)
+second c = record { sfits = c .known-told2 .given .0 .1 }
+
 enum-known-x : tie.Need-enum-known-x
-enum-known-x c = ?
+enum-known-x c = search needs
 
--- src/value.rt:72:9
 enum-told : tie.Need-enum-told
-enum-told c = ?
+enum-told c = search needs
 
--- src/value.rt:72:9
 returns : tie.Need-returns
-returns c = ?
+returns c = combined-left _ _ (c .enum-told .given .1)
 
--- src/value.rt:74:23
 enum-known-y : tie.Need-enum-known-y
-enum-known-y c = ?
+enum-known-y c = search needs
 
--- src/value.rt:75:9
 enum-told-2 : tie.Need-enum-told-2
-enum-told-2 c = ?
+enum-told-2 c = search needs
 
--- src/value.rt:75:9
 returns-2 : tie.Need-returns-2
-returns-2 c = ?
+returns-2 c = combined-right _ _ (c .before .before .before .x .given .1) (c .enum-told2 .given .1)
 
--- src/value.rt:78:14
 sum-requires : tie.Need-sum-requires
-sum-requires c κs = ?
+sum-requires c κs = search needs
 
--- src/value.rt:79:14
 difference-requires : tie.Need-difference-requires
-difference-requires c κs = ?
+difference-requires c κs = search needs
 
--- src/value.rt:80:14
 product-requires : tie.Need-product-requires
-product-requires c κs = ?
+product-requires c κs = search needs
 
--- src/value.rt:68:1
 returns-3 : tie.Need-returns-3
-returns-3 c = ?
+returns-3 c =
+    let p = c .before .before in
+    c .sum .ensures ∙ read-both (λ x y. exactly (x +ℤ y)) (first p) (second p) ∙ combined-sum (p .before .before .before .before .x .given .1) (p .before .y .given .1) (c .before .match3 .keys1)
 
--- src/value.rt:68:1
 returns-4 : tie.Need-returns-4
-returns-4 c = ?
+returns-4 c =
+    let p = c .before .before in
+    c .difference .ensures ∙ read-both (λ x y. exactly (x -ℤ y)) (first p) (second p) ∙ combined-difference (p .before .before .before .before .x .given .1) (p .before .y .given .1) (c .before .match3 .keys2)
 
--- src/value.rt:68:1
 returns-5 : tie.Need-returns-5
-returns-5 c = ?
+returns-5 c =
+    let p = c .before .before in
+    c .product .ensures ∙ read-both (λ x y. exactly (x *ℤ y)) (first p) (second p) ∙ combined-product (p .before .before .before .before .x .given .1) (p .before .y .given .1) (c .before .match3 .rest .0 .1) (c .before .match3 .rest .1)
 
 pub combine-spec : {M : Type 1} → statement M
 combine-spec =

@@ -1,41 +1,50 @@
+-- No relation holds where a value is none, and else that of the two numbers.
 use borrow.Author.Needs.{needs}
+use mathlib.Core.Path.{_∙_}
+use lib.ListN.{getD}
+use mir.Syntax.{w32}
+use mir.Val.{SFits}
+use Rattle.expr.specs.Relation.{lt, relations, compareℤ}
+use Rattle.expr.proofs.Integers.{read-both}
+use Rattle.expr.proofs.Values.{compared-numbers}
 use Rattle.expr.proofs.value.compare_values.Statement.{statement}
 use Rattle.expr.proofs.value.compare_values.Tie as tie
-use Rattle.expr.proofs.value.compare_values.Reads as reads
-use Rattle.expr.proofs.value.compare_values.Lts as lts
-use Rattle.expr.proofs.signed.compare.Reads as compare-reads
 
--- src/value.rt:131:23
+-- the two numbers fit
+first : (c : tie.After-known-told2) → SFits w32 (c .before .before .before .before .x .given .0 .0)
+first c = record { sfits = c .before .before .before .known-told .given .0 .1 }
+
+second : (c : tie.After-known-told2) → SFits w32 (c .before .y .given .0 .0)
+second c = record { sfits = c .known-told2 .given .0 .1 }
+
 enum-known-x : tie.Need-enum-known-x
 enum-known-x c = search needs
 
--- src/value.rt:132:9
 enum-told : tie.Need-enum-told
 enum-told c = search needs
 
--- src/value.rt:132:9
 returns : tie.Need-returns
 returns c = search needs
 
--- src/value.rt:134:23
 enum-known-y : tie.Need-enum-known-y
 enum-known-y c = search needs
 
--- src/value.rt:135:9
 enum-told-2 : tie.Need-enum-told-2
 enum-told-2 c = search needs
 
--- src/value.rt:135:9
 returns-2 : tie.Need-returns-2
 returns-2 c = search needs
 
--- src/value.rt:137:5
 compare-requires : tie.Need-compare-requires
 compare-requires c κs = search needs
 
--- src/value.rt:128:1
 returns-3 : tie.Need-returns-3
-returns-3 c = ?
+returns-3 c =
+    let p = c .before in
+    let start = p .before .before .before .before .before .before in
+    c .compare .ensures
+    ∙ read-both (λ x y. compareℤ (getD relations (start .args .relation) lt) x y) (first p) (second p)
+    ∙ compared-numbers _ (p .before .before .before .before .x .given .1) (p .before .y .given .1)
 
 pub compare-values-spec : {M : Type 1} → statement M
 compare-values-spec =

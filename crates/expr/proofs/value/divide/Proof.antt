@@ -1,38 +1,42 @@
 use borrow.Author.Needs.{needs}
+use mathlib.Core.Path.{_∙_, ap}
+use lib.IntN.{ℤ}
+use Rattle.expr.specs.Integer.{floorDiv, floorMod}
+use Rattle.expr.specs.declared.value.Value.the-variants as Va
+use Rattle.lists.proofs.Bools.{cond-yes}
+use Rattle.expr.proofs.Integers.{read-back}
+use Rattle.expr.proofs.Values.{divided-none, divided-quotient, divided-remainder}
 use Rattle.expr.proofs.value.divide.Statement.{statement}
 use Rattle.expr.proofs.value.divide.Tie as tie
-use Rattle.expr.proofs.value.divide.Reads as reads
-use Rattle.expr.proofs.value.divide.Lts as lts
-use Rattle.expr.proofs.signed.quotient.Reads as quotient-reads
-use Rattle.expr.proofs.signed.remainder.Reads as remainder-reads
 
--- src/value.rt:88:23
 enum-known-x : tie.Need-enum-known-x
 enum-known-x c = search needs
 
--- src/value.rt:89:9
 enum-told : tie.Need-enum-told
 enum-told c = search needs
 
--- src/value.rt:89:9
 returns : tie.Need-returns
-returns c = ?
+returns c h = divided-none _ _ (c .enum-told .given .1)
 
--- src/value.rt:92:23
 quotient-requires : tie.Need-quotient-requires
 quotient-requires c κs = search needs
 
--- src/value.rt:94:23
 remainder-requires : tie.Need-remainder-requires
 remainder-requires c κs = search needs
 
--- src/value.rt:85:1
 returns-2 : tie.Need-returns-2
-returns-2 c = ?
+returns-2 c h =
+    let p = c .before .before in
+    let start = p .before .before .before in
+    ap Va.Number (read-back _ (c .quotient .ok) ∙ c .quotient .ensures ∙ cond-yes _ _ h ∙ ap (λ (z : ℤ). floorDiv z (start .args .d)) (read-back _ (p .known-told .given .0 .1)))
+    ∙ divided-quotient _ _ (p .before .x .given .1) (c .before .if1 .taken)
 
--- src/value.rt:85:1
 returns-3 : tie.Need-returns-3
-returns-3 c = ?
+returns-3 c h =
+    let p = c .before .before in
+    let start = p .before .before .before in
+    ap Va.Number (read-back _ (c .remainder .ok) ∙ c .remainder .ensures ∙ cond-yes _ _ h ∙ ap (λ (z : ℤ). floorMod z (start .args .d)) (read-back _ (p .known-told .given .0 .1)))
+    ∙ divided-remainder _ _ (p .before .x .given .1) (c .before .if1 .left)
 
 pub divide-spec : {M : Type 1} → statement M
 divide-spec =

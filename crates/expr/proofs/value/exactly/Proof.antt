@@ -1,25 +1,40 @@
+-- The magnitude tells whether the number is in the range.
 use borrow.Author.Needs.{needs}
+use borrow.Author.Tests.{lt-ltb, le-ltb}
+use native.Mathlib.Omega.{arith}
+use Prim.Native.Nat.{_<_, _≤_, _^_}
+use mathlib.Core.Path.{_≡_, _∙_, ap}
+use lib.Signed.{mag}
+use mir.Syntax.{w64}
+use mir.Val.{toZ, ofZ}
+use mir.ValLaws.{toZ-ofZ}
+use Rattle.expr.specs.Value.{exactly}
+use Rattle.expr.proofs.Integers.{read-back}
 use Rattle.expr.proofs.value.exactly.Statement.{statement}
 use Rattle.expr.proofs.value.exactly.Tie as tie
-use Rattle.expr.proofs.value.exactly.Reads as reads
-use Rattle.expr.proofs.value.exactly.Lts as lts
-use Rattle.expr.proofs.signed.magnitude.Reads as magnitude-reads
 
--- src/value.rt:42:8
+read : (c : tie.Start) → toZ w64 (ofZ w64 (c .args .z)) ≡ c .args .z
+read c = toZ-ofZ w64 _ (c .fits .z)
+
+measured : (c : tie.After-magnitude) → c .magnitude .result ≡ mag (c .before .args .z)
+measured c = c .magnitude .ensures ∙ ap mag (read (c .before))
+
 magnitude-requires : tie.Need-magnitude-requires
 magnitude-requires c κs = search needs
 
--- src/value.rt:43:23
+inside : (c : tie.Then1) → mag (c .before .before .args .z) < 2 ^ 31
+inside c = omega (arith, measured (c .before), c .if1 .taken)
+
 cast-t5 : tie.Need-cast-t5
-cast-t5 c = search needs
+cast-t5 c = rw (read (c .before .before)) (record { sfits = inside c })
 
--- src/value.rt:39:1
 returns : tie.Need-returns
-returns c = ?
+unfolding exactly
+returns c = rw (read (c .before .before), read-back _ (inside c), lt-ltb _ _ (inside c))
 
--- src/value.rt:39:1
 returns-2 : tie.Need-returns-2
-returns-2 c = ?
+unfolding exactly
+returns-2 c = let e = measured (c .before) in rw (le-ltb (mag (c .before .before .args .z)) (2 ^ 31) (omega (arith, e, c .if1 .left)))
 
 pub exactly-spec : {M : Type 1} → statement M
 exactly-spec = tie.close (tie.spec magnitude-requires cast-t5 returns returns-2)

@@ -1,24 +1,21 @@
 use borrow.Author.Needs.{needs}
+use mathlib.Core.Path.{_∙_, sym, ap}
+use Rattle.expr.specs.Value.{numberOf}
+use Rattle.expr.proofs.Integers.{read-back}
 use Rattle.expr.proofs.value.number_of.Statement.{statement}
 use Rattle.expr.proofs.value.number_of.Tie as tie
-use Rattle.expr.proofs.value.number_of.Reads as reads
-use Rattle.expr.proofs.value.number_of.Lts as lts
 
--- src/value.rt:122:23
 enum-known-x : tie.Need-enum-known-x
 enum-known-x c = search needs
 
--- src/value.rt:123:24
 enum-told : tie.Need-enum-told
 enum-told c = search needs
 
--- src/value.rt:118:1
 returns : tie.Need-returns
-returns c = ?
+returns c = read-back _ (c .known-told .given .0 .1) ∙ sym (ap numberOf (c .before .x .given .1))
 
--- src/value.rt:118:1
 returns-2 : tie.Need-returns-2
-returns-2 c = ?
+returns-2 c = sym (ap numberOf (c .enum-told .given .1))
 
 pub number-of-spec : {M : Type 1} → statement M
 number-of-spec = tie.close (tie.spec enum-known-x enum-told returns returns-2)

@@ -2,24 +2,23 @@
 use borrow.Author.Needs.{needs}
 use native.Mathlib.Omega.{arith}
 use Prim.Native.Nat.{_<_, _^_}
-use mathlib.Core.Path.{_≡_, _∙_, sym, ap}
-use borrow.Author.Tests.{le-leb, lt-leb}
-use Rattle.lists.proofs.Bools.{cond-yes, cond-no}
+use mathlib.Core.Path.{_≡_, _∙_, ap}
 use lib.IntN.{ℤ, pos, _+ℤ_}
 use lib.Signed.{mag}
 use mir.Syntax.{w64}
 use mir.Val.{toZ, ofZ}
 use mir.ValLaws.{toZ-ofZ}
-use Rattle.expr.specs.Integer.{floorDiv, wrap}
+use Rattle.expr.specs.Integer.{floorDiv}
+use Rattle.expr.specs.Value.{exactly}
 use Rattle.expr.proofs.Integers.{read-back, read-wide, cast-fits, step-fits}
 use Rattle.expr.proofs.value.steps_after.Statement.{statement}
 use Rattle.expr.proofs.value.steps_after.Tie as tie
 
 returns : tie.Need-returns
-returns c = read-back _ (c .before .fits .steps .sfits) ∙ sym (cond-no _ _ (lt-leb 1 (c .before .args .denominator) (omega (arith, c .if1 .taken))))
+returns c h = absurd (omega (arith, c .if1 .taken, h))
 
-cast-wrap : tie.Need-cast-wrap
-cast-wrap c = cast-fits _ (c .before .fits .steps)
+cast-exactly : tie.Need-cast-exactly
+cast-exactly c = cast-fits _ (c .before .fits .steps)
 
 total-requires : tie.Need-total-requires
 total-requires c κs = search needs
@@ -45,24 +44,23 @@ small c =
     rw (toZ-ofZ w64 (c .floored .result) (record { sfits = c .floored .ok }))
     (omega (arith, rw r at (c .floored .ensures .1), t .ensures .1))
 
-add-wrap : tie.Need-add-wrap
-add-wrap c =
+add-exactly : tie.Need-add-exactly
+add-exactly c =
     let start = c .before .before .before in
     rw (read-wide (start .args .steps) (start .fits .steps)) (step-fits _ _ (start .fits .steps) (small c))
 
-wrap-requires : tie.Need-wrap-requires
-wrap-requires c κs = search needs
+exactly-requires : tie.Need-exactly-requires
+exactly-requires c κs = search needs
 
 returns-2 : tie.Need-returns-2
-returns-2 c =
+returns-2 c h =
     let f = c .before in
     let start = f .before .before .before in
-    read-back _ (c .wrap .ok) ∙ c .wrap .ensures
+    c .exactly .ensures
     ∙ rw (read-wide (start .args .steps) (start .fits .steps))
-    (ap wrap (toZ-ofZ w64 _ (step-fits _ _ (start .fits .steps) (small f)) ∙ ap (λ (z : ℤ). start .args .steps +ℤ z) (whole f)))
-    ∙ sym (cond-yes _ _ (le-leb 1 (start .args .denominator) (omega (arith, f .before .before .if1 .left))))
+    (ap exactly (toZ-ofZ w64 _ (step-fits _ _ (start .fits .steps) (small f)) ∙ ap (λ (z : ℤ). start .args .steps +ℤ z) (whole f)))
 
 pub steps-after-spec : {M : Type 1} → statement M
 steps-after-spec =
     tie.close
-    (tie.spec returns cast-wrap total-requires floored-requires add-wrap wrap-requires returns-2)
+    (tie.spec returns cast-exactly total-requires floored-requires add-exactly exactly-requires returns-2)

@@ -1,0 +1,58 @@
+-- Laws of values: what the operations give of a value that is none, and of two numbers.
+use mathlib.Core.Path.{_≡_, refl, sym}
+use mathlib.Core.Bool.{Bool, true, false, cond}
+use mathlib.Core.Logic.{_≢_}
+use Prim.Native.Nat.{ℕ}
+use lib.Dec.{eqb}
+use lib.IntN.{ℤ, _+ℤ_, _-ℤ_, _*ℤ_}
+use borrow.Author.Tests.{ne-eqb}
+use Rattle.expr.specs.Integer.{floorDiv, floorMod}
+use Rattle.expr.specs.Relation.{Relation, compareℤ}
+use Rattle.expr.specs.Value.{exactly, combined, divided, compared}
+use Rattle.expr.specs.declared.value.Value.{Value}
+use Rattle.expr.specs.declared.value.Value.the-variants as Va
+
+-- a sum, difference or product, by the code
+either : (b : Bool) {x y : Value} → x ≡ Va.None → y ≡ Va.None → Va.None ≡ cond b x y
+either true h k = rw h
+either false h k = rw k
+
+module _ (code : ℕ) {x : Value} (y : Value) where
+  pub combined-left : x ≡ Va.None → Va.None ≡ combined code x y
+  unfolding combined
+  combined-left h = rw h (either (eqb code 2) refl (sym (either (eqb code 3) refl refl)))
+
+  pub combined-right : {a : ℤ} → x ≡ Va.Number a → y ≡ Va.None → Va.None ≡ combined code x y
+  unfolding combined
+  combined-right h k = rw (h, k) (either (eqb code 2) refl (sym (either (eqb code 3) refl refl)))
+
+module _ {code : ℕ} {x y : Value} {a b : ℤ} (h : x ≡ Va.Number a) (k : y ≡ Va.Number b) where
+  pub combined-sum : code ≡ 2 → exactly (a +ℤ b) ≡ combined code x y
+  unfolding combined
+  combined-sum e = rw (h, k, e)
+
+  pub combined-difference : code ≡ 3 → exactly (a -ℤ b) ≡ combined code x y
+  unfolding combined
+  combined-difference e = rw (h, k, e)
+
+  pub combined-product : code ≢ 2 → code ≢ 3 → exactly (a *ℤ b) ≡ combined code x y
+  unfolding combined
+  combined-product n m = rw (h, k, ne-eqb code 2 n, ne-eqb code 3 m)
+
+-- a quotient or remainder, by the code
+module _ (code : ℕ) {x : Value} (d : ℕ) where
+  pub divided-none : x ≡ Va.None → Va.None ≡ divided code x d
+  unfolding divided
+  divided-none h = rw h (either (eqb code 5) refl refl)
+
+  pub divided-quotient : {a : ℤ} → x ≡ Va.Number a → code ≡ 5 → Va.Number (floorDiv a d) ≡ divided code x d
+  unfolding divided
+  divided-quotient h e = rw (h, e)
+
+  pub divided-remainder : {a : ℤ} → x ≡ Va.Number a → code ≢ 5 → Va.Number (floorMod a d) ≡ divided code x d
+  unfolding divided
+  divided-remainder h n = rw (h, ne-eqb code 5 n)
+
+-- two numbers in a relation
+pub compared-numbers : (r : Relation) {x y : Value} {a b : ℤ} → x ≡ Va.Number a → y ≡ Va.Number b → compareℤ r a b ≡ compared r x y
+compared-numbers r h k = rw (h, k)
