@@ -21,7 +21,7 @@ use chart_records::transition::entry_of;
 use chart_records::transition::resets_of;
 use chart_records::transition::source_of;
 use chart_tree::table::Tree;
-use updates::update::Assigned;
+use labels::label::NewValues;
 
 // Where the transitions of a list come from and go to, and by which entries.
 fn moves_of(rest: &[u8], offsets: &[u32], list: &[u16]) -> Moves
@@ -48,7 +48,7 @@ fn variables_after(
     offsets: &[u32],
     list: &[u16],
     old: [i32; 16],
-) -> Assigned
+) -> NewValues
     ensures within { λ r. ⌜ ((c : Chart) → Laid (now (rest .entry)) counts (now (offsets .entry)) c → known (counts .transitions) (now (list .entry)) ≡ true → r .within ≡ allStay (map (λ m. transitionAt c m .label) (now (list .entry))) old) ⌝ }
     ensures values { λ r. ⌜ ((c : Chart) → Laid (now (rest .entry)) counts (now (offsets .entry)) c → known (counts .transitions) (now (list .entry)) ≡ true → r .values ≡ variablesAfter (map (λ m. transitionAt c m .label) (now (list .entry))) old) ⌝ }
 {
@@ -71,7 +71,7 @@ fn variables_after(
         values = next.values;
         i += 1;
     }
-    Assigned { within, values }
+    NewValues { within, values }
 }
 
 // The clocks, with those at 0 that a transition resets.

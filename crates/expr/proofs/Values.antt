@@ -1,16 +1,35 @@
--- Laws of values: what the operations give of a value that is none, and of two numbers.
+-- Laws of values: which exact results are numbers, and what the operations give of none and of numbers.
 use mathlib.Core.Path.{_≡_, refl, sym}
 use mathlib.Core.Bool.{Bool, true, false, cond}
 use mathlib.Core.Logic.{_≢_}
-use Prim.Native.Nat.{ℕ}
+use Prim.Native.Nat.{ℕ, _^_, _≤_, _<_}
 use lib.Dec.{eqb}
 use lib.IntN.{ℤ, _+ℤ_, _-ℤ_, _*ℤ_}
-use borrow.Author.Tests.{ne-eqb}
-use Rattle.expr.specs.Integer.{floorDiv, floorMod}
+use lib.Signed.{mag}
+use borrow.Author.Tests.{lt-ltb, le-ltb, ne-eqb}
+use Rattle.lists.proofs.Bools.{cond-yes, cond-no}
+use Rattle.expr.specs.Integer.{inside, floorDiv, floorMod}
 use Rattle.expr.specs.Relation.{Relation, compareℤ}
-use Rattle.expr.specs.Value.{exactly, combined, divided, compared}
+use Rattle.expr.specs.Value.{exactly, combined, divided, isNumber, compared}
 use Rattle.expr.specs.declared.value.Value.{Value}
 use Rattle.expr.specs.declared.value.Value.the-variants as Va
+
+-- an exact result inside the range is the number itself, and one outside it is none
+pub exactly-inside : (z : ℤ) → mag z < 2 ^ 31 → exactly z ≡ Va.Number z
+unfolding exactly
+exactly-inside z h = cond-yes (Va.Number z) Va.None (lt-ltb (mag z) (2 ^ 31) h)
+
+pub exactly-outside : (z : ℤ) → 2 ^ 31 ≤ mag z → exactly z ≡ Va.None
+unfolding exactly
+exactly-outside z h = cond-no (Va.Number z) Va.None (le-ltb (mag z) (2 ^ 31) h)
+
+pub exactly-is-number : (z : ℤ) → isNumber (exactly z) ≡ inside z
+unfolding exactly
+exactly-is-number z = go (inside z)
+  where
+    go : (b : Bool) → isNumber (cond b (Va.Number z) Va.None) ≡ b
+    go true = refl
+    go false = refl
 
 -- a sum, difference or product, by the code
 either : (b : Bool) {x y : Value} → x ≡ Va.None → y ≡ Va.None → Va.None ≡ cond b x y

@@ -18,7 +18,7 @@ fn below_zero(x: i64) -> bool
 }
 
 // n for n and for -(n + 1).
-pub fn magnitude(x: i64) -> u64
+pub(crate) fn magnitude(x: i64) -> u64
     ensures { λ r. ⌜ r ≡ mag x ⌝ }
 {
     if x < 0 { (-1 - x) as u64 } else { x as u64 }
@@ -98,7 +98,7 @@ pub fn remainder(x: i32, d: u32) -> i32
 }
 
 // The remainder and the numerator of an advance, added exactly.
-pub fn total(remainder: i32, numerator: u16) -> i64
+pub(crate) fn total(remainder: i32, numerator: u16) -> i64
     ensures is { λ r. ⌜ r ≡ remainder +ℤ pos numerator ⌝ }
     ensures within { λ r. ⌜ mag r < 2 ^ 32 ⌝ }
 {
@@ -106,7 +106,7 @@ pub fn total(remainder: i32, numerator: u16) -> i64
 }
 
 // The quotient of z rounded down.
-pub fn floored(z: i64, d: u16) -> i64
+pub(crate) fn floored(z: i64, d: u16) -> i64
     requires { ⌜ 1 ≤ d ⌝ }
     ensures is { λ r. ⌜ r ≡ floorDiv z d ⌝ }
     ensures within { λ r. ⌜ mag r ≤ mag z ⌝ }

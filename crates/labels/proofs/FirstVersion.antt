@@ -10,6 +10,7 @@ use lib.IntN.{ℤ}
 use lib.ListN.{set}
 use Rattle.lists.specs.Lists.{concat}
 use Rattle.reading.specs.Reading.{Read, got, fault, Reader, yield, _>>=_, byte, such, many}
+use Rattle.expr.specs.Value.{numberOf}
 use Rattle.expr.specs.Expression.{Expr, expression, levels, value}
 use Rattle.labels.specs.Guard.{guard}
 use Rattle.updates.specs.Update.{Update, assignment, opens, ofForm, update, targets, updated, assign}
@@ -69,6 +70,6 @@ pub first-targets : (v : ℕ) (e : Expr) (us : List Update) → targets (assignm
 unfolding concat
 first-targets v e us = refl
 
-pub first-assign : (old : List ℤ) (v : ℕ) (e : Expr) (us : List Update) (new : List ℤ) → assign old (assignment v e ∷ us) new ≡ assign old us (set new v (value old e))
+pub first-assign : (old : List ℤ) (v : ℕ) (e : Expr) (us : List Update) (new : List ℤ) → assign old (assignment v e ∷ us) new ≡ assign old us (set new v (numberOf (value old e)))
 unfolding assign updated
 first-assign old v e us new = refl

@@ -3,21 +3,22 @@ use mathlib.Core.Path.{_≡_, refl, sym, _∙_}
 use mathlib.Core.Bool.{Bool, true, false, cond, not, _||_}
 use mathlib.Core.Logic.{_≢_}
 use mathlib.Core.List.{List, List·Memᴰ as Mem, List·Memᴰ·head as here, Memᴰ·cast as cast}
-use Prim.Native.Nat.{ℕ, _+_, _≤_}
+use Prim.Native.Nat.{ℕ, _+_, _^_, _≤_}
 use native.Mathlib.Numerals.{add-one}
 use native.Mathlib.Nat.{add-zero}
+use borrow.Author.Tests.{ltb-true}
 use lib.Dec.{eqb}
 use lib.IntN.{ℤ}
 use lib.ListN.{length}
-use Rattle.lists.specs.Lists.{any, concat}
+use Rattle.lists.specs.Lists.{all, any, concat}
 use Rattle.lists.proofs.Bools.{and-r, same}
-use Rattle.lists.proofs.Lists.{any-at, any-by}
+use Rattle.lists.proofs.Lists.{all-at, any-at, any-by}
 use Rattle.lists.proofs.Concat.{concat-at, concat-by}
 use Rattle.lists.proofs.Once.{distinct-at}
-use Rattle.updates.specs.Update.{Update, advance, targets, assign}
+use Rattle.updates.specs.Update.{Update, advance, targets, stays, assign}
 use Rattle.updates.specs.TakeUp.{isAdvance, TakenUp}
 use Rattle.updates.specs.declared.update.Advance.{Advance}
-use Rattle.updates.proofs.Advances.{Apart, OnlyIn, is-advance-writes, taken-up-more, assign-advances, assign-leaves, once-each}
+use Rattle.updates.proofs.Advances.{InRange, Apart, OnlyIn, is-advance-writes, advance-stays, taken-up-more, assign-advances, assign-leaves, once-each}
 use Rattle.labels.specs.Label.{Label, assignsOnce, bodyOnce}
 use Rattle.labels.specs.TakeUp.{OnlyBy, makes}
 
@@ -65,6 +66,18 @@ labels-take-up a ls k vars d o p t = go (any (makes a) ls) refl
     go false e =
         let s = assign-leaves a vars (updatesOf ls) vars (only-in a ls o) (made-of a ls ∙ e) in
         rw (add-zero k) (record { whole = λ h. s .steps-same ∙ t .whole h; rest = s .remainder-same ∙ t .rest })
+
+-- if the updates of labels stay in the range, so does the whole part of the advances made with theirs
+pub labels-in-range : (a : Advance) (ls : List Label) (k : ℕ) (vars : List ℤ) → 1 ≤ a .denominator → OnlyBy a ls
+    → all (stays vars) (updatesOf ls) ≡ true → TakenUp a k vars → InRange a k → InRange a (k + cond (any (makes a) ls) 1 0)
+labels-in-range a ls k vars d o s t h = go (any (makes a) ls) refl
+  where
+    go : (b : Bool) → any (makes a) ls ≡ b → InRange a (k + cond b 1 0)
+    go true e =
+        let r = any-at (makes a) ls e in
+        let u = concat-by (λ (l : Label). l .body .updates) (r .1) (made-by a (r .0) ls o (r .1) (r .2)) in
+        rw (add-one k) (ltb-true _ (2 ^ 31) (sym (advance-stays a k vars d t h) ∙ all-at (stays vars) (updatesOf ls) s u))
+    go false e = rw (add-zero k) h
 
 -- where rule 13 is kept, an advance has two variables
 pub two-variables : (a : Advance) (l : Label) → assignsOnce l ≡ true → Mem (advance a) (l .body .updates) → a .steps ≢ a .remainder

@@ -16,7 +16,6 @@ use reading::field::Fault;
 use reading::field::Reached;
 use reading::field::TestRead;
 use updates::update;
-use updates::update::Assigned;
 use updates::update::FormRead;
 
 // So many guards from a place on, as a file is checked.
@@ -84,6 +83,12 @@ fn all_hold(
     true
 }
 
+// The variables after some updates, and whether these stayed in the range.
+pub struct NewValues {
+    pub within: bool,
+    pub values: [i32; 16],
+}
+
 // The variables after so many updates from a place on, which are known to be there. All of them read `old`.
 fn all_assigned(
     s: &[u8],
@@ -93,7 +98,7 @@ fn all_assigned(
     variables: u8,
     old: [i32; 16],
     new: [i32; 16],
-) -> Assigned
+) -> NewValues
     ensures within { λ r. ⌜ ((us : _) (t : _) → many count (update version variables) (onward (now (s .entry)) at) ≡ got us t → r .within ≡ all (stays old) us) ⌝ }
     ensures values { λ r. ⌜ ((us : _) (t : _) → many count (update version variables) (onward (now (s .entry)) at) ≡ got us t → r .values ≡ assign old us new) ⌝ }
 {
@@ -105,7 +110,7 @@ fn all_assigned(
         let u = update::updated_at(s, place, version, variables, old, values);
         let q = u.reached;
         let Reached::At(next) = q else {
-            return Assigned {
+            return NewValues {
                 within: false,
                 values: old,
             };
@@ -115,12 +120,12 @@ fn all_assigned(
         place = next;
         i += 1;
     }
-    Assigned { within, values }
+    NewValues { within, values }
 }
 
 // Nothing assigned.
-fn unassigned(values: [i32; 16]) -> Assigned {
-    Assigned {
+fn unassigned(values: [i32; 16]) -> NewValues {
+    NewValues {
         within: true,
         values,
     }
@@ -278,7 +283,7 @@ pub fn assigned(
     variables: u8,
     old: [i32; 16],
     new: [i32; 16],
-) -> Assigned
+) -> NewValues
     ensures within { λ r. ⌜ ((b : _) (t : _) → body (limits version clocks variables) (onward (now (s .entry)) at) ≡ got b t → r .within ≡ all (stays old) (b .updates)) ⌝ }
     ensures values { λ r. ⌜ ((b : _) (t : _) → body (limits version clocks variables) (onward (now (s .entry)) at) ≡ got b t → r .values ≡ assign old (b .updates) new) ⌝ }
 {

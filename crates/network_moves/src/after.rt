@@ -13,11 +13,11 @@ ghost use Rattle.network_moves.specs.Turns.{taken};
 ghost use Rattle.network_records.specs.Edges.{Kept};
 ghost use Rattle.network_records.specs.Layout.{Located, Laid};
 use crate::configuration::Configuration;
+use labels::label::NewValues;
 use network::laid::edge_of;
 use network_records::edge::Edge;
 use network_records::header::Counts;
 use network_records::location::automaton_of;
-use updates::update::Assigned;
 
 // The locations with one automaton at another. There are sixteen; one that is not there changes none.
 fn with_location(locations: [u8; 16], automaton: u8, target: u8) -> [u8; 16]
@@ -51,7 +51,7 @@ fn with_flags(flags: [u8; 16], automaton: u8, written: u8, values: u8) -> [u8; 1
 }
 
 // The new variables with the updates of one more edge, which read the old values.
-fn assigned_by(rest: &[u8], counts: Counts, e: Edge, old: [i32; 16], new: [i32; 16]) -> Assigned
+fn assigned_by(rest: &[u8], counts: Counts, e: Edge, old: [i32; 16], new: [i32; 16]) -> NewValues
     ensures within { λ r. ⌜ ((d : _) → Kept counts (now (rest .entry)) e d → r .within ≡ all (stays old) (d .label .body .updates)) ⌝ }
     ensures values { λ r. ⌜ ((d : _) → Kept counts (now (rest .entry)) e d → r .values ≡ assign old (d .label .body .updates) new) ⌝ }
 {

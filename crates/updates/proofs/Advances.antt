@@ -18,13 +18,15 @@ use Rattle.lists.proofs.Lists.{elem-by}
 use Rattle.lists.proofs.Once.{Once, once-first, once-second}
 use Rattle.expr.specs.Integer.{floorDiv, floorMod}
 use Rattle.expr.specs.Expression.{value}
-use Rattle.expr.proofs.Integers.{wrap-small}
-use Rattle.updates.specs.Update.{Update, assignment, advance, formOf, writes, targets, total, stepsAfter, remainderAfter, updated, assign}
-use Rattle.updates.specs.TakeUp.{writesEither, isAdvance, advancedBy, TakenUp}
+use Rattle.expr.specs.Value.{exactly, isNumber, numberOf}
+use Rattle.expr.specs.declared.value.Value.the-variants as Va
+use Rattle.expr.proofs.Values.{exactly-inside, exactly-is-number}
+use Rattle.updates.specs.Update.{Update, assignment, advance, formOf, writes, targets, total, stepsAfter, remainderAfter, stays, updated, assign}
+use Rattle.updates.specs.TakeUp.{writesEither, isAdvance, advancedBy, TakenUp, AdvanceStays, TakenInRange}
 use Rattle.updates.specs.declared.update.Advance.{Advance}
 
 -- the whole part of k advances is below the range's end; then so is that of one less
-abbrev InRange : Advance → ℕ → Type 0
+abbrev pub InRange : Advance → ℕ → Type 0
 InRange a k = k * a .numerator / a .denominator < 2 ^ 31
 
 quotient-grows : {x y : ℕ} (q : ℕ) → 0 < q → x ≤ y → x / q ≤ y / q
@@ -48,10 +50,12 @@ module _ (a : Advance) (k : ℕ) (old : List ℤ) (t : TakenUp a k old) where
   unfolding total
   total-is = rw (t .rest)
 
-  pub steps-more : 1 ≤ a .denominator → InRange a (suc k) → stepsAfter old a ≡ pos (suc k * a .numerator / a .denominator)
+  steps-are-exactly : 1 ≤ a .denominator → InRange a k → stepsAfter old a ≡ exactly (pos (suc k * a .numerator / a .denominator))
   unfolding stepsAfter floorDiv
-  steps-more d h =
-      rw (t .whole (one-less a k d h), total-is, whole-more k (a .numerator) (a .denominator) d) (wrap-small (pos (suc k * a .numerator / a .denominator)) h)
+  steps-are-exactly d h = rw (t .whole h, total-is, whole-more k (a .numerator) (a .denominator) d)
+
+  pub steps-more : 1 ≤ a .denominator → InRange a (suc k) → stepsAfter old a ≡ Va.Number (pos (suc k * a .numerator / a .denominator))
+  steps-more d h = steps-are-exactly d (one-less a k d h) ∙ exactly-inside (pos (suc k * a .numerator / a .denominator)) h
 
   pub remainder-more : remainderAfter old a ≡ pos (suc k * a .numerator % a .denominator)
   unfolding remainderAfter floorMod
@@ -59,16 +63,26 @@ module _ (a : Advance) (k : ℕ) (old : List ℤ) (t : TakenUp a k old) where
 
 -- the variables of an advance have the values that it gives to them
 pub record Advanced (a : Advance) (old new : List ℤ) : Type 0 where
-  pub steps-are : getD new (a .steps) (pos 0) ≡ stepsAfter old a
+  pub steps-are : getD new (a .steps) (pos 0) ≡ numberOf (stepsAfter old a)
   pub remainder-is : getD new (a .remainder) (pos 0) ≡ remainderAfter old a
 
 -- so they hold one advance more
 pub taken-up-more : (a : Advance) (k : ℕ) (old new : List ℤ) → TakenUp a k old → 1 ≤ a .denominator → Advanced a old new
     → TakenUp a (suc k) new
 taken-up-more a k old new t d v = record {
-  whole = λ h. v .steps-are ∙ steps-more a k old t d h;
+  whole = λ h. v .steps-are ∙ ap numberOf (steps-more a k old t d h);
   rest = v .remainder-is ∙ remainder-more a k old t;
 }
+
+-- one more advance stays in the range just if its whole part is below the range's end
+pub advance-stays : AdvanceStays
+unfolding stays
+advance-stays a k variables d t h =
+    ap isNumber (steps-are-exactly a k variables t d h) ∙ exactly-is-number (pos (suc k * a .numerator / a .denominator))
+
+-- so where the advances made are in the range, it says how it goes on
+pub taken-in-range : (a : Advance) (k : ℕ) (variables : List ℤ) → 1 ≤ a .denominator → TakenUp a k variables → InRange a k → TakenInRange a k variables
+taken-in-range a k variables d t h = record { below = h; whole = t .whole h; rest = t .rest; next = advance-stays a k variables d t h }
 
 -- variables that are zero hold none
 pub taken-up-none : (a : Advance) (variables : List ℤ) → getD variables (a .steps) (pos 0) ≡ pos 0 → getD variables (a .remainder) (pos 0) ≡ pos 0
@@ -81,8 +95,8 @@ taken-up-none a variables s r = record {
 -- updates leave the number of variables
 updated-length : (old : List ℤ) (u : Update) (new : List ℤ) → length (updated old u new) ≡ length new
 unfolding updated
-updated-length old (assignment v e) new = length-set new v (value old e)
-updated-length old (advance a) new = length-set (set new (a .steps) (stepsAfter old a)) (a .remainder) _ ∙ length-set new (a .steps) _
+updated-length old (assignment v e) new = length-set new v (numberOf (value old e))
+updated-length old (advance a) new = length-set (set new (a .steps) (numberOf (stepsAfter old a))) (a .remainder) _ ∙ length-set new (a .steps) _
 
 pub assign-length : (old : List ℤ) (us : List Update) (new : List ℤ) → length (assign old us new) ≡ length new
 unfolding assign
@@ -105,10 +119,10 @@ pub record Apart (a : Advance) (n : ℕ) : Type 0 where
 advanced-once : (a : Advance) (old new : List ℤ) → Apart a (length new) → Advanced a old (updated old (advance a) new)
 unfolding updated
 advanced-once a old new p =
-    let first = set new (a .steps) (stepsAfter old a) in
+    let first = set new (a .steps) (numberOf (stepsAfter old a)) in
     record {
       steps-are = getD-set-other first (a .remainder) (a .steps) _ _ (p .two) ∙ getD-set-same new (a .steps) _ _ (p .steps-there);
-      remainder-is = getD-set-same first (a .remainder) _ _ (rw (length-set new (a .steps) (stepsAfter old a)) (p .remainder-there));
+      remainder-is = getD-set-same first (a .remainder) _ _ (rw (length-set new (a .steps) (numberOf (stepsAfter old a))) (p .remainder-there));
     }
 
 -- n advances of p/q from zero: the steps are the whole part of np/q, while it is below 2,147,483,648, and the remainder is its rest
@@ -128,9 +142,9 @@ advances-from-zero (suc n) a variables d w x y s r =
 left-alone : (old : List ℤ) (u : Update) (new : List ℤ) (v : ℕ) → elem v (writes (formOf u)) ≡ false
     → getD (updated old u new) v (pos 0) ≡ getD new v (pos 0)
 unfolding updated
-left-alone old (assignment w e) new v h = getD-set-other new w v (value old e) (pos 0) (λ q. clash (elem-by v (here q)) h)
+left-alone old (assignment w e) new v h = getD-set-other new w v (numberOf (value old e)) (pos 0) (λ q. clash (elem-by v (here q)) h)
 left-alone old (advance b) new v h =
-    getD-set-other (set new (b .steps) (stepsAfter old b)) (b .remainder) v _ (pos 0) (λ q. clash (elem-by v (there (here q))) h)
+    getD-set-other (set new (b .steps) (numberOf (stepsAfter old b))) (b .remainder) v _ (pos 0) (λ q. clash (elem-by v (there (here q))) h)
     ∙ getD-set-other new (b .steps) v _ (pos 0) (λ q. clash (elem-by v (here q)) h)
 
 pub is-advance-writes : (a : Advance) (u : Update) → isAdvance a u ≡ true → writesEither a u ≡ true

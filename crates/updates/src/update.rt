@@ -194,31 +194,6 @@ fn stored(values: [i32; 16], variable: u8, z: i32) -> [i32; 16]
     next
 }
 
-// The variables after some updates, and whether these stayed in the range.
-pub struct Assigned {
-    pub within: bool,
-    pub values: [i32; 16],
-}
-
-// The variables after an advance, which reads `old`.
-fn after_advance(a: Advance, old: [i32; 16], new: [i32; 16]) -> Assigned
-    ensures within { λ r. ⌜ (1 ≤ a .denominator → r .within ≡ stays old (advance a)) ⌝ }
-    ensures values { λ r. ⌜ (1 ≤ a .denominator → r .values ≡ updated old (advance a) new) ⌝ }
-{
-    let before = expression::variable_value(a.steps, old);
-    let rest = expression::variable_value(a.remainder, old);
-    let steps = value::steps_after(before, rest, a.numerator, a.denominator);
-    let next = stored(new, a.steps, value::number_of(steps));
-    Assigned {
-        within: value::is_number(steps),
-        values: stored(
-            next,
-            a.remainder,
-            signed::remainder_after(rest, a.numerator, a.denominator),
-        ),
-    }
-}
-
 // The variables after an update, whether it stayed in the range, and the place after it: a fault stands beside an array,
 // which no enum can hold.
 pub struct Updated {
@@ -237,17 +212,21 @@ fn not_updated(f: Fault, values: [i32; 16]) -> Updated
     }
 }
 
-// The variables after an advance that ends at a place.
-fn advanced_to(next: usize, a: Advance, old: [i32; 16], new: [i32; 16]) -> Updated
+// The variables after an advance, which reads `old` and ends at a place.
+fn after_advance(next: usize, a: Advance, old: [i32; 16], new: [i32; 16]) -> Updated
     ensures reached { λ r. ⌜ r .reached ≡ Reached.At next ⌝ }
     ensures within { λ r. ⌜ (1 ≤ a .denominator → r .within ≡ stays old (advance a)) ⌝ }
     ensures values { λ r. ⌜ (1 ≤ a .denominator → r .values ≡ updated old (advance a) new) ⌝ }
 {
-    let after = after_advance(a, old, new);
+    let before = expression::variable_value(a.steps, old);
+    let rest = expression::variable_value(a.remainder, old);
+    let steps = value::steps_after(before, rest, a.numerator, a.denominator);
+    let counted = stored(new, a.steps, value::number_of(steps));
+    let kept = signed::remainder_after(rest, a.numerator, a.denominator);
     Updated {
         reached: Reached::At(next),
-        within: after.within,
-        values: after.values,
+        within: value::is_number(steps),
+        values: stored(counted, a.remainder, kept),
     }
 }
 
@@ -268,7 +247,7 @@ pub fn updated_at(
         return not_updated(form_fault(f), new);
     };
     match form {
-        Form::Advance(a) => advanced_to(from, a, old, new),
+        Form::Advance(a) => after_advance(from, a, old, new),
         Form::Assignment(v) => {
             let x = value_from(s, from, variables, old);
             let ValueRead::Value(z, next) = x else {

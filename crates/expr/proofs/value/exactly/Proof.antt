@@ -1,15 +1,14 @@
 -- The magnitude tells whether the number is in the range.
 use borrow.Author.Needs.{needs}
-use borrow.Author.Tests.{lt-ltb, le-ltb}
 use native.Mathlib.Omega.{arith}
-use Prim.Native.Nat.{_<_, _≤_, _^_}
-use mathlib.Core.Path.{_≡_, _∙_, ap}
+use Prim.Native.Nat.{_<_, _^_}
+use mathlib.Core.Path.{_≡_, _∙_, sym, ap}
 use lib.Signed.{mag}
 use mir.Syntax.{w64}
 use mir.Val.{toZ, ofZ}
 use mir.ValLaws.{toZ-ofZ}
-use Rattle.expr.specs.Value.{exactly}
 use Rattle.expr.proofs.Integers.{read-back}
+use Rattle.expr.proofs.Values.{exactly-inside, exactly-outside}
 use Rattle.expr.proofs.value.exactly.Statement.{statement}
 use Rattle.expr.proofs.value.exactly.Tie as tie
 
@@ -29,12 +28,10 @@ cast-t5 : tie.Need-cast-t5
 cast-t5 c = rw (read (c .before .before)) (record { sfits = inside c })
 
 returns : tie.Need-returns
-unfolding exactly
-returns c = rw (read (c .before .before), read-back _ (inside c), lt-ltb _ _ (inside c))
+returns c = rw (read (c .before .before), read-back _ (inside c)) (sym (exactly-inside _ (inside c)))
 
 returns-2 : tie.Need-returns-2
-unfolding exactly
-returns-2 c = let e = measured (c .before) in rw (le-ltb (mag (c .before .before .args .z)) (2 ^ 31) (omega (arith, e, c .if1 .left)))
+returns-2 c = let e = measured (c .before) in sym (exactly-outside _ (omega (arith, e, c .if1 .left)))
 
 pub exactly-spec : {M : Type 1} → statement M
 exactly-spec = tie.close (tie.spec magnitude-requires cast-t5 returns returns-2)

@@ -1,10 +1,10 @@
 use mathlib.Core.Path.{sym, _∙_}
 use Rattle.reading.specs.Reading.{yield}
 use Rattle.labels.specs.Guard.{dataGuard, holds}
-use Rattle.reading.specs.Places.{byteOf, valueOf, byteFault, valueFault}
+use Rattle.expr.specs.Value.{valueOf, valueFault}
+use Rattle.reading.specs.Places.{byteOf, byteFault}
 use Rattle.reading.proofs.Places.{handed-on, bind-got, bind-fault, answered}
 use Rattle.reading.proofs.Reading.{mapped-got, mapped-fault, mapped-at, fault-at}
-use Rattle.expr.proofs.Integers.{read-back}
 use Rattle.labels.proofs.Guards.{relation-got, relation-fault}
 use borrow.Author.Needs.{needs}
 use Rattle.labels.proofs.guard.data_guard_holds.Statement.{statement}
@@ -80,24 +80,21 @@ returns-3 c =
     ∙ bind-got _ _ _ (mapped-at _ _ read-v .1)
     ∙ bind-fault _ _ _ (fault-at _ _ fails)))
 
-compare-requires : tie.Need-compare-requires
-compare-requires c κs = search needs
+compare-values-requires : tie.Need-compare-values-requires
+compare-values-requires c κs = search needs
 
 returns-4 : tie.Need-returns-4
 unfolding dataGuard yield holds
 returns-4 c =
     let at-w = c .before .before in
-    let at-known-told2 = at-w .before .before .before in
-    let at-v = at-known-told2 .before in
+    let at-v = at-w .before .before .before .before in
     let at-k = at-v .before .before .before .before in
     let read-k = answered (byteOf _) (at-k .before .before .read-byte-below .ensures) (at-k .k .given .1) in
     let read-v = answered (valueOf _) (at-v .before .before .value-at .ensures) (at-v .v .given .1) in
     let read-w = answered (valueOf _) (at-w .before .before .value-at2 .ensures) (at-w .w .given .1) in
     λ times.
     rw (
-      c .compare .ensures,
-      read-back (at-v .v .given .0 .0) (at-known-told2 .known-told2 .given .0 .1),
-      read-back (at-w .w .given .0 .0) (c .before .known-told3 .given .0 .1),
+      c .compare-values .ensures,
       ← (mapped-at _ _ read-v .2),
       ← (mapped-at _ _ read-w .2),
     )
@@ -124,5 +121,5 @@ data-guard-holds-spec =
     enum-told-3
     value-fault-requires-2
     returns-3
-    compare-requires
+    compare-values-requires
     returns-4)

@@ -19,9 +19,14 @@ enum-known-g c = search needs
 enum-told : tie.Need-enum-told
 enum-told c = search needs
 
+unassigned-requires : tie.Need-unassigned-requires
+unassigned-requires c κs = search needs
+
 returns : tie.Need-returns
 unfolding body skipped
-returns c = λ b t e. no-answer (sym (bind-fault _ _ _ (answered (byteOf _) (c .before .before .read-byte .ensures .0) (c .enum-told .given .1))) ∙ e)
+returns c =
+    let fails = bind-fault _ _ _ (answered (byteOf _) (c .before .before .before .read-byte .ensures .0) (c .before .enum-told .given .1)) in
+    (λ b t e. no-answer (sym fails ∙ e), λ b t e. no-answer (sym fails ∙ e))
 
 read-byte-requires-2 : tie.Need-read-byte-requires-2
 read-byte-requires-2 c κs = search needs
@@ -32,13 +37,17 @@ enum-known-a c = search needs
 enum-told-2 : tie.Need-enum-told-2
 enum-told-2 c = search needs
 
+unassigned-requires-2 : tie.Need-unassigned-requires-2
+unassigned-requires-2 c κs = search needs
+
 returns-2 : tie.Need-returns-2
 unfolding body skipped
 returns-2 c =
-    let at-g = c .before .before .before .before in
+    let at-g = c .before .before .before .before .before in
     let read-g = answered (byteOf _) (at-g .before .before .read-byte .ensures .0) (at-g .g .given .1) in
-    let fails = answered (byteOf _) (c .before .before .read-byte2 .ensures .0) (c .enum-told2 .given .1) in
-    λ b t e. no-answer (sym (bind-got _ _ _ read-g ∙ bind-fault _ _ _ fails) ∙ e)
+    let fails = answered (byteOf _) (c .before .before .before .read-byte2 .ensures .0) (c .before .enum-told2 .given .1) in
+    let none = bind-got _ _ _ read-g ∙ bind-fault _ _ _ fails in
+    (λ b t e. no-answer (sym none ∙ e), λ b t e. no-answer (sym none ∙ e))
 
 read-guards-requires : tie.Need-read-guards-requires
 read-guards-requires c κs = search needs
@@ -49,15 +58,20 @@ enum-known-q c = search needs
 enum-told-3 : tie.Need-enum-told-3
 enum-told-3 c = search needs
 
+unassigned-requires-3 : tie.Need-unassigned-requires-3
+unassigned-requires-3 c κs = search needs
+
 returns-3 : tie.Need-returns-3
 unfolding body skipped
 returns-3 c =
-    let at-a = c .before .before .before .before in
+    let at-a = c .before .before .before .before .before in
     let at-g = at-a .before .before .before .before in
     let read-g = answered (byteOf _) (at-g .before .before .read-byte .ensures .0) (at-g .g .given .1) in
     let read-a = answered (byteOf _) (at-a .before .before .read-byte2 .ensures .0) (at-a .a .given .1) in
-    let fails = answered (reached _ tt) (c .before .before .read-guards .ensures) (c .enum-told3 .given .1) in
-    λ b t e. let w = body-parts _ _ e read-g read-a in no-answer (sym (fault-at _ _ fails) ∙ w .1)
+    let fails = answered (reached _ tt) (c .before .before .before .read-guards .ensures) (c .before .enum-told3 .given .1) in (
+      λ b t e. let w = body-parts _ _ e read-g read-a in no-answer (sym (fault-at _ _ fails) ∙ w .1),
+      λ b t e. let w = body-parts _ _ e read-g read-a in no-answer (sym (fault-at _ _ fails) ∙ w .1),
+    )
 
 all-assigned-requires : tie.Need-all-assigned-requires
 all-assigned-requires c κs = search needs
@@ -71,9 +85,10 @@ returns-4 c =
     let read-g = answered (byteOf _) (at-g .before .before .read-byte .ensures .0) (at-g .g .given .1) in
     let read-a = answered (byteOf _) (at-a .before .before .read-byte2 .ensures .0) (at-a .a .given .1) in
     let read-q = answered (reached _ tt) (at-q .before .before .read-guards .ensures) (at-q .q .given .1) in
-    λ b t e.
-    let w = body-parts _ _ e read-g read-a in
-    let m = mapped-at _ _ read-q in c .all-assigned .ensures (b .updates) t (rw (got-rest (sym (m .1) ∙ w .1)) (w .2))
+    let m = mapped-at _ _ read-q in (
+      λ b t e. let w = body-parts _ _ e read-g read-a in c .all-assigned .ensures .0 (b .updates) t (rw (got-rest (sym (m .1) ∙ w .1)) (w .2)),
+      λ b t e. let w = body-parts _ _ e read-g read-a in c .all-assigned .ensures .1 (b .updates) t (rw (got-rest (sym (m .1) ∙ w .1)) (w .2)),
+    )
 
 pub assigned-spec : {M : Type 1} → statement M
 assigned-spec =
@@ -82,14 +97,17 @@ assigned-spec =
     read-byte-requires
     enum-known-g
     enum-told
+    unassigned-requires
     returns
     read-byte-requires-2
     enum-known-a
     enum-told-2
+    unassigned-requires-2
     returns-2
     read-guards-requires
     enum-known-q
     enum-told-3
+    unassigned-requires-3
     returns-3
     all-assigned-requires
     returns-4)

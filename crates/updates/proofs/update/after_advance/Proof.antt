@@ -1,42 +1,41 @@
 use borrow.Author.Needs.{needs}
 use borrow.Author.Tests.{le-leb}
 use Rattle.lists.proofs.Bools.{cond-yes}
-use mathlib.Core.Path.{_≡_, ap, ap₂, _∙_}
+use mathlib.Core.Path.{_≡_, refl, ap, ap₂, _∙_}
 use mathlib.Core.List.{List}
 use lib.IntN.{ℤ, pos, _+ℤ_}
 use Prim.Native.Nat.{_≤_}
 use mir.Syntax.{w32}
 use mir.Val.{toZ, ofZ}
-use Rattle.expr.specs.Integer.{wrap, floorDiv, floorMod}
+use Rattle.expr.specs.Integer.{floorDiv, floorMod}
+use Rattle.expr.specs.Value.{exactly, isNumber, numberOf}
 use lib.ListN.{set}
 use Rattle.expr.proofs.Integers.{read-back}
-use Rattle.updates.specs.Update.{updated, stepsAfter, remainderAfter, total}
+use Rattle.updates.specs.Update.{stays, updated, stepsAfter, remainderAfter, total}
 use Rattle.updates.proofs.update.after_advance.Statement.{statement}
 use Rattle.updates.proofs.update.after_advance.Tie as tie
 
 -- the new steps, from the old pair
 stepped : (c : tie.After-steps-after) →
     let a = c .before .before .before .args in
-    1 ≤ a .a .denominator → toZ w32 (ofZ w32 (c .steps-after .result)) ≡ stepsAfter (a .old) (a .a)
+    1 ≤ a .a .denominator → c .steps-after .result ≡ stepsAfter (a .old) (a .a)
 unfolding stepsAfter total
 stepped c h =
     let a = c .before .before .before .args in
     let x = c .before .before .variable-value in
     let y = c .before .variable-value2 in
-    read-back _ (c .steps-after .ok)
-    ∙ c .steps-after .ensures
-    ∙ cond-yes _ _ (le-leb 1 (a .a .denominator) h)
-    ∙ ap₂ (λ (x y : ℤ). wrap (x +ℤ floorDiv (y +ℤ pos (a .a .numerator)) (a .a .denominator)))
+    c .steps-after .ensures h
+    ∙ ap₂ (λ (x y : ℤ). exactly (x +ℤ floorDiv (y +ℤ pos (a .a .numerator)) (a .a .denominator)))
     (read-back _ (x .ok) ∙ x .ensures) (read-back _ (y .ok) ∙ y .ensures)
 
 -- and the new remainder
 remained : (c : tie.After-remainder-after) →
-    let a = c .before .before .before .before .before .args in
+    let a = c .before .before .before .before .before .before .args in
     1 ≤ a .a .denominator → toZ w32 (ofZ w32 (c .remainder-after .result)) ≡ remainderAfter (a .old) (a .a)
 unfolding remainderAfter total
 remained c h =
-    let a = c .before .before .before .before .before .args in
-    let y = c .before .before .before .variable-value2 in
+    let a = c .before .before .before .before .before .before .args in
+    let y = c .before .before .before .before .variable-value2 in
     read-back _ (c .remainder-after .ok)
     ∙ c .remainder-after .ensures
     ∙ cond-yes _ _ (le-leb 1 (a .a .denominator) h)
@@ -51,24 +50,36 @@ variable-value-requires-2 c κs = search needs
 steps-after-requires : tie.Need-steps-after-requires
 steps-after-requires c κs = search needs
 
+number-of-requires : tie.Need-number-of-requires
+number-of-requires c κs = search needs
+
 stored-requires : tie.Need-stored-requires
 stored-requires c κs = search needs
 
 remainder-after-requires : tie.Need-remainder-after-requires
 remainder-after-requires c κs = search needs
 
+is-number-requires : tie.Need-is-number-requires
+is-number-requires c κs = search needs
+
 stored-requires-2 : tie.Need-stored-requires-2
 stored-requires-2 c κs = search needs
 
 returns : tie.Need-returns
-unfolding updated
-returns c h =
-    let first = c .before .before in
-    let a = first .before .before .before .before .args in
-    c .stored2 .ensures
-    ∙ ap₂ (λ (vs : List ℤ) (z : ℤ). set vs (a .a .remainder) z)
-    (first .stored .ensures ∙ ap (λ (z : ℤ). set (a .new) (a .a .steps) z) (stepped (first .before) h))
-    (remained (c .before) h)
+unfolding stays updated
+returns c =
+    let counted = c .before .before .before in
+    let told = counted .before in
+    let a = told .before .before .before .before .args in (
+      refl,
+      (
+        λ h. c .before .is-number .ensures ∙ ap isNumber (stepped (told .before) h),
+        λ h. c .stored2 .ensures
+            ∙ ap₂ (λ (vs : List ℤ) (z : ℤ). set vs (a .a .remainder) z)
+            (counted .stored .ensures ∙ ap (λ (z : ℤ). set (a .new) (a .a .steps) z) (read-back _ (told .number-of .ok) ∙ told .number-of .ensures ∙ ap numberOf (stepped (told .before) h)))
+            (remained (c .before .before) h),
+      ),
+    )
 
 pub after-advance-spec : {M : Type 1} → statement M
 after-advance-spec =
@@ -77,7 +88,9 @@ after-advance-spec =
     variable-value-requires
     variable-value-requires-2
     steps-after-requires
+    number-of-requires
     stored-requires
     remainder-after-requires
+    is-number-requires
     stored-requires-2
     returns)
