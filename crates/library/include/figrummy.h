@@ -15,6 +15,9 @@
  * Charts and networks have versions 1 and 2, told by the first byte of the file; version 2 has advances. Every function takes
  * both, and the network of a chart has the version of the chart.
  *
+ * Nothing wraps. Where a sum, difference or product in a guard on variables has an exact result outside signed 32 bits, the guard
+ * does not hold, whatever its relation. 28 looks at every such operation of an assignment, and of an advance at what it stores.
+ *
  * Each function answers 0, or the number of the first refusal that applies; no call is forbidden. A refused call changes
  * nothing that it was lent, not one byte.
  */
@@ -73,6 +76,7 @@ uint8_t figrummy_flatten(const uint8_t *file, size_t file_length, uint8_t *out, 
  *   19  a transition of the list is not active (step)
  *   22  no ticks, or a clock would pass 2,147,483,647 (wait)
  *   20  the transitions of the list are not an allowed set (step)
+ *   28  a transition of the list has an assignment or an advance with a result outside signed 32 bits (step)
  *   21  the new configuration would break a bound (step, wait)
  */
 
@@ -108,6 +112,7 @@ uint8_t figrummy_longest_wait_chart(const uint8_t *file, size_t file_length, con
  *   22  no ticks, or a clock would pass 2,147,483,647 (wait)
  *   27  an urgent location is occupied: no edge of the list leaves one (step), or a wait
  *   20  the edges of the list are not an allowed set (step)
+ *   28  an edge of the list has an assignment or an advance with a result outside signed 32 bits (step)
  *   21  the new configuration would break a bound (step, wait)
  */
 

@@ -6,6 +6,10 @@
  *
  * Networks have versions 1 and 2, told by the first byte of the file; version 2 has advances. Every function takes both.
  *
+ * Nothing wraps. Where a sum, difference or product in a guard on variables has an exact result outside signed 32 bits, the
+ * guard does not hold, whatever its relation. 28 looks at every such operation of an assignment, and of an advance at what it
+ * stores.
+ *
  * A network file passes as its first byte and its length. It is read, never written, and every call checks it from its
  * first byte to its last. The file, the configuration, the list and the ticks are the caller's before, during and after a
  * call. During a call nobody else may write any of them, and nobody else may read what the call may write: the configuration
@@ -51,6 +55,7 @@ struct figrummy_configuration {
  *   22  no ticks, or a clock would pass 2,147,483,647 (wait)
  *   27  an urgent location is occupied: no edge of the list leaves one (step), or a wait
  *   20  the edges of the list are not an allowed set (step)
+ *   28  an edge of the list has an assignment or an advance with a result outside signed 32 bits (step)
  *   21  the new configuration would break a bound (step and wait)
  */
 
