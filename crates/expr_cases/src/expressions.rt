@@ -74,7 +74,8 @@ pub fn show_guard(s: &[u8]) {
     }
 }
 
-// The first two variables after the updates of a label's body, from 3 and 8, in a file of version 2.
+// Whether the updates of a label's body stay in the range, and the first two variables after them, from 3 and 8, in a file
+// of version 2. The variables are 0 where there is no number for them; no step stores that.
 pub fn show_assigned(s: &[u8]) {
     let values = variables(3, 8);
     let after = label::assigned(s, 0, 2, 0, 16, values, values);
