@@ -2,16 +2,17 @@
 use mathlib.Core.Path.{_≡_, refl, sym, ap, _∙_}
 use mathlib.Core.Bool.{Bool, true, false, _&&_}
 use mathlib.Core.Logic.{_≢_}
-use mathlib.Core.List.{List, map}
+use mathlib.Core.List.{List, map, map-map}
 use Prim.Native.Nat.{ℕ, _≤_}
 use native.Mathlib.Omega.{arith}
 use borrow.Author.Tests.{lt-leb, le-leb}
 use lib.ListN.{length}
 use Rattle.lists.specs.Lists.{all}
 use Rattle.clocks.specs.Clocks.{limitLeft, later, inLimit, zeroPast, zerosPast}
-use Rattle.steps.specs.Moves.{known, allowed}
+use Rattle.steps.specs.Moves.{known, allowed, allStay}
 use Rattle.reading.specs.Answer.{done, refused, unless}
-use Rattle.chart_records.specs.Chart.{Chart, transitionAt, states, home}
+use Rattle.reading.proofs.Answer.{unless-by}
+use Rattle.chart_records.specs.Chart.{Chart, Transition, transitionAt, states, home}
 use Rattle.chart_moves.specs.Machine.{isTree, boundsKept, isConfiguration, activeTransition, after, tested, step, wait, ticksUnder, longest}
 use Rattle.chart.specs.Ready.{Ready}
 use Rattle.chart_machine.specs.Outcomes.{stands, Grown}
@@ -68,13 +69,15 @@ module _ (c : Chart) (σ : Configuration) (ms : List ℕ) where
 
       module _ (a : all (activeTransition c σ) (map (transitionAt c) ms) ≡ true) {b : Bool}
           (q : b ≡ allowed (λ m. transitionAt c m .label) (home c) (λ m. activeTransition c σ (transitionAt c m)) (length (c .transitions)) (c .rendezvous) ms) where
-        pub step-barred : b ≡ false → step c σ ms ≡ refused 20
-        unfolding step unless
-        step-barred z = rw (g, ap (λ (m : ℕ). known m ms) e ∙ k, a, sym q ∙ z)
-
-        pub step-taken : b ≡ true → step c σ ms ≡ tested c (after c (map (transitionAt c) ms) σ)
-        unfolding step unless
-        step-taken z = rw (g, ap (λ (m : ℕ). known m ms) e ∙ k, a, sym q ∙ z)
+        -- what it answers past 19
+        pub step-last : step c σ ms
+            ≡ unless 20 b (unless 28 (allStay (map (λ m. transitionAt c m .label) ms) (σ .variables)) (tested c (after c (map (transitionAt c) ms) σ)))
+        unfolding step
+        step-last =
+            unless-by 17 _ g
+            ∙ (unless-by 18 _ (ap (λ (m : ℕ). known m ms) e ∙ k)
+            ∙ (unless-by 19 _ a
+            ∙ rw (← q, map-map (λ (t : Transition). t .label) (transitionAt c) ms)))
 
 -- of a wait
 module _ (c : Chart) (σ : Configuration) (d : ℕ) where

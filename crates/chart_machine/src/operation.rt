@@ -10,6 +10,7 @@ ghost use Rattle.chart_machine.specs.Outcomes.{outcomeOf, zeroConfigurat
 ghost use Rattle.chart_moves.specs.declared.configuration.Configuration.{Configuration as Given};
 ghost use Rattle.chart.specs.Ready.{Ready};
 ghost use Rattle.reading.specs.Answer.{refused};
+ghost use Rattle.steps.specs.Last.{answerBy};
 use crate::ticks::bounds_left;
 use chart::check::checked;
 use chart_moves::activity::is_tree;
@@ -25,6 +26,7 @@ use clocks::left::Left;
 use clocks::left::Longest;
 use reading::verdict::Verdict;
 use reading::verdict::number_of;
+use steps::step::last_tests;
 
 // What became of a call, and the configuration after it: the next one, or the one given where the call is refused.
 pub struct Outcome {
@@ -97,6 +99,19 @@ fn refuse(k: u8, given: Configuration) -> Outcome
     }
 }
 
+// By its verdict a call leads to the next configuration, or leaves the one given.
+fn outcome_by(verdict: Verdict, given: Configuration, next: Configuration) -> Outcome
+    ensures { λ r. ⌜ r ≡ outcomeOf given (answerBy verdict next) ⌝ }
+{
+    match verdict {
+        Verdict::Done => Outcome {
+            verdict: Verdict::Done,
+            configuration: next,
+        },
+        Verdict::Refused(k) => refuse(k, given),
+    }
+}
+
 // The next configuration, or 21 and the one given where a bound is broken.
 fn tested(rest: &[u8], counts: Counts, given: Configuration, next: Configuration) -> Outcome
     ensures { λ r. ⌜ ((c : Chart) → Stated (now (rest .entry)) counts c → r ≡ outcomeOf given (tested c next)) ⌝ }
@@ -132,16 +147,14 @@ fn step_checked(
     if !all_active(rest, counts, offsets, tree, given, list) {
         return refuse(19, given);
     }
-    if !is_allowed(rest, counts, offsets, tree, given, list) {
-        return refuse(20, given);
-    }
+    let allowed = is_allowed(rest, counts, offsets, tree, given, list);
     let after = taken::after(rest, counts, offsets, tree, given, list);
     let within = after.within;
-    if !within {
-        return refuse(28, given);
-    }
     let next = after.configuration;
-    tested(rest, counts, given, next)
+    let active = next.active;
+    let clocks = next.clocks;
+    let kept = bounds_kept(rest, counts, active, clocks);
+    outcome_by(last_tests(allowed, within, kept), given, next)
 }
 
 // So many ticks later.

@@ -91,7 +91,7 @@ fn clocks_after(rest: &[u8], offsets: &[u32], list: &[u16], clocks: [u32; 8]) ->
 }
 
 // The configuration after some transitions, and whether their updates stayed in the range.
-pub struct After {
+pub struct Next {
     pub within: bool,
     pub configuration: Configuration,
 }
@@ -104,7 +104,7 @@ pub fn after(
     tree: Tree,
     given: Configuration,
     list: &[u16],
-) -> After
+) -> Next
     ensures within { λ r. ⌜ ((c : Chart) → Ready (now (rest .entry)) counts (now (offsets .entry)) tree c → known (counts .transitions) (now (list .entry)) ≡ true → r .within ≡ allStay (map (λ m. transitionAt c m .label) (now (list .entry))) (given .variables)) ⌝ }
     ensures configuration { λ r. ⌜ ((c : Chart) → Ready (now (rest .entry)) counts (now (offsets .entry)) tree c → known (counts .transitions) (now (list .entry)) ≡ true → r .configuration ≡ after c (map (transitionAt c) (now (list .entry))) given) ⌝ }
 {
@@ -116,7 +116,7 @@ pub fn after(
     let assigned = variables_after(rest, counts, offsets, list, values);
     let variables = assigned.values;
     let clocks = clocks_after(rest, offsets, list, times);
-    After {
+    Next {
         within: assigned.within,
         configuration: Configuration {
             active,

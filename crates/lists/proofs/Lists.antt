@@ -232,6 +232,11 @@ unfolding all
 all-more p [] x = and-true (p x)
 all-more p (y ∷ ys) x = ap (λ (b : Bool). p y && b) (all-more p ys x) ∙ sym (and-assoc (p y) (all p ys) (p x))
 
+pub all-append : {A : Type 0} (p : A → Bool) (xs ys : List A) → all p (xs ++ ys) ≡ (all p xs && all p ys)
+unfolding all
+all-append p [] ys = refl
+all-append p (x ∷ xs) ys = ap (λ (b : Bool). p x && b) (all-append p xs ys) ∙ sym (and-assoc (p x) (all p xs) (all p ys))
+
 -- tests of the images
 module _ {A B : Type 0} (p : B → Bool) (f : A → B) where
   pub keep-map : (xs : List A) → keep p (map f xs) ≡ map f (keep (λ x. p (f x)) xs)

@@ -2,6 +2,7 @@
 ghost use mathlib.Core.Path.{_≡_};
 ghost use Rattle.reading.specs.Answer.{refused};
 ghost use Rattle.reading.specs.Verdict.{verdictNumber};
+ghost use Rattle.steps.specs.Last.{answerBy};
 ghost use Rattle.network_machine.specs.Answers.{outcomeOf};
 use network_moves::configuration::Configuration;
 use reading::verdict::Verdict;
@@ -19,6 +20,19 @@ pub fn refused(number: u8, c: Configuration) -> Outcome
     Outcome {
         verdict: Verdict::Refused(number),
         configuration: c,
+    }
+}
+
+// By its verdict a call leads to the next configuration, or leaves the one given.
+pub fn outcome_by(verdict: Verdict, c: Configuration, next: Configuration) -> Outcome
+    ensures { λ r. ⌜ r ≡ outcomeOf c (answerBy verdict next) ⌝ }
+{
+    match verdict {
+        Verdict::Done => Outcome {
+            verdict: Verdict::Done,
+            configuration: next,
+        },
+        Verdict::Refused(number) => refused(number, c),
     }
 }
 

@@ -9,6 +9,7 @@ ghost use Rattle.network_moves.specs.Machine.{urgent, isConfiguration, step};
 ghost use Rattle.network_machine.specs.Answers.{outcomeOf};
 ghost use Rattle.network_records.specs.Layout.{Laid};
 use crate::outcome::Outcome;
+use crate::outcome::outcome_by;
 use crate::outcome::refused;
 use network_moves::active::all_active;
 use network_moves::active::any_urgent;
@@ -19,7 +20,7 @@ use network_moves::configuration::bounds_kept;
 use network_moves::configuration::is_configuration;
 use network_moves::configuration::urgent;
 use network_records::header::Counts;
-use reading::verdict::Verdict;
+use steps::step::last_tests;
 
 // Whether an edge of the list leaves an urgent location, if one is occupied.
 fn urgency_kept(
@@ -52,22 +53,12 @@ fn step_along(
     if !urgency_kept(rest, counts, offsets, c, list) {
         return refused(27, c);
     }
-    if !is_allowed(rest, counts, offsets, c, list) {
-        return refused(20, c);
-    }
+    let allowed = is_allowed(rest, counts, offsets, c, list);
     let after = configuration_after(rest, counts, offsets, list, c);
     let within = after.within;
-    if !within {
-        return refused(28, c);
-    }
     let next = after.configuration;
-    if !bounds_kept(rest, counts, next) {
-        return refused(21, c);
-    }
-    Outcome {
-        verdict: Verdict::Done,
-        configuration: next,
-    }
+    let kept = bounds_kept(rest, counts, next);
+    outcome_by(last_tests(allowed, within, kept), c, next)
 }
 
 // A step on a checked file.

@@ -67,13 +67,13 @@ fn assigned_by(rest: &[u8], counts: Counts, e: Edge, old: [i32; 16], new: [i32; 
 }
 
 // The configuration after some edges, and whether their updates stayed in the range.
-pub struct After {
+pub struct Next {
     pub within: bool,
     pub configuration: Configuration,
 }
 
 // The same with one more edge taken. Its updates read the old values.
-fn taken(rest: &[u8], counts: Counts, old: [i32; 16], before: After, e: Edge) -> After
+fn taken(rest: &[u8], counts: Counts, old: [i32; 16], before: Next, e: Edge) -> Next
     ensures within { λ r. ⌜ ((d : _) → Kept counts (now (rest .entry)) e d → r .within ≡ (before .within && all (stays old) (d .label .body .updates))) ⌝ }
     ensures configuration { λ r. ⌜ ((n : Network) (d : _) → Located (now (rest .entry)) counts n → Kept counts (now (rest .entry)) e d → r .configuration ≡ taken n d old (before .configuration)) ⌝ }
 {
@@ -84,12 +84,13 @@ fn taken(rest: &[u8], counts: Counts, old: [i32; 16], before: After, e: Edge) ->
     let clocks = c.clocks;
     let owner = automaton_of(rest, counts, e.source);
     let assigned = assigned_by(rest, counts, e, old, variables);
-    After {
+    let values = assigned.values;
+    Next {
         within: before.within & assigned.within,
         configuration: Configuration {
             locations: with_location(locations, owner, e.target),
             flags: with_flags(flags, owner, e.written, e.values),
-            variables: assigned.values,
+            variables: values,
             clocks: clocks::clock::reset(e.resets, clocks),
         },
     }
@@ -102,12 +103,12 @@ pub fn configuration_after(
     offsets: &[u32; 1024],
     list: &[u16],
     c: Configuration,
-) -> After
+) -> Next
     ensures within { λ r. ⌜ ((n : Network) → Laid (now (rest .entry)) counts (now (offsets .entry)) n → Known counts (now (list .entry)) → r .within ≡ allStay (map (λ m. edgeAt n m .label) (now (list .entry))) (c .variables)) ⌝ }
     ensures configuration { λ r. ⌜ ((n : Network) → Laid (now (rest .entry)) counts (now (offsets .entry)) n → Known counts (now (list .entry)) → r .configuration ≡ after n (map (edgeAt n) (now (list .entry))) c) ⌝ }
 {
     let old = c.variables;
-    let mut after = After {
+    let mut after = Next {
         within: true,
         configuration: c,
     };

@@ -1,13 +1,15 @@
--- Labels that are taken one by one: the resets and the assignments of the first, and then those of the others.
+-- Labels that are taken one by one: the resets and the updates of the first, and then those of the others.
 use mathlib.Core.Path.{_≡_}
+use mathlib.Core.Bool.{_&&_}
 use mathlib.Core.List.{List, _∷_, map}
 use Prim.Native.Nat.{ℕ}
 use lib.IntN.{ℤ}
-use Rattle.lists.specs.Lists.{concat}
-use Rattle.updates.specs.Update.{assign}
+use Rattle.lists.specs.Lists.{all, concat}
+use Rattle.updates.specs.Update.{stays, assign}
 use Rattle.labels.specs.Label.{Label}
 use Rattle.clocks.specs.Clocks.{reset}
 use Rattle.steps.specs.Moves.{clocksAfter}
+use Rattle.lists.proofs.Lists.{all-append}
 use Rattle.updates.proofs.Updates.{assign-append}
 
 module _ {l rest : List ℕ} {m : ℕ} (f : ℕ → Label) (e : l ≡ m ∷ rest) where
@@ -20,3 +22,9 @@ module _ {l rest : List ℕ} {m : ℕ} (f : ℕ → Label) (e : l ≡ m ∷ rest
       ≡ assign old (concat (λ l. l .body .updates) (map f rest)) (assign old (f m .body .updates) vs)
   unfolding concat
   variables-next old vs = rw e (assign-append old (f m .body .updates) (concat (λ l. l .body .updates) (map f rest)) vs)
+
+  pub stay-next : (old : List ℤ) →
+      all (stays old) (concat (λ l. l .body .updates) (map f l))
+      ≡ (all (stays old) (f m .body .updates) && all (stays old) (concat (λ l. l .body .updates) (map f rest)))
+  unfolding concat
+  stay-next old = rw e (all-append (stays old) (f m .body .updates) (concat (λ l. l .body .updates) (map f rest)))

@@ -1,3 +1,4 @@
 -- The definitions of this crate.
 pub mod Cases
 pub mod Moves
+pub mod Last

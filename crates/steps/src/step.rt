@@ -6,7 +6,9 @@ ghost use lib.Dec.{ltb};
 ghost use lib.ListN.{length, take, drop};
 ghost use Rattle.lists.specs.Lists.{all, keep, elem, ascending, distinct};
 ghost use Rattle.steps.specs.Moves.{known, noneFits};
+ghost use Rattle.steps.specs.Last.{lastTests};
 ghost use Rattle.steps.specs.Cases.{ownerOf, signalsOn, takesPart, oneSender, allowedIf, caseOf};
+use reading::verdict::Verdict;
 
 // Of a chosen transition or edge. Its owner is a sequential state or an automaton.
 pub struct Member {
@@ -223,4 +225,20 @@ pub fn maximal(receivers: &[u8], owners: &[u8]) -> bool
         r += 1;
     }
     none_fits
+}
+
+// What becomes of a step by its last three tests: its set is allowed, its updates stay in the range, the bounds after it are kept.
+pub fn last_tests(allowed: bool, within: bool, kept: bool) -> Verdict
+    ensures { λ r. ⌜ r ≡ lastTests allowed within kept ⌝ }
+{
+    if !allowed {
+        return Verdict::Refused(20);
+    }
+    if !within {
+        return Verdict::Refused(28);
+    }
+    if !kept {
+        return Verdict::Refused(21);
+    }
+    Verdict::Done
 }

@@ -1,3 +1,5 @@
+use mathlib.Core.Path.{ap}
+use mathlib.Core.Bool.{Bool, _&&_}
 use Rattle.network_moves.proofs.Taken.{taken-kept}
 use borrow.Author.Needs.{needs}
 use Rattle.network_moves.proofs.after.taken.Statement.{statement}
@@ -6,31 +8,36 @@ use Rattle.network_moves.proofs.after.taken.Tie as tie
 automaton-of-requires : tie.Need-automaton-of-requires
 automaton-of-requires c κs = search needs
 
+assigned-by-requires : tie.Need-assigned-by-requires
+assigned-by-requires c κs = search needs
+
 with-location-requires : tie.Need-with-location-requires
 with-location-requires c κs = search needs
 
 with-flags-requires : tie.Need-with-flags-requires
 with-flags-requires c κs = search needs
 
-assigned-by-requires : tie.Need-assigned-by-requires
-assigned-by-requires c κs = search needs
-
 reset-requires : tie.Need-reset-requires
 reset-requires c κs = search needs
 
 returns : tie.Need-returns
-returns c = λ n d L K. let f = c .before .before in
-    let o = f .before .before in
-    let a = o .before .before .before .before .before .before .args in
-    taken-kept K n (o .automaton-of .ensures n L) (a .old) (a .c) (f .before .with-location .ensures) (f .with-flags .ensures) (c .before .assigned-by .ensures d K) (c .reset .ensures)
+returns c =
+    let f = c .before in
+    let w = f .before .before .before .before in
+    let o = w .before in
+    let a = o .before .before .before .before .before .before .before .args in (
+      λ d K. ap (λ (b : Bool). a .before .within && b) (w .assigned-by .ensures .0 d K),
+      λ n d L K. taken-kept K n (o .automaton-of .ensures n L) (a .old) (a .before .configuration) (f .before .with-location .ensures)
+          (f .with-flags .ensures) (w .assigned-by .ensures .1 d K) (c .reset .ensures),
+    )
 
 pub taken-spec : {M : Type 1} → statement M
 taken-spec =
     tie.close
     (tie.spec
     automaton-of-requires
+    assigned-by-requires
     with-location-requires
     with-flags-requires
-    assigned-by-requires
     reset-requires
     returns)
