@@ -8,6 +8,7 @@ use Rattle.expr.specs.Expression as Expression
 use Rattle.labels.specs.Guard as Guard
 use Rattle.expr.specs.Integer as Integer
 use Rattle.expr.specs.Relation as Relation
+use Rattle.expr.specs.Value as Value
 use Rattle.labels.specs.Label as Label
 use Rattle.updates.specs.Update as Update
 use Rattle.lists.specs.Lists as Lists
@@ -29,10 +30,10 @@ unfolding
     Bool.xor Answer._>>=_ Answer.unless Clocks.inLimit Clocks.isZero Clocks.join Clocks.keeps Clocks.later Clocks.reset Clocks.resetFrom Clocks.row
     Clocks.ticksLeft Clocks.zeroPast Clocks.zerosPast Expression.after Expression.by Expression.codes Expression.divisor Expression.expression Expression.two
     Expression.value Guard.clock Guard.clockGuard Guard.dataGuard Guard.differenceGuard Guard.guard Guard.holds Guard.relation
-    Guard.ticks Update.assign Update.form Update.ofForm Update.opens Update.update Update.updated Relation.compareℕ Relation.compareℤ Relation.relations Integer.floorDiv Integer.floorMod Integer.residue Integer.signed
-    Integer.wrap Label.assignsOnce Label.body Label.bodyOnce Label.channelFits Label.guardsHold Label.label Label.receives Label.sends Lists.all
+    Guard.ticks Update.assign Update.form Update.ofForm Update.opens Update.stays Update.update Update.updated Relation.compareℕ Relation.compareℤ Relation.relations Integer.floorDiv Integer.floorMod Integer.signed
+    Value.exactly Label.assignsOnce Label.body Label.bodyOnce Label.channelFits Label.guardsHold Label.label Label.receives Label.sends Lists.all
     Lists.any Lists.ascending Lists.below Lists.bitsFrom Lists.bitsOf Lists.concat Lists.distinct Lists.elem Lists.has Lists.implies Lists.keep
-    Lists.padded Lists.position Lists.range Lists.subset Moves.allowed Moves.clocksAfter Moves.known Moves.maximal Moves.oneSends Moves.senders
+    Lists.padded Lists.position Lists.range Lists.subset Moves.allStay Moves.allowed Moves.clocksAfter Moves.known Moves.maximal Moves.oneSends Moves.senders
     Moves.variablesAfter Places.onward Reading._>>=_ Reading._>>_ Reading.byte Reading.byte2 Reading.byte4 Reading.end Reading.field Reading.framed
     Reading.many Reading.next Reading.recorded Reading.such Reading.whole Reading.yield Chart.basic Chart.countsAt Chart.countsOf Chart.headed
     Chart.home Chart.inRange Chart.numbered Chart.parallel Chart.parentOf Chart.readChart Chart.records Chart.sequential Chart.state Chart.stateAt

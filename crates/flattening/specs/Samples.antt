@@ -134,13 +134,28 @@ greatest = 0 ∷ 127 ∷ 255 ∷ 255 ∷ 255 ∷ []
 abbrev pub one : List ℕ
 one = 0 ∷ 0 ∷ 0 ∷ 0 ∷ 1 ∷ []
 
+-- 2,147,483,647 + 1, and the network of a chart that assigns it
+abbrev pub beyond : List ℕ
+beyond = 2 ∷ greatest ++ one
+
+abbrev pub networkBeyond : List ℕ
+networkBeyond =
+    1 ∷ 0 ∷ 0 ∷ 0 ∷ 51 ∷ 1 ∷ 2 ∷ 0 ∷ 1 ∷ 0 ∷ 2 ∷ 0 ∷ 0
+    ∷ 3 ∷ 0 ∷ 0 ∷ 0
+    ∷ 3 ∷ 0 ∷ 0 ∷ 1
+    ∷ 0 ∷ 33 ∷ 1 ∷ 1 ∷ 0 ∷ 255 ∷ 0 ∷ 0 ∷ 0 ∷ 0 ∷ 0 ∷ 0 ∷ 0 ∷ 255 ∷ 0 ∷ 0 ∷ 2 ∷ 0 ∷ beyond ++ (1 ∷ one)
+
+-- a chart with a guard that two expressions are equal
+abbrev pub comparing : List ℕ → List ℕ → List ℕ
+comparing a b = oneLoop 0 0 [] (0 ∷ 255 ∷ 0 ∷ 1 ∷ 0 ∷ 0 ∷ 4 ∷ a ++ b)
+
 -- S8: an expression of one level more than n, in a guard
 abbrev pub nested : ℕ → List ℕ
 nested zero = one
 nested (suc n) = 6 ∷ nested n ++ (0 ∷ 0 ∷ 0 ∷ 3 ∷ [])
 
 abbrev pub guarded : ℕ → List ℕ
-guarded n = oneLoop 0 0 [] (0 ∷ 255 ∷ 0 ∷ 1 ∷ 0 ∷ 0 ∷ 4 ∷ nested n ++ one)
+guarded n = comparing (nested n) one
 
 -- S10: 3 and 4 or 5 are active in two sequential states side by side; 3 sends on a broadcast, and 5 receives it
 abbrev pub heard : List ℕ
@@ -191,8 +206,13 @@ samples =
     -- S8
     ∷ (check (guarded 7) ⇒ passes)
     ∷ (check (guarded 8) ⇒ number 4)
-    -- S9
-    ∷ (chartStep (assigning (2 ∷ greatest ++ one) one) (inStates (0 ∷ 1 ∷ []) [] []) (0 ∷ []) ⇒ chartAt (inStates (0 ∷ 1 ∷ []) (negsuc 2147483647 ∷ pos 1 ∷ []) []))
+    -- in place of S9, 2,147,483,647 + 1: no step assigns it, of a chart or of its network, nor what is left of it less 1
+    ∷ (chartStep (assigning beyond one) (inStates (0 ∷ 1 ∷ []) [] []) (0 ∷ []) ⇒ number 28)
+    ∷ (chartStep (assigning (3 ∷ beyond ++ one) one) (inStates (0 ∷ 1 ∷ []) [] []) (0 ∷ []) ⇒ number 28)
+    ∷ (flatten (assigning beyond one) 65536 ⇒ gives networkBeyond)
+    ∷ (networkStep networkBeyond (inLocations (1 ∷ []) []) (0 ∷ []) ⇒ number 28)
+    -- and a guard with it does not hold
+    ∷ (chartStep (comparing (3 ∷ beyond ++ one) greatest) (inStates (0 ∷ 1 ∷ []) [] []) (0 ∷ []) ⇒ number 19)
     -- S10
     ∷ (chartStep heard (inStates (0 ∷ 1 ∷ 2 ∷ 3 ∷ 4 ∷ []) [] []) (0 ∷ []) ⇒ chartAt (inStates (0 ∷ 1 ∷ 2 ∷ 3 ∷ 4 ∷ []) [] []))
     ∷ (chartStep heard (inStates (0 ∷ 1 ∷ 2 ∷ 3 ∷ 5 ∷ []) [] []) (0 ∷ []) ⇒ number 20)
