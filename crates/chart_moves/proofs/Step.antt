@@ -1,17 +1,18 @@
 -- What a step that is not refused says, and that start and step stay within the trees.
 use mathlib.Core.Path.{_≡_, refl, sym, ap, _∙_, subst}
 use mathlib.Core.Bool.{Bool, true}
-use mathlib.Core.Logic.{inr, ⊎-elim}
-use mathlib.Core.List.{List, map, List·Memᴰ as Mem}
+use mathlib.Core.Logic.{_⊎_, inr, ⊎-elim, _≢_}
+use mathlib.Core.List.{List, map, map-map, List·Memᴰ as Mem}
 use Prim.Native.Nat.{ℕ, _<_}
 use native.Mathlib.Omega.{arith}
 use lib.ListN.{length}
 use Rattle.lists.specs.Lists.{has}
-use Rattle.reading.specs.Answer.{done}
-use Rattle.steps.specs.Moves.{allowed}
+use Rattle.reading.specs.Answer.{Answer, done, refused, unless}
+use Rattle.labels.specs.Label.{Label}
+use Rattle.steps.specs.Moves.{allowed, allStay}
 use Rattle.lists.proofs.Bools.{parts, and-l, both}
 use Rattle.lists.proofs.Lists.{all-at, all-by, map-at, map-by}
-use Rattle.reading.proofs.Answer.{unless-at, unless-by, done-injective}
+use Rattle.reading.proofs.Answer.{unless-at, unless-past, unless-by, refused-not, done-injective, refused-injective}
 use Rattle.steps.proofs.Moves.{Known, known-at, known-by}
 use Rattle.steps.proofs.Sets.{allowed-set-at, allowed-channels}
 use Rattle.clocks.proofs.Rows.{ClockValues, values-in-limit, keeps-zeros, in-limit-zeros, zero-past-zeros, zeros-past-zeros}
@@ -27,37 +28,62 @@ use Rattle.chart_records.proofs.Ranges.{Ranges}
 use Rattle.chart_moves.proofs.After.{Fires, start-is-tree, after-is-tree}
 use Rattle.chart_rules.proofs.TransitionRules.{siblings-at, entry-at, transition-mem, apart-at}
 
--- what a step that is not refused says
-pub record Stepped (c : Chart) (σ : Configuration) (ms : List ℕ) (τ : Configuration) : Type 0 where
+-- a step that passes the tests up to 20
+pub record AllowedStep (c : Chart) (σ : Configuration) (ms : List ℕ) : Type 0 where
   pub given : isConfiguration c σ ≡ true
   pub are-known : Known (length (c .transitions)) ms
   pub each-active : (m : ℕ) → Mem m ms → activeTransition c σ (transitionAt c m) ≡ true
   pub is-allowed : isAllowed c σ ms ≡ true
+
+-- what a step that is not refused says
+pub record Stepped (c : Chart) (σ : Configuration) (ms : List ℕ) (τ : Configuration) : Type 0 where
+  pub tests : AllowedStep c σ ms
+  pub all-stay : allStay (map (λ m. transitionAt c m .label) ms) (σ .variables) ≡ true
   pub bounds-kept : boundsKept c τ ≡ true
   pub result : after c (map (transitionAt c) ms) σ ≡ τ
 
-tested-at : (c : Chart) (σ : Configuration) {τ : Configuration} → tested c σ ≡ done τ → (boundsKept c τ ≡ true) × (σ ≡ τ)
-unfolding tested
-tested-at c σ h = let u = unless-at 21 _ _ h in let e = done-injective (u .1) in (subst (λ (x : Configuration). boundsKept c x ≡ true) e (u .0), e)
+-- the answer of a step whose set is allowed: a result, or a refusal by 28 or 21
+abbrev pub Late : {A : Type 0} → Answer A → Type 0
+Late x = (k : ℕ) → x ≡ refused k → (k ≡ 28) ⊎ (k ≡ 21)
 
-pub step-at : (c : Chart) (σ : Configuration) (ms : List ℕ) {τ : Configuration} → step c σ ms ≡ done τ → Stepped c σ ms τ
-unfolding step
-step-at c σ ms h =
-    let a = unless-at 17 _ _ h in
-    let b = unless-at 18 _ _ (a .1) in
-    let d = unless-at 19 _ _ (b .1) in
-    let e = unless-at 20 _ _ (d .1) in
-    let f = tested-at c _ (e .1) in
-    record { given = a .0; are-known = known-at _ ms (b .0); each-active = λ m k. all-at _ _ (d .0) (map-by (transitionAt c) k); is-allowed = e .0; bounds-kept = f .0; result = f .1 }
+pub done-late : {A : Type 0} {a : A} → Late (done a)
+done-late k e = refused-not (sym e)
 
-pub step-by : (c : Chart) (σ : Configuration) (ms : List ℕ) {τ : Configuration} → Stepped c σ ms τ → step c σ ms ≡ done τ
-unfolding step tested
-step-by c σ ms h =
-    unless-by 17 _ (h .given)
-    ∙ (unless-by 18 _ (known-by _ ms (h .are-known))
-    ∙ (unless-by 19 _ (all-by (activeTransition c σ) _ (λ t k. let r = map-at (transitionAt c) ms k in ap (activeTransition c σ) (r .2) ∙ h .each-active (r .0) (r .1)))
-    ∙ (unless-by 20 _ (h .is-allowed)
-    ∙ (unless-by 21 _ (ap (boundsKept c) (h .result) ∙ h .bounds-kept) ∙ ap done (h .result)))))
+pub refused-late : {A : Type 0} {k : ℕ} → ((k ≡ 28) ⊎ (k ≡ 21)) → Late {A = A} (refused k)
+refused-late h j e = subst (λ (k : ℕ). (k ≡ 28) ⊎ (k ≡ 21)) (refused-injective e) h
+
+pub late-past : {A : Type 0} {x : Answer A} (n : ℕ) (b : Bool) (a : Answer A) → Late x → n ≢ 28 → n ≢ 21 → unless n b a ≡ x → (b ≡ true) × (a ≡ x)
+late-past n b a late p q h = unless-past n b a (λ e. ⊎-elim p q (late n (sym e))) h
+
+module _ (c : Chart) (σ : Configuration) (ms : List ℕ) where
+  pub allowed-step-at : {x : Answer Configuration} → Late x → step c σ ms ≡ x → AllowedStep c σ ms
+  unfolding step
+  allowed-step-at late h =
+      let a = late-past 17 _ _ late (λ e. omega arith) (λ e. omega arith) h in
+      let b = late-past 18 _ _ late (λ e. omega arith) (λ e. omega arith) (a .1) in
+      let d = late-past 19 _ _ late (λ e. omega arith) (λ e. omega arith) (b .1) in
+      let e = late-past 20 _ _ late (λ e. omega arith) (λ e. omega arith) (d .1) in
+      record { given = a .0; are-known = known-at _ ms (b .0); each-active = λ m k. all-at _ _ (d .0) (map-by (transitionAt c) k); is-allowed = e .0 }
+
+  -- what it then answers
+  pub allowed-step-by : AllowedStep c σ ms
+      → step c σ ms ≡ unless 28 (allStay (map (λ m. transitionAt c m .label) ms) (σ .variables)) (tested c (after c (map (transitionAt c) ms) σ))
+  unfolding step
+  allowed-step-by h =
+      unless-by 17 _ (h .given)
+      ∙ (unless-by 18 _ (known-by _ ms (h .are-known))
+      ∙ (unless-by 19 _ (all-by (activeTransition c σ) _ (λ t k. let r = map-at (transitionAt c) ms k in ap (activeTransition c σ) (r .2) ∙ h .each-active (r .0) (r .1)))
+      ∙ (unless-by 20 _ (h .is-allowed)
+      ∙ ap (λ (ls : List Label). unless 28 (allStay ls (σ .variables)) (tested c (after c (map (transitionAt c) ms) σ))) (map-map (λ (t : Transition). t .label) (transitionAt c) ms))))
+
+  pub step-at : {τ : Configuration} → step c σ ms ≡ done τ → Stepped c σ ms τ
+  unfolding tested
+  step-at h =
+      let a = allowed-step-at done-late h in
+      let b = unless-at 28 _ _ (sym (allowed-step-by a) ∙ h) in
+      let d = unless-at 21 _ _ (b .1) in
+      let e = done-injective (d .1) in
+      record { tests = a; all-stay = b .0; bounds-kept = subst (λ (x : Configuration). boundsKept c x ≡ true) e (d .0); result = e }
 
 -- an active transition's source is active
 pub active-source : (c : Chart) (σ : Configuration) (t : Transition) → activeTransition c σ t ≡ true → isActive σ (t .source) ≡ true
@@ -125,11 +151,11 @@ module _ (c : Chart) (passed : Passed c) (ranges : Ranges c) where
       let w = allowed-set-at _ _ _ _ _ ms h in
       ⊎-elim (λ e. e) (λ e. w .owners a b m n (apart-at c (passed .not-nested) a b (k a m) (k b n) (e .0) (e .1) (e .2) u)) (allowed-channels w a b m n)
 
-  pub homes-apart : (σ : Configuration) (ms : List ℕ) {τ : Configuration} → Stepped c σ ms τ → (a b : ℕ) → Mem a ms → Mem b ms → under c (home c a) (home c b) ≡ true → a ≡ b
+  homes-apart : (σ : Configuration) (ms : List ℕ) → AllowedStep c σ ms → (a b : ℕ) → Mem a ms → Mem b ms → under c (home c a) (home c b) ≡ true → a ≡ b
   homes-apart σ ms s = allowed-apart _ ms (s .are-known .each) (s .is-allowed)
 
-  pub stepped-together : (σ : Configuration) (ms : List ℕ) {τ : Configuration} → Stepped c σ ms τ → Together c σ ms
-  stepped-together σ ms s = record { each-known = s .are-known .each; each-from = λ m n. active-source c σ _ (s .each-active m n); homes = homes-apart σ ms s }
+  pub allowed-together : (σ : Configuration) (ms : List ℕ) → AllowedStep c σ ms → Together c σ ms
+  allowed-together σ ms s = record { each-known = s .are-known .each; each-from = λ m n. active-source c σ _ (s .each-active m n); homes = homes-apart σ ms s }
 
   pub together-fires : (σ : Configuration) (ms : List ℕ) → Together c σ ms → (m : ℕ) → Mem m ms → Fires c (isActive σ) (transitionAt c m)
   together-fires σ ms h m n = fires-at σ (transitionAt c m) (transition-mem c m (h .each-known m n)) (h .each-from m n)

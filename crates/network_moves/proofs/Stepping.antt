@@ -1,15 +1,16 @@
 -- What a step answers, by the first of its tests that fails.
 use mathlib.Core.Path.{_≡_, ap, ap₂, _∙_}
 use mathlib.Core.Bool.{true, false}
-use mathlib.Core.List.{List, map}
+use mathlib.Core.List.{List, map, map-map}
 use Prim.Native.Nat.{ℕ, _≤_}
 use borrow.Author.Tests.{leb-true}
 use lib.Dec.{leb, ltb}
 use lib.ListN.{length}
 use Rattle.lists.specs.Lists.{all, any, implies}
 use Rattle.reading.specs.Answer.{refused, unless}
-use Rattle.steps.specs.Moves.{known, allowed}
+use Rattle.steps.specs.Moves.{known, allowed, allStay}
 use Rattle.lists.proofs.Lists.{all-map, any-map}
+use Rattle.reading.proofs.Answer.{unless-by}
 use Rattle.network_records.specs.Network.{Edge, Network, urgentAt, edgeAt}
 use Rattle.network_moves.specs.Machine.{activeEdge, urgent, isConfiguration, after, tested, step}
 use Rattle.network_moves.specs.Choices.{labelAt, ownerAt, activeAt}
@@ -54,6 +55,16 @@ module _ (n : Network) (c : Configuration) (ms : List ℕ) where
           unfolding step unless
           not-allowed l = rw (h, all-known, all-map (activeEdge n c) (edgeAt n) ms, a, any-map (λ (e : Edge). urgentAt n (e .source)) (edgeAt n) ms, u, ap₂ (λ (j i : ℕ). allowed (labelAt n) (ownerAt n) (activeAt n c) j i ms) q z ∙ l)
 
-          pub steps : allowed (labelAt n) (ownerAt n) (activeAt n c) k r ms ≡ true → step n c ms ≡ tested n (after n (map (edgeAt n) ms) c)
-          unfolding step unless
-          steps l = rw (h, all-known, all-map (activeEdge n c) (edgeAt n) ms, a, any-map (λ (e : Edge). urgentAt n (e .source)) (edgeAt n) ms, u, ap₂ (λ (j i : ℕ). allowed (labelAt n) (ownerAt n) (activeAt n c) j i ms) q z ∙ l)
+          module _ (l : allowed (labelAt n) (ownerAt n) (activeAt n c) k r ms ≡ true) where
+            is-allowed : step n c ms ≡ unless 28 (allStay (map (labelAt n) ms) (c .variables)) (tested n (after n (map (edgeAt n) ms) c))
+            unfolding step unless
+            is-allowed =
+                let l' = ap₂ (λ (j i : ℕ). allowed (labelAt n) (ownerAt n) (activeAt n c) j i ms) q z ∙ l in
+                rw (h, all-known, all-map (activeEdge n c) (edgeAt n) ms, a, any-map (λ (e : Edge). urgentAt n (e .source)) (edgeAt n) ms, u, l', map-map (λ (e : Edge). e .label) (edgeAt n) ms)
+
+            pub leaves-range : allStay (map (labelAt n) ms) (c .variables) ≡ false → step n c ms ≡ refused 28
+            unfolding unless
+            leaves-range s = is-allowed ∙ rw s
+
+            pub steps : allStay (map (labelAt n) ms) (c .variables) ≡ true → step n c ms ≡ tested n (after n (map (edgeAt n) ms) c)
+            steps s = is-allowed ∙ unless-by 28 _ s

@@ -10,13 +10,13 @@ use lib.IntN.{ℤ}
 use lib.ListN.{length, getD, drop, length-drop}
 use lib.Seq.{getD-drop, drop-set-lt}
 use Rattle.lists.specs.Lists.{all, concat}
-use Rattle.updates.specs.Update.{Update, assignment, advance, formOf, writes, updated, assign}
+use Rattle.updates.specs.Update.{Update, assignment, advance, formOf, writes, stays, updated, assign}
 use Rattle.labels.specs.Label.{Label, body}
 use Rattle.clocks.specs.Clocks.{clock-limit, reset, inLimit, zeroPast, keeps, isZero, zerosPast}
-use Rattle.steps.specs.Moves.{variablesAfter, clocksAfter}
+use Rattle.steps.specs.Moves.{allStay, variablesAfter, clocksAfter}
 use Rattle.lists.proofs.Lists.{all-at, all-by, getD-mem, mem-getD}
 use Rattle.lists.proofs.Below.{all-below, below-all}
-use Rattle.lists.proofs.Concat.{concat-at}
+use Rattle.lists.proofs.Concat.{concat-at, concat-none}
 use Rattle.clocks.proofs.Clocks.{length-reset, reset-keeps, reset-at-most, reset-none}
 use Rattle.clocks.proofs.Rows.{values-reset, ClockValues}
 
@@ -74,7 +74,7 @@ zero-past-after n (l ∷ ls) cs h = zero-past-after n ls _ kept
           past (r .0) (omega (arith, r .1, long, length-reset (l .resets) cs, length-drop n cs)),
         )))
 
--- labels without assignments leave the variables as they are, and labels without resets the clocks
+-- labels without assignments leave the variables as they are, and so within the range; labels without resets leave the clocks
 pub variables-stay : (ls : List Label) (vs : List ℤ) → ((l : Label) → Mem l ls → l .body .updates ≡ []) → variablesAfter ls vs ≡ vs
 unfolding variablesAfter concat assign
 variables-stay ls vs h = ap (λ (us : List Update). assign vs us vs) (none ls h)
@@ -82,6 +82,10 @@ variables-stay ls vs h = ap (λ (us : List Update). assign vs us vs) (none ls h)
     none : (ls : List Label) → ((l : Label) → Mem l ls → l .body .updates ≡ []) → concat (λ l. l .body .updates) ls ≡ []
     none [] h = refl
     none (l ∷ ls) h = ap₂ _++_ (h l (here refl)) (none ls (λ x m. h x (there m)))
+
+pub none-leaves : (ls : List Label) (vs : List ℤ) → ((l : Label) → Mem l ls → l .body .updates ≡ []) → allStay ls vs ≡ true
+unfolding allStay all
+none-leaves ls vs h = ap (all (stays vs)) (concat-none (λ (l : Label). l .body .updates) ls h)
 
 pub clocks-stay : (ls : List Label) (cs : List ℕ) → ((l : Label) → Mem l ls → l .resets ≡ 0) → clocksAfter ls cs ≡ cs
 unfolding clocksAfter reset

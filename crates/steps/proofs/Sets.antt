@@ -1,6 +1,6 @@
 -- Sets of transitions or edges by their members: what `allowed` says (`allowed-set-at`, `allowed-set-by`), that two sets
--- whose members correspond are allowed alike (`allowed-alike`), and that they do the same to variables and clocks
--- (`variables-alike`, `clocks-alike`), in whatever orders they are listed.
+-- whose members correspond are allowed alike (`allowed-alike`), that their updates stay in the range alike (`stay-alike`), and
+-- that they do the same to variables and clocks (`variables-alike`, `clocks-alike`), in whatever orders they are listed.
 use mathlib.Core.Path.{_≡_, refl, sym, ap, _∙_, subst}
 use mathlib.Core.Bool.{Bool, true, false, cond, not, _&&_, _||_}
 use mathlib.Core.Logic.{_⊎_, inl, inr, ⊎-elim, _≢_}
@@ -13,14 +13,14 @@ use lib.Dec.{eqb, ltb}
 use lib.IntN.{ℤ}
 use lib.ListN.{length, getD}
 use lib.Seq.{ext-getD}
-use Rattle.lists.specs.Lists.{has, any, keep, below, elem, ascending, distinct}
-use Rattle.updates.specs.Update.{Update, assign}
+use Rattle.lists.specs.Lists.{has, all, any, keep, below, elem, ascending, distinct}
+use Rattle.updates.specs.Update.{Update, stays, assign}
 use Rattle.labels.specs.Label.{Label, sends, receives}
 use Rattle.clocks.specs.Clocks.{reset}
-use Rattle.steps.specs.Moves.{allowed, senders, oneSends, maximal, variablesAfter, clocksAfter}
+use Rattle.steps.specs.Moves.{allowed, senders, oneSends, maximal, allStay, variablesAfter, clocksAfter}
 use Rattle.lists.proofs.Bools.{clash, decided, fails, and-l, and-r, both, or-l, or-r, or-cases, not-yes, same}
 use Rattle.lists.proofs.Once.{Once, once-keep, one-length, partners-length, within-length, distinct-at, distinct-by, once-map}
-use Rattle.lists.proofs.Concat.{concat-map, concat-one}
+use Rattle.lists.proofs.Concat.{concat-at, concat-by, concat-map, concat-one}
 use Rattle.lists.proofs.Lists.{all-at, all-by, any-at, any-by, keep-at, keep-by, map-at, map-by, elem-at, elem-by, mem-some, one-mem, in-two}
 use Rattle.lists.proofs.Below.{below-at, below-by, length-below, all-below, below-all}
 use Rattle.lists.proofs.Ascending.{ascending-below, ascending-keep}
@@ -397,6 +397,15 @@ unfolding variablesAfter
 variables-after label ms vars o w =
     ap (λ (us : List Update). assign vars us vars) (concat-map (λ (l : Label). l .body .updates) label ms ∙ concat-one (λ m. label m .body .updates) ms o (w .member) (w .is-member) (w .others))
 
+-- the updates of labels stay in the range just if those of each label do
+stay-each : (ls : List Label) (vars : List ℤ) → allStay ls vars ≡ all (λ l. all (stays vars) (l .body .updates)) ls
+unfolding allStay
+stay-each ls vars = same _ _
+    (λ h. all-by _ ls (λ l m. all-by (stays vars) (l .body .updates) (λ u n. all-at (stays vars) _ h (concat-by (λ l. l .body .updates) m n))))
+    (λ h. all-by (stays vars) _ (λ u m.
+    let r = concat-at (λ (l : Label). l .body .updates) ls m in
+    all-at (stays vars) _ (all-at (λ l. all (stays vars) (l .body .updates)) ls h (r .1)) (r .2)))
+
 -- clocks after a step: those that some label resets are at 0
 pub length-clocks-after : (ls : List Label) (cs : List ℕ) → length (clocksAfter ls cs) ≡ length cs
 unfolding clocksAfter
@@ -424,6 +433,12 @@ module _ (R : ℕ → ℕ → Type 0) (label label' : ℕ → Label) (labels : (
       let r = w .right (m .0) (m .1) in
       any-by p (map-by label' (r .1)) (ap p (sym (m .2 ∙ labels (m .0) (r .0) (r .2))) ∙ x .2)
 
+  all-over : (p : Label → Bool) → all p (map label ms) ≡ true → all p (map label' ts) ≡ true
+  all-over p h = all-by p (map label' ts) (λ l k.
+      let t = map-at label' ts k in
+      let r = w .left (t .0) (t .1) in
+      ap p (t .2 ∙ sym (labels (r .0) (t .0) (r .2))) ∙ all-at p (map label ms) h (map-by label (r .1)))
+
 module _ (R : ℕ → ℕ → Type 0) (label label' : ℕ → Label) (labels : (m t : ℕ) → R m t → label m ≡ label' t) (ms ts : List ℕ) (w : Matched R ms ts) where
   pub variables-alike : (vars : List ℤ) → OneAssigns label ms → variablesAfter (map label ms) vars ≡ variablesAfter (map label' ts) vars
   variables-alike vars a =
@@ -443,6 +458,14 @@ module _ (R : ℕ → ℕ → Type 0) (label label' : ℕ → Label) (labels : (
   pub any-alike : (p : Label → Bool) → any p (map label ms) ≡ any p (map label' ts)
   any-alike p = same (any p (map label ms)) (any p (map label' ts)) (any-over R label label' labels ms ts w p)
       (any-over (λ t m. R m t) label' label (λ t m a. sym (labels m t a)) ts ms (matched-back R ms ts w) p)
+
+  -- and one that every label passes: so their updates stay in the range alike
+  all-alike : (p : Label → Bool) → all p (map label ms) ≡ all p (map label' ts)
+  all-alike p = same (all p (map label ms)) (all p (map label' ts)) (all-over R label label' labels ms ts w p)
+      (all-over (λ t m. R m t) label' label (λ t m a. sym (labels m t a)) ts ms (matched-back R ms ts w) p)
+
+  pub stay-alike : (vars : List ℤ) → allStay (map label ms) vars ≡ allStay (map label' ts) vars
+  stay-alike vars = stay-each (map label ms) vars ∙ all-alike (λ l. all (stays vars) (l .body .updates)) ∙ sym (stay-each (map label' ts) vars)
 
   pub clocks-alike : (cs : List ℕ) → clocksAfter (map label ms) cs ≡ clocksAfter (map label' ts) cs
   clocks-alike cs =

@@ -81,10 +81,14 @@ advance-stays a k variables d t h =
     ap isNumber (steps-are-exactly a k variables t d h) ∙ exactly-is-number (pos (suc k * a .numerator / a .denominator))
 
 -- so where the advances made are in the range, it says how it goes on
-pub taken-in-range : (a : Advance) (k : ℕ) (variables : List ℤ) → 1 ≤ a .denominator → TakenUp a k variables → InRange a k → TakenInRange a k variables
+pub taken-in-range : (a : Advance) (k : ℕ) (variables : List ℤ) → 1 ≤ a .denominator → TakenUp a k variables → InRange a k
+    → TakenInRange a k variables
 taken-in-range a k variables d t h = record { below = h; whole = t .whole h; rest = t .rest; next = advance-stays a k variables d t h }
 
--- variables that are zero hold none
+-- no advance is in the range, and variables that are zero hold none
+pub none-in-range : (a : Advance) → InRange a 0
+none-in-range a = rw (zero-mul (a .numerator), zero-div (a .denominator)) (omega arith)
+
 pub taken-up-none : (a : Advance) (variables : List ℤ) → getD variables (a .steps) (pos 0) ≡ pos 0 → getD variables (a .remainder) (pos 0) ≡ pos 0
     → TakenUp a 0 variables
 taken-up-none a variables s r = record {
