@@ -23,7 +23,7 @@ use Rattle.flattening.proofs.Pictured.{pictured-fits, pictured-not-urgent}
 use Rattle.agreement.specs.Agreement.{NetworkConfiguration, isUrgent, Accepts}
 use Rattle.agreement.proofs.Claims.{BearsOnce, NoUrgentMove}
 use Rattle.agreement.proofs.Standing.{picture-stands, active-leaves}
-use Rattle.agreement.proofs.Accepted.{Accepted, accepted-at}
+use Rattle.agreement.proofs.Accepted.{AllowedMove, accepted-at}
 
 -- an edge that bears a transition is of its home's automaton
 bearer : (c : Chart) {e : Edge} → Mem e (flatten c .edges) → e .transition ≢ 255 → ownerOf (flatten c) e ≡ automaton c (home c (e .transition))
@@ -43,7 +43,7 @@ bearer c {e} m d = let r = edges-at c m in go (r .0) (r .1) (r .2)
 pub bears-once : BearsOnce
 unfolding Accepts
 bears-once c passed ranges ν ms k =
-    let s = accepted-at (flatten c) ν ms (k .1) in
+    let s = accepted-at (flatten c) ν ms (k .1) .tests in
     distinct-by _ (subst Once (sym (keep-map (λ t. not (eqb t 255)) borne-by ms)) (map-once-on borne-by (keep bears ms) (λ a b i j e. same s a b (keep-at bears ms i) (keep-at bears ms j) e) (once-keep bears ms (s .is-allowed .once))))
   where
     borne-by : ℕ → ℕ
@@ -52,17 +52,17 @@ bears-once c passed ranges ν ms k =
     bears : ℕ → Bool
     bears m = not (eqb (borne-by m) 255)
 
-    owner : {μ : NetworkConfiguration} → Accepted (flatten c) ν ms μ → (m : ℕ) → Mem m ms × (bears m ≡ true) → ownerOf (flatten c) (edgeAt (flatten c) m) ≡ automaton c (home c (borne-by m))
+    owner : AllowedMove (flatten c) ν ms → (m : ℕ) → Mem m ms × (bears m ≡ true) → ownerOf (flatten c) (edgeAt (flatten c) m) ≡ automaton c (home c (borne-by m))
     owner s m i = bearer c (edge-at-mem (flatten c) m (s .are-known .each m (i .0))) (eqb-false _ 255 (not-true _ (i .1)))
 
-    same : {μ : NetworkConfiguration} → Accepted (flatten c) ν ms μ → (a b : ℕ) → Mem a ms × (bears a ≡ true) → Mem b ms × (bears b ≡ true) → borne-by a ≡ borne-by b → a ≡ b
+    same : AllowedMove (flatten c) ν ms → (a b : ℕ) → Mem a ms × (bears a ≡ true) → Mem b ms × (bears b ≡ true) → borne-by a ≡ borne-by b → a ≡ b
     same s a b i j e = s .is-allowed .owners a b (i .0) (j .0) (owner s a i ∙ ap (λ (t : ℕ). automaton c (home c t)) e ∙ sym (owner s b j))
 
 -- an edge that is active in a picture leaves a place that is not urgent
 pub no-urgent-move : NoUrgentMove
 unfolding isUrgent urgentAt Accepts
 no-urgent-move c passed ranges σ h ms k = none-any _ ms (λ m i.
-    let s = accepted-at (flatten c) (picture c σ) ms (k .1) in
+    let s = accepted-at (flatten c) (picture c σ) ms (k .1) .tests in
     let fits = pictured-fits c σ (configuration-tree c σ h) in
     let l = active-leaves c passed (pictured c σ) (σ .variables) (σ .clocks) fits (edge-at-mem (flatten c) m (s .are-known .each m i))
     (ap (λ (ν : NetworkConfiguration). activeEdge (flatten c) ν (edgeAt (flatten c) m)) (sym (picture-stands c σ)) ∙ s .each-active m i) in

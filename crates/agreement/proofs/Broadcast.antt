@@ -34,7 +34,7 @@ use Rattle.flattening.proofs.Order.{edge-at-injective}
 use Rattle.agreement.specs.Agreement.{NetworkConfiguration, isUrgent, carried}
 use Rattle.agreement.proofs.Relation.{standing}
 use Rattle.steps.proofs.Sets.{passing-at, passing-by, passing-ascending, values-length, AllowedSet, Joint, Full}
-use Rattle.agreement.proofs.Standing.{Fits, Takes, takes-by, Signals, signals-variables, signals-clocks, active-own, active-leaves, after-standing}
+use Rattle.agreement.proofs.Standing.{Fits, Takes, takes-by, Signals, signals-variables, signals-stay, signals-clocks, active-own, active-leaves, after-standing}
 use Rattle.agreement.proofs.Accepted.{Accepted, accepted-by, urgent-by}
 
 -- the automaton of `home` sends, and takes itself from where f has it to where g has it; so do all that hear it
@@ -160,7 +160,7 @@ module _ (c : Chart) (passed : Passed c) (ranges : Ranges c) (f g : ℕ → Plac
     first-channel = ap (λ (x : Edge). x .label .channel) (b .sent-at _ from-home)
 
     joint : JointMove
-    joint = ⊎-elim (λ a. absurd (omega (arith, first-signal, a .silent, ap (λ (m : ℕ). labelAt m .signal) (a .only m₀ is-member)))) (λ j. j) (accepted .is-allowed .signals)
+    joint = ⊎-elim (λ a. absurd (omega (arith, first-signal, a .silent, ap (λ (m : ℕ). labelAt m .signal) (a .only m₀ is-member)))) (λ j. j) (accepted .tests .is-allowed .signals)
 
     first-sends : m₀ ≡ joint .sender
     first-sends = ⊎-elim (λ e. e) (λ r. absurd (omega (arith, first-signal, r .0))) (joint .signalled .others m₀ is-member)
@@ -175,7 +175,7 @@ module _ (c : Chart) (passed : Passed c) (ranges : Ranges c) (f g : ℕ → Plac
     member-of : (m : ℕ) → Mem m ms → Member m
     member-of m k = ⊎-elim
         (λ e. subst Member (first-sends ∙ sym e) (home, b .region, from-home, inl (refl, b .sent-at _ from-home)))
-        (λ r. let j = receiver-at m (accepted .are-known .each m k) (accepted .each-active m k) (r .0, r .1 ∙ on-channel) in (j .0, j .1, j .2, inr (j .3)))
+        (λ r. let j = receiver-at m (accepted .tests .are-known .each m k) (accepted .tests .each-active m k) (r .0, r .1 ∙ on-channel) in (j .0, j .1, j .2, inr (j .3)))
         (joint .signalled .others m k)
 
     all-heard : (q : ℕ) → Region c q → (g q ≡ f q) ⊎ ((m : ℕ) × Mem m ms × (ownerOf net (edgeAt net m) ≡ automaton c q))
@@ -278,11 +278,18 @@ module _ (c : Chart) (passed : Passed c) (ranges : Ranges c) (f g : ℕ → Plac
     broadcast-accepted = (
       everyone,
       accepted-by net now everyone (record {
-        given = given;
-        are-known = record { some = mem-some sender-in; few = everyone-few; ascends = everyone-ascends; each = λ m k. everyone-at m k .0 };
-        each-active = λ m k. let x = member m k in ⊎-elim (λ e. own-active (x .0) (x .1) _ 1 (e .1)) (λ e. own-active (x .0) (x .1) _ 2 e) (x .3);
-        urgent-first = λ u. urgent-by net everyone sender-in (urgent-home _ sender-leaves);
-        is-allowed = everyone-allowed;
+        tests =
+            record {
+              given = given;
+              are-known = record { some = mem-some sender-in; few = everyone-few; ascends = everyone-ascends; each = λ m k. everyone-at m k .0 };
+              each-active = λ m k. let x = member m k in ⊎-elim (λ e. own-active (x .0) (x .1) _ 1 (e .1)) (λ e. own-active (x .0) (x .1) _ 2 e) (x .3);
+              urgent-first = λ u. urgent-by net everyone sender-in (urgent-home _ sender-leaves);
+              is-allowed = everyone-allowed;
+            };
+        all-stay =
+            signals-stay _ _ (λ l k.
+            let r = map-at (λ m. edgeAt net m .label) everyone k in
+            subst Signals (sym (r .2)) (member-signals (r .0) (member (r .0) (r .1))));
         bounds-kept = kept;
         result = everyone-leads;
       }),

@@ -1,10 +1,11 @@
 -- What is claimed of related configurations, for the network of a chart that passes.
 use mathlib.Core.Path.{_≡_}
 use mathlib.Core.Bool.{true, false}
+use mathlib.Core.Logic.{_⊎_}
 use mathlib.Core.List.{List, []}
 use Prim.Native.Nat.{ℕ, _+_, _<_}
 use Rattle.lists.specs.Lists.{distinct}
-use Rattle.reading.specs.Answer.{done}
+use Rattle.reading.specs.Answer.{done, refused}
 use Rattle.chart_records.specs.Chart.{Chart}
 use Rattle.chart_moves.specs.Machine as chart
 use Rattle.chart_records.proofs.Rules.{Passed}
@@ -53,6 +54,18 @@ OneMove = (c : Chart) → Passed c → Ranges c → (σ : ChartConfiguration) �
     → (ms ns : List ℕ) → Accepts (network.step (flatten c) (picture c σ) ms) → Accepts (network.step (flatten c) (picture c σ) ns)
     → carried (flatten c) ms ≡ carried (flatten c) ns → ms ≡ ns
 
+-- where the network gets as far as 28 or 21 and refuses, the chart refuses what is carried by the same number; and a chart list
+-- that is refused so is carried by a network list that is
+abbrev pub MoveRefused : Type 0
+MoveRefused = (c : Chart) → Passed c → Ranges c → (σ : ChartConfiguration) → chart.isConfiguration c σ ≡ true
+    → (ms : List ℕ) (k : ℕ) → ((k ≡ 28) ⊎ (k ≡ 21)) → network.step (flatten c) (picture c σ) ms ≡ refused k
+    → chart.step c σ (carried (flatten c) ms) ≡ refused k
+
+abbrev pub StepRefused : Type 0
+StepRefused = (c : Chart) → Passed c → Ranges c → (σ : ChartConfiguration) → chart.isConfiguration c σ ≡ true
+    → (ts : List ℕ) (k : ℕ) → ((k ≡ 28) ⊎ (k ≡ 21)) → chart.step c σ ts ≡ refused k
+    → (ms : List ℕ) × (network.step (flatten c) (picture c σ) ms ≡ refused k) × (carried (flatten c) ms ≡ ts)
+
 -- waits get the same answer with the same number
 abbrev pub WaitsAlike : Type 0
 WaitsAlike = (c : Chart) → Passed c → Ranges c → (σ : ChartConfiguration) → chart.isConfiguration c σ ≡ true
@@ -96,6 +109,8 @@ pub record AllClaims : Type 0 where
   pub move-is-step : MoveIsStep
   pub step-is-move : StepIsMove
   pub one-move : OneMove
+  pub move-refused : MoveRefused
+  pub step-refused : StepRefused
   pub waits-alike : WaitsAlike
   pub wait-is-picture : WaitIsPicture
   pub longest-alike : LongestAlike

@@ -131,8 +131,8 @@ module _ (c : Chart) (passed : Passed c) (ranges : Ranges c) (σ : ChartConfigur
 
     sender-of : (m : ℕ) × Mem m ms × ((p : Pending) × Mem p (r .pending) × Leaves c (f (home c (p .transition))) (edgeAt (flatten c) m))
     sender-of =
-        let u = urgent-at (flatten c) ms (a .urgent-first (urgent-now some)) in
-        let l = active-leaves c passed f (σ .variables) (σ .clocks) fits (edge-at-mem (flatten c) (u .0) (a .are-known .each (u .0) (u .1))) (a .each-active (u .0) (u .1)) in
+        let u = urgent-at (flatten c) ms (a .tests .urgent-first (urgent-now some)) in
+        let l = active-leaves c passed f (σ .variables) (σ .clocks) fits (edge-at-mem (flatten c) (u .0) (a .tests .are-known .each (u .0) (u .1))) (a .tests .each-active (u .0) (u .1)) in
         (u .0, u .1, sender-from (u .0) (u .1) (u .2) (l .0) (l .1) (l .2))
 
   -- the claims

@@ -40,7 +40,7 @@ use Rattle.flattening.proofs.Pictured.{pictured-idle, pictured-child, pictured-
 use Rattle.agreement.specs.Agreement.{ChartConfiguration, Accepts, Alike}
 use Rattle.agreement.proofs.Relation.{standing, Pending, owes, owesAll}
 use Rattle.agreement.proofs.Claims.{SettledIsPicture, PictureIsSettled, StartIsPicture, StartIsConfiguration, WaitsAlike, WaitIsPicture, LongestAlike}
-use Rattle.agreement.proofs.Accepted.{alike-accepts}
+use Rattle.agreement.proofs.Accepted.{alike-accepts, alike-by}
 use Rattle.agreement.proofs.Standing.{picture-stands, bounds-standing, urgent-standing, configuration-standing}
 
 -- what stands for each automaton, and nothing past them
@@ -166,12 +166,6 @@ start-is-picture c passed ranges =
 -- waits
 
 -- the two machines test the same two things, and lead on to a configuration and its picture
-alike-by : {A B : Type 0} (a : A) (b : B) (t u : Bool) → Alike (unless 22 t (unless 21 u (done a))) (unless 22 t (unless 21 u (done b)))
-unfolding Alike unless
-alike-by a b true true = tt
-alike-by a b true false = refl
-alike-by a b false u = refl
-
 module _ (c : Chart) (passed : Passed c) (ranges : Ranges c) (σ : ChartConfiguration) (h : chart.isConfiguration c σ ≡ true) (d : ℕ) where
   abbrev waited : ChartConfiguration
   waited = record { active = σ .active; variables = σ .variables; clocks = later (c .clocks) d (σ .clocks) }
@@ -210,7 +204,7 @@ module _ (c : Chart) (passed : Passed c) (ranges : Ranges c) (σ : ChartConfigur
       go false t = unfold unless in refl
 
 pub waits-alike : WaitsAlike
-waits-alike c passed ranges σ h d = subst₂ Alike (sym (network-waits c passed ranges σ h d)) (sym (chart-waits c passed ranges σ h d)) (alike-by _ _ _ _)
+waits-alike c passed ranges σ h d = subst₂ Alike (sym (network-waits c passed ranges σ h d)) (sym (chart-waits c passed ranges σ h d)) (alike-by 22 21 _ _ _ _)
 
 pub wait-is-picture : WaitIsPicture
 unfolding chart.wait

@@ -223,6 +223,14 @@ module _ (claims : AllClaims) (c : Chart) (passed : Passed c) (ranges : Ranges c
       longest = ap (network.longest n) (is-picture holds none) ∙ claims .longest-alike c passed ranges (r .chart) (holds .related .configured);
       step-moves = λ ts a. let k = claims .step-is-move c passed ranges (r .chart) (holds .related .configured) ts a in (k .0, here holds none (λ ν. network.step n ν (k .0)) (k .1), k .2);
       move-steps = λ ms a. let k = carried-step holds none ms (a .1) in (k .0, k .1);
+      same-refusal =
+          λ ms k late h.
+          claims .move-refused c passed ranges (r .chart) (holds .related .configured) ms k late
+          (ap (λ (ν : NetworkConfiguration). network.step n ν ms) (sym (is-picture holds none)) ∙ h);
+      refusal-moves =
+          λ ts k late h.
+          let m = claims .step-refused c passed ranges (r .chart) (holds .related .configured) ts k late h in
+          (m .0, ap (λ (ν : NetworkConfiguration). network.step n ν (m .0)) (is-picture holds none) ∙ m .1, m .2);
       only-one = λ ms ns a b. claims .one-move c passed ranges (r .chart) (holds .related .configured) ms ns (there holds none (λ ν. network.step n ν ms) a) (there holds none (λ ν. network.step n ν ns) b);
     }
 

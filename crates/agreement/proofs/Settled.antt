@@ -1,30 +1,32 @@
--- With nothing owed: a move of the network carries a step that the chart accepts (`move-is-step`), a step of the chart is
--- carried by a move (`step-is-move`), and by one only (`one-move`).
-use mathlib.Core.Path.{_≡_, refl, sym, ap, ap₂, _∙_, subst}
-use mathlib.Core.Bool.{true}
+-- With nothing owed: an allowed move and the step that it carries get the same answer (`answers-alike`), so a move of the
+-- network carries a step that the chart accepts (`move-is-step`), a step of the chart is carried by a move (`step-is-move`), and
+-- by one only (`one-move`); and where one is refused by 28 or 21, so is the other (`move-refused`, `step-refused`).
+use mathlib.Core.Path.{_≡_, sym, ap, ap₂, _∙_, subst, subst₂}
+use mathlib.Core.Bool.{Bool, true}
 use mathlib.Core.Logic.{⊎-elim, _≢_}
 use mathlib.Core.List.{List, [], map, map-map, List·Memᴰ as Mem, Memᴰ·cast as cast}
-use Prim.Native.Nat.{ℕ, _<_}
+use Prim.Native.Nat.{ℕ}
 use native.Mathlib.Omega.{arith}
 use lib.ListN.{length}
 use Rattle.lists.specs.Lists.{all, ascending}
-use Rattle.reading.specs.Answer.{done}
+use Rattle.reading.specs.Answer.{done, unless}
 use Rattle.labels.specs.Label.{Label}
 use Rattle.clocks.specs.Clocks.{keeps}
-use Rattle.steps.specs.Moves.{allowed, variablesAfter, clocksAfter}
+use Rattle.steps.specs.Moves.{allStay, variablesAfter, clocksAfter}
 use Rattle.lists.proofs.Bools.{clash, same}
 use Rattle.lists.proofs.Lists.{all-at, all-by, map-at, map-by}
 use Rattle.lists.proofs.Ascending.{ascending-once, ascending-same}
 use Rattle.labels.proofs.Labels.{receiver-assigns-nothing}
 use Rattle.steps.proofs.Kept.{keeps-clocks-after}
-use Rattle.steps.proofs.Sets.{Matched, matched-length, allowed-set-at, allowed-set-by, OneAssigns, one-assigns, variables-alike, clocks-alike}
+use Rattle.steps.proofs.Sets.{Matched, matched-length, allowed-set-at, allowed-set-by, OneAssigns, one-assigns, variables-alike, stay-alike, clocks-alike}
 use Rattle.chart_records.specs.Chart.{Chart, Transition, transitionAt, home}
 use Rattle.chart_records.specs.Tree.{sequentials}
 use Rattle.chart_moves.specs.Machine as chart
 use Rattle.chart_records.proofs.Rules.{Passed}
 use Rattle.chart_records.proofs.Ranges.{Ranges}
 use Rattle.chart_moves.proofs.After.{after-clocks}
-use Rattle.chart_moves.proofs.Step.{Together, Stepped, stepped-together, step-at, step-by, active-source, allowed-apart, configuration-tree, configuration-clocks, configuration-bounds}
+use Rattle.chart_moves.proofs.Step.{Together, AllowedStep, allowed-step-at, allowed-step-by, allowed-together, step-at, done-late, refused-late}
+use Rattle.chart_moves.proofs.Step.{active-source, configuration-tree, configuration-clocks, configuration-bounds}
 use Rattle.chart_rules.proofs.TransitionRules.{transition-mem}
 use Rattle.chart_moves.proofs.Moved.{next-configured}
 use Rattle.network_records.specs.Network.{Edge, edgeAt, ownerOf}
@@ -35,11 +37,11 @@ use Rattle.flattening.proofs.Automata.{Region, sequentials-by}
 use Rattle.flattening.proofs.Arrivals.{ends}
 use Rattle.flattening.proofs.Bounds.{bounds-pictured, bounds-after}
 use Rattle.flattening.proofs.Pictured.{pictured-child, pictured-fits}
-use Rattle.agreement.specs.Agreement.{ChartConfiguration, NetworkConfiguration, Accepts, carried, named}
+use Rattle.agreement.specs.Agreement.{ChartConfiguration, NetworkConfiguration, Accepts, Alike, carried, named}
 use Rattle.agreement.proofs.Relation.{standing, Related}
-use Rattle.agreement.proofs.Claims.{MoveIsStep, StepIsMove, OneMove}
+use Rattle.agreement.proofs.Claims.{MoveIsStep, StepIsMove, OneMove, MoveRefused, StepRefused}
 use Rattle.agreement.proofs.Standing.{picture-stands, bounds-standing, Takes, takes-by, after-standing}
-use Rattle.agreement.proofs.Accepted.{Move, Accepted, accepted-at, accepted-by}
+use Rattle.agreement.proofs.Accepted.{alike-accepts, alike-refused, alike-back, alike-by, AllowedMove, allowed-move-at, allowed-move-by, accepted-at}
 use Rattle.agreement.proofs.Bearing.{testedBy, exitBy, carrier}
 use Rattle.agreement.proofs.Picture.{picture-configuration, picture-not-urgent}
 use Rattle.agreement.proofs.Carrying.{Carries, carries-label, carries-owner, carries-active, carries-one, move-carries, carried-ascends, carried-matches, carried-allowed, carriers, carriers-ascend, carried-carriers, carriers-match}
@@ -114,8 +116,29 @@ module _ (c : Chart) (passed : Passed c) (ranges : Ranges c) (σ : ChartConfigur
       let l = carries-label c σ m (r .0) (r .1) in
       ap (λ (x : Label). x .body .updates) l ∙ receiver-assigns-nothing _ (all-at _ _ (passed .assign-once) (transition-mem c (r .0) (r .1 .known))) (ap (λ (x : Label). x .signal) (sym l) ∙ e)
 
-  -- a move and the transitions that it carries
-  module _ (ms : List ℕ) (ν : NetworkConfiguration) (move : Accepted (flatten c) (picture c σ) ms ν) where
+  -- an allowed move and an allowed step that correspond
+  module _ (ms ts : List ℕ) (matched : Matched (Carries c σ) ms ts) (move : AllowedMove (flatten c) (picture c σ) ms) (step : AllowedStep c σ ts) where
+    together : Together c σ ts
+    together = allowed-together c passed ranges σ ts step
+
+    leads : network.after (flatten c) (map (edgeAt (flatten c)) ms) (picture c σ) ≡ standing c (departed c σ ts) (afterStep c σ ts .variables) (afterStep c σ ts .clocks)
+    leads = moved-standing ms ts matched together (one-assigns (move .is-allowed) (carriers-silent ms (λ m k. let r = matched .right m k in (r .0, r .2))))
+
+    -- they make the same two tests: 28 and 21
+    stays : allStay (map (λ m. edgeAt (flatten c) m .label) ms) (picture c σ .variables) ≡ allStay (map (λ t. transitionAt c t .label) ts) (σ .variables)
+    unfolding picture
+    stays = stay-alike (Carries c σ) _ _ (carries-label c σ) ms ts matched (σ .variables)
+
+    answers-alike : Alike (network.step (flatten c) (picture c σ) ms) (chart.step c σ ts)
+    unfolding network.tested chart.tested
+    answers-alike = subst₂ Alike
+        (sym (allowed-move-by (flatten c) (picture c σ) ms move
+        ∙ ap₂ (λ (a b : Bool). unless 28 a (unless 21 b (done (network.after (flatten c) (map (edgeAt (flatten c)) ms) (picture c σ)))))
+        stays (ap (network.boundsKept (flatten c)) leads ∙ bounds-alike ms ts matched together)))
+        (sym (allowed-step-by c σ ts step)) (alike-by 28 21 _ _ _ _)
+
+  -- an allowed move and the transitions that it carries
+  module _ (ms : List ℕ) (move : AllowedMove (flatten c) (picture c σ) ms) where
     abbrev steps : List ℕ
     steps = carried (flatten c) ms
 
@@ -125,53 +148,53 @@ module _ (c : Chart) (passed : Passed c) (ranges : Ranges c) (σ : ChartConfigur
     move-matches : Matched (Carries c σ) ms steps
     move-matches = carried-matches c passed ranges σ tree ms (move .are-known .ascends) each-carries
 
-    steps-known : (t : ℕ) → Mem t steps → t < length (c .transitions)
-    steps-known t n = move-matches .left t n .2 .known
+    same-length : length ms ≡ length steps
+    same-length = matched-length (Carries c σ) ms steps move-matches
 
-    steps-active : (t : ℕ) → Mem t steps → chart.activeTransition c σ (transitionAt c t) ≡ true
-    steps-active t n = move-matches .left t n .2 .is-active
-
-    steps-allowed : allowed (λ t. transitionAt c t .label) (home c) (λ t. chart.activeTransition c σ (transitionAt c t)) (length (c .transitions)) (c .rendezvous) steps ≡ true
-    steps-allowed = sym (carried-allowed c passed ranges σ tree ms steps move-matches) ∙ allowed-set-by _ _ _ _ _ ms (move .is-allowed)
-
-    steps-together : Together c σ steps
-    steps-together = record { each-known = steps-known; each-from = λ t n. active-source c σ _ (steps-active t n); homes = allowed-apart c passed ranges _ steps steps-known steps-allowed }
-
-    move-leads : ν ≡ standing c (departed c σ steps) (afterStep c σ steps .variables) (afterStep c σ steps .clocks)
-    move-leads = sym (move .result) ∙ moved-standing ms steps move-matches steps-together (one-assigns (move .is-allowed) (carriers-silent ms each-carries))
-
-    steps-bounds : chart.boundsKept c (afterStep c σ steps) ≡ true
-    steps-bounds = sym (bounds-alike ms steps move-matches steps-together) ∙ ap (network.boundsKept (flatten c)) (sym move-leads) ∙ move .bounds-kept
-
-    steps-accepted : chart.step c σ steps ≡ done (afterStep c σ steps)
-    steps-accepted = step-by c σ steps (record {
+    steps-allowed : AllowedStep c σ steps
+    steps-allowed = record {
       given = given;
-      are-known = record { some = omega (arith, move .are-known .some, same-length); few = omega (arith, move .are-known .few, same-length); ascends = carried-ascends c ms; each = steps-known };
-      each-active = steps-active;
-      is-allowed = steps-allowed;
-      bounds-kept = steps-bounds;
-      result = refl;
-    })
-      where
-        same-length : length ms ≡ length steps
-        same-length = matched-length (Carries c σ) ms steps move-matches
-
-    steps-some : steps ≡ [] → ⊥
-    steps-some e = omega (arith, move .are-known .some, matched-length (Carries c σ) ms steps move-matches, ap (λ (l : List ℕ). length l) e)
-
-    steps-related : Related c (afterStep c σ steps) ν (named c steps)
-    steps-related = record {
-      configured = next-configured c passed ranges σ tree steps steps-together given steps-bounds;
-      places = departed c σ steps;
-      pending = departing c steps;
-      placed = departed-placed c passed ranges σ tree steps steps-together steps-active (ascending-once steps (carried-ascends c ms));
-      network-is = move-leads;
-      bounds-kept = move .bounds-kept;
-      owed-is = departing-owes c steps;
+      are-known =
+          record {
+            some = omega (arith, move .are-known .some, same-length);
+            few = omega (arith, move .are-known .few, same-length);
+            ascends = carried-ascends c ms;
+            each = λ t n. move-matches .left t n .2 .known;
+          };
+      each-active = λ t n. move-matches .left t n .2 .is-active;
+      is-allowed = sym (carried-allowed c passed ranges σ tree ms steps move-matches) ∙ allowed-set-by _ _ _ _ _ ms (move .is-allowed);
     }
 
-  -- the transitions of a step and the edges that carry them
-  module _ (ts : List ℕ) (τ : ChartConfiguration) (step : Stepped c σ ts τ) where
+    move-alike : Alike (network.step (flatten c) (picture c σ) ms) (chart.step c σ steps)
+    move-alike = answers-alike ms steps move-matches move steps-allowed
+
+    steps-some : steps ≡ [] → ⊥
+    steps-some e = omega (arith, move .are-known .some, same-length, ap (λ (l : List ℕ). length l) e)
+
+    -- an accepted one
+    module _ (ν : NetworkConfiguration) (h : network.step (flatten c) (picture c σ) ms ≡ done ν) where
+      steps-accepted : chart.step c σ steps ≡ done (afterStep c σ steps)
+      unfolding Accepts
+      steps-accepted =
+          let r = alike-accepts _ _ move-alike (ν, h) in
+          r .1 ∙ ap done (sym (step-at c σ steps (r .1) .result))
+
+      steps-related : Related c (afterStep c σ steps) ν (named c steps)
+      steps-related =
+          let go = together ms steps move-matches move steps-allowed in
+          let accepted = accepted-at (flatten c) (picture c σ) ms h in
+          record {
+            configured = next-configured c passed ranges σ tree steps go given (step-at c σ steps steps-accepted .bounds-kept);
+            places = departed c σ steps;
+            pending = departing c steps;
+            placed = departed-placed c passed ranges σ tree steps go (steps-allowed .each-active) (ascending-once steps (carried-ascends c ms));
+            network-is = sym (accepted .result) ∙ leads ms steps move-matches move steps-allowed;
+            bounds-kept = accepted .bounds-kept;
+            owed-is = departing-owes c steps;
+          }
+
+  -- the transitions of an allowed step and the edges that carry them
+  module _ (ts : List ℕ) (step : AllowedStep c σ ts) where
     moves : List ℕ
     moves = carriers c passed ranges σ tree ts
 
@@ -187,47 +210,64 @@ module _ (c : Chart) (passed : Passed c) (ranges : Ranges c) (σ : ChartConfigur
     unfolding moves
     moves-ascend = carriers-ascend c passed ranges σ tree ts (step .are-known .ascends) (step .are-known .each) (step .each-active)
 
-    step-together : Together c σ ts
-    step-together = stepped-together c passed ranges σ ts step
+    moves-length : length moves ≡ length ts
+    moves-length = matched-length (Carries c σ) moves ts step-matches
 
-    moves-accepted : network.step (flatten c) (picture c σ) moves ≡ done (standing c (departed c σ ts) (afterStep c σ ts .variables) (afterStep c σ ts .clocks))
-    moves-accepted = accepted-by (flatten c) (picture c σ) moves (record {
+    moves-allowed : AllowedMove (flatten c) (picture c σ) moves
+    moves-allowed = record {
       given = picture-configuration c passed ranges σ given;
-      are-known = record { some = omega (arith, step .are-known .some, same-length); few = omega (arith, step .are-known .few, same-length); ascends = moves-ascend; each = λ m k. step-matches .right m k .2 .edge-known };
+      are-known =
+          record {
+            some = omega (arith, step .are-known .some, moves-length);
+            few = omega (arith, step .are-known .few, moves-length);
+            ascends = moves-ascend;
+            each = λ m k. step-matches .right m k .2 .edge-known;
+          };
       each-active = λ m k. let r = step-matches .right m k in carries-active c passed ranges σ tree m (r .0) (r .2);
       urgent-first = λ u. clash u (picture-not-urgent c passed ranges σ tree);
-      is-allowed = is-allowed;
-      bounds-kept = bounds-alike moves ts step-matches step-together ∙ ap (chart.boundsKept c) (step .result) ∙ step .bounds-kept;
-      result = moved-standing moves ts step-matches step-together (one-assigns is-allowed (carriers-silent moves (λ m k. let r = step-matches .right m k in (r .0, r .2))));
-    })
-      where
-        same-length : length moves ≡ length ts
-        same-length = matched-length (Carries c σ) moves ts step-matches
+      is-allowed = allowed-set-at _ _ _ _ _ moves (carried-allowed c passed ranges σ tree moves ts step-matches ∙ step .is-allowed);
+    }
 
-        is-allowed : Move (flatten c) (picture c σ) moves
-        is-allowed = allowed-set-at _ _ _ _ _ moves (carried-allowed c passed ranges σ tree moves ts step-matches ∙ step .is-allowed)
+    step-alike : Alike (chart.step c σ ts) (network.step (flatten c) (picture c σ) moves)
+    step-alike = alike-back _ _ (answers-alike moves ts step-matches moves-allowed step)
 
   -- two moves that carry the same transitions have the same edges
-  edges-within : (ms ns : List ℕ) (μ ν : NetworkConfiguration) → Accepted (flatten c) (picture c σ) ms μ → Accepted (flatten c) (picture c σ) ns ν → carried (flatten c) ms ≡ carried (flatten c) ns → (m : ℕ) → Mem m ms → Mem m ns
-  edges-within ms ns μ ν a b e m k =
-      let r = move-matches ms μ a .right m k in
-      let l = move-matches ns ν b .left (r .0) (subst (Mem (r .0)) e (r .1)) in
+  edges-within : (ms ns : List ℕ) → AllowedMove (flatten c) (picture c σ) ms → AllowedMove (flatten c) (picture c σ) ns
+      → carried (flatten c) ms ≡ carried (flatten c) ns → (m : ℕ) → Mem m ms → Mem m ns
+  edges-within ms ns a b e m k =
+      let r = move-matches ms a .right m k in
+      let l = move-matches ns b .left (r .0) (subst (Mem (r .0)) e (r .1)) in
       cast (carries-one c passed ranges σ tree m (l .0) (r .0) (r .2) (l .2)) (l .1)
 
 pub move-is-step : MoveIsStep
 move-is-step c passed ranges σ given ms ν h =
-    let move = accepted-at (flatten c) (picture c σ) ms h in
-    (afterStep c σ (carried (flatten c) ms), steps-accepted c passed ranges σ given ms ν move, steps-some c passed ranges σ given ms ν move, steps-related c passed ranges σ given ms ν move)
+    let move = allowed-move-at (flatten c) (picture c σ) ms done-late h in (
+      afterStep c σ (carried (flatten c) ms),
+      steps-accepted c passed ranges σ given ms move ν h,
+      steps-some c passed ranges σ given ms move,
+      steps-related c passed ranges σ given ms move ν h,
+    )
 
 pub step-is-move : StepIsMove
 unfolding Accepts
 step-is-move c passed ranges σ given ts (τ, h) =
-    let step = step-at c σ ts h in
-    (moves c passed ranges σ given ts τ step, (_, moves-accepted c passed ranges σ given ts τ step), moves-carry c passed ranges σ given ts τ step)
+    let step = allowed-step-at c σ ts done-late h in
+    (moves c passed ranges σ given ts step, alike-accepts _ _ (step-alike c passed ranges σ given ts step) (τ, h), moves-carry c passed ranges σ given ts step)
 
 pub one-move : OneMove
 unfolding Accepts
 one-move c passed ranges σ given ms ns (μ, h) (ν, k) e =
-    let a = accepted-at (flatten c) (picture c σ) ms h in
-    let b = accepted-at (flatten c) (picture c σ) ns k in
-    ascending-same ms ns (a .are-known .ascends) (b .are-known .ascends) (edges-within c passed ranges σ given ms ns μ ν a b e) (edges-within c passed ranges σ given ns ms ν μ b a (sym e))
+    let a = allowed-move-at (flatten c) (picture c σ) ms done-late h in
+    let b = allowed-move-at (flatten c) (picture c σ) ns done-late k in
+    ascending-same ms ns (a .are-known .ascends) (b .are-known .ascends)
+    (edges-within c passed ranges σ given ms ns a b e) (edges-within c passed ranges σ given ns ms b a (sym e))
+
+-- a refusal by 28 or 21 is one of both machines
+pub move-refused : MoveRefused
+move-refused c passed ranges σ given ms k late h =
+    alike-refused _ _ (move-alike c passed ranges σ given ms (allowed-move-at (flatten c) (picture c σ) ms (refused-late late) h)) h
+
+pub step-refused : StepRefused
+step-refused c passed ranges σ given ts k late h =
+    let step = allowed-step-at c σ ts (refused-late late) h in
+    (moves c passed ranges σ given ts step, alike-refused _ _ (step-alike c passed ranges σ given ts step) h, moves-carry c passed ranges σ given ts step)

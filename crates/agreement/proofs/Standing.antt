@@ -16,11 +16,11 @@ use lib.Seq.{ext-getD, getD-drop}
 use Rattle.lists.specs.Lists.{has, all, any, below, implies, bitsOf}
 use Rattle.labels.specs.Label.{Label, guardsHold}
 use Rattle.clocks.specs.Clocks.{keeps, zeroPast, inLimit, zerosPast}
-use Rattle.steps.specs.Moves.{variablesAfter, clocksAfter}
+use Rattle.steps.specs.Moves.{allStay, variablesAfter, clocksAfter}
 use Rattle.lists.proofs.Bools.{parts, and-l, both, same, decided, cond-yes, cond-no}
 use Rattle.lists.proofs.Lists.{all-by, any-at, any-none, mem-getD}
 use Rattle.lists.proofs.Below.{below-all, getD-mapped, length-below}
-use Rattle.steps.proofs.Kept.{variables-stay, clocks-stay}
+use Rattle.steps.proofs.Kept.{variables-stay, none-leaves, clocks-stay}
 use Rattle.chart_records.specs.Chart.{Chart}
 use Rattle.chart_records.specs.Tree.{sequentials}
 use Rattle.chart_moves.specs.Machine.{isConfiguration as isChartConfiguration}
@@ -138,13 +138,17 @@ active-leaves c passed f vs cs fits {e} m a =
     let at = same-place-at (f (placeHome c (r .0))) (r .0) (and-l (samePlace (f (placeHome c (r .0))) (r .0)) _ h) in
     (placeHome c (r .0), r .1 .region, subst (λ (p : Place). Leaves c p e) (sym at) (r .2), owner-of c (r .0) e (r .1) (r .2))
 
--- labels that only signal change neither variables nor clocks
+-- labels that only signal change neither variables nor clocks, and leave no range
 abbrev pub Signals : Label → Type 0
 Signals l = (signal : ℕ) × (channel : ℕ) × (l ≡ signalling signal channel)
 
 pub signals-variables : (ls : List Label) (vs : List ℤ) → ((l : Label) → Mem l ls → Signals l) → variablesAfter ls vs ≡ vs
 unfolding signalling
 signals-variables ls vs h = variables-stay ls vs (λ l m. ap (λ (x : Label). x .body .updates) (h l m .2))
+
+pub signals-stay : (ls : List Label) (vs : List ℤ) → ((l : Label) → Mem l ls → Signals l) → allStay ls vs ≡ true
+unfolding signalling
+signals-stay ls vs h = none-leaves ls vs (λ l m. ap (λ (x : Label). x .body .updates) (h l m .2))
 
 pub signals-clocks : (ls : List Label) (cs : List ℕ) → ((l : Label) → Mem l ls → Signals l) → clocksAfter ls cs ≡ cs
 unfolding signalling

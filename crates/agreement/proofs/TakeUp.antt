@@ -16,7 +16,7 @@ use Rattle.labels.specs.Label.{Label, assignsOnce}
 use Rattle.updates.specs.TakeUp.{TakenUp}
 use Rattle.labels.specs.TakeUp.{OnlyBy, makes}
 use Rattle.updates.specs.declared.update.Advance.{Advance}
-use Rattle.steps.specs.Moves.{variablesAfter}
+use Rattle.steps.specs.Moves.{allStay, variablesAfter}
 use Rattle.chart_records.specs.Chart.{Chart, Transition, transitionAt}
 use Rattle.chart_records.specs.Rules.{chartOf}
 use Rattle.chart_moves.specs.Machine as chart
@@ -26,18 +26,19 @@ use Rattle.agreement.specs.Agreement.{ChartConfiguration, NetworkConfigu
 use Rattle.agreement.specs.TakeUp.{chartCall, networkCall, afterCalls, madeBy, advancesMade, TakesUp, TakeUpOfCharts, TakeUpOfNetworks}
 use Rattle.lists.proofs.Lists.{all-at, any-at, any-map, getD-mem, map-at, map-by}
 use Rattle.reading.proofs.Answer.{unless-at, done-injective}
-use Rattle.updates.proofs.Advances.{Apart, taken-up-none, assign-length}
-use Rattle.labels.proofs.TakeUp.{updatesOf, made-by, labels-take-up, two-variables}
+use Rattle.updates.proofs.Advances.{InRange, Apart, taken-in-range, taken-up-none, none-in-range, assign-length}
+use Rattle.labels.proofs.TakeUp.{updatesOf, made-by, labels-take-up, labels-in-range, two-variables}
 use Rattle.labels.proofs.LabelRanges.{updates-known}
 use Rattle.chart_records.proofs.Ranges.{chart-at}
 use Rattle.chart_moves.proofs.Step.{Stepped, step-at}
 use Rattle.network_records.proofs.Ranges.{network-labels}
 use Rattle.agreement.proofs.Accepted.{Accepted, accepted-at}
 
--- what is needed of a machine with these labels: a step carries out the updates of its members' labels, a wait leaves the
--- variables, and the labels keep rule 13 and write variables of the sixteen
+-- what is needed of a machine with these labels: a step carries out the updates of its members' labels, which stay in the range, a
+-- wait leaves the variables, and the labels keep rule 13 and write variables of the sixteen
 record Carries {A : Type 0} (ls : List Label) (label : ℕ → Label) (call : A → Call → Answer A) (variables : A → List ℤ) : Type 0 where
   steps : (σ : A) (ms : List ℕ) {τ : A} → call σ (step ms) ≡ done τ → variables τ ≡ variablesAfter (map label ms) (variables σ)
+  stay : (σ : A) (ms : List ℕ) {τ : A} → call σ (step ms) ≡ done τ → allStay (map label ms) (variables σ) ≡ true
   members : (σ : A) (ms : List ℕ) {τ : A} → call σ (step ms) ≡ done τ → (m : ℕ) → Mem m ms → Mem (label m) ls
   waits : (σ : A) (d : ℕ) {τ : A} → call σ (wait d) ≡ done τ → variables τ ≡ variables σ
   once : (l : Label) → Mem l ls → assignsOnce l ≡ true
@@ -55,54 +56,60 @@ module _ {A : Type 0} {ls : List Label} {label : ℕ → Label} {call : A → Ca
         remainder-there = M .known l m (advance a) u (a .remainder) (there (here refl));
       }
 
+  -- what every call keeps: the variables are sixteen and hold k advances, which are in the range
+  record Holding (k : ℕ) (vars : List ℤ) : Type 0 where
+    long : length vars ≡ 16
+    taken-up : TakenUp a k vars
+    in-range : InRange a k
+
   -- an accepted step
-  module _ (σ : A) (ms : List ℕ) {τ : A} (e : call σ (step ms) ≡ done τ) (long : length (variables σ) ≡ 16) where
+  module _ (σ : A) (ms : List ℕ) {τ : A} (e : call σ (step ms) ≡ done τ) where
     among : (l : Label) → Mem l (map label ms) → Mem l ls
     among l m = let r = map-at label ms m in cast (r .2) (M .members σ ms e (r .0) (r .1))
 
-    step-long : length (variables τ) ≡ 16
-    unfolding variablesAfter
-    step-long = ap length (M .steps σ ms e) ∙ assign-length (variables σ) (updatesOf (map label ms)) (variables σ) ∙ long
-
-    there-if-made : any (makes a) (map label ms) ≡ true → Apart a (length (variables σ))
-    there-if-made h =
+    there-if-made : length (variables σ) ≡ 16 → any (makes a) (map label ms) ≡ true → Apart a (length (variables σ))
+    there-if-made long h =
         let r = any-at (makes a) (map label ms) h in
         subst (Apart a) (sym long) (apart (r .0) (among (r .0) (r .1)) (r .2))
 
-    step-takes-up : (k : ℕ) → TakenUp a k (variables σ) → TakenUp a (k + cond (any (λ m. makes a (label m)) ms) 1 0) (variables τ)
-    unfolding variablesAfter
-    step-takes-up k t =
-        rw (M .steps σ ms e, ← any-map (makes a) label ms)
-        (labels-take-up a (map label ms) k (variables σ) divides (λ l m. only l (among l m)) there-if-made t)
+    step-holds : (k : ℕ) → Holding k (variables σ) → Holding (k + cond (any (λ m. makes a (label m)) ms) 1 0) (variables τ)
+    unfolding allStay variablesAfter
+    step-holds k h =
+        let only-these : OnlyBy a (map label ms) = λ l m. only l (among l m) in
+        rw (M .steps σ ms e, ← any-map (makes a) label ms) (record {
+          long = assign-length (variables σ) (updatesOf (map label ms)) (variables σ) ∙ h .long;
+          taken-up = labels-take-up a (map label ms) k (variables σ) divides only-these (there-if-made (h .long)) (h .taken-up);
+          in-range = labels-in-range a (map label ms) k (variables σ) divides only-these (M .stay σ ms e) (h .taken-up) (h .in-range);
+        })
 
   -- a call, accepted or refused
-  call-takes-up : (x : Call) (r : Answer A) (σ : A) (k : ℕ) → call σ x ≡ r → length (variables σ) ≡ 16 → TakenUp a k (variables σ)
-      → (length (variables (left σ r)) ≡ 16) × TakenUp a (k + madeBy a label x r) (variables (left σ r))
+  call-holds : (x : Call) (r : Answer A) (σ : A) (k : ℕ) → call σ x ≡ r → Holding k (variables σ)
+      → Holding (k + madeBy a label x r) (variables (left σ r))
   unfolding madeBy left
-  call-takes-up (step ms) (done τ) σ k e long t = (step-long σ ms e long, step-takes-up σ ms e long k t)
-  call-takes-up (step ms) (refused j) σ k e long t = (long, rw (add-zero k) t)
-  call-takes-up (wait d) (done τ) σ k e long t = (ap length (M .waits σ d e) ∙ long, rw (add-zero k, M .waits σ d e) t)
-  call-takes-up (wait d) (refused j) σ k e long t = (long, rw (add-zero k) t)
+  call-holds (step ms) (done τ) σ k e h = step-holds σ ms e k h
+  call-holds (step ms) (refused j) σ k e h = rw (add-zero k) h
+  call-holds (wait d) (done τ) σ k e h = rw (add-zero k, M .waits σ d e) h
+  call-holds (wait d) (refused j) σ k e h = rw (add-zero k) h
 
   -- some calls after k advances
-  run-takes-up : (calls : List Call) (σ : A) (k : ℕ) → length (variables σ) ≡ 16 → TakenUp a k (variables σ)
-      → TakenUp a (k + advancesMade a label call σ calls) (variables (afterCalls call σ calls))
+  run-holds : (calls : List Call) (σ : A) (k : ℕ) → Holding k (variables σ)
+      → Holding (k + advancesMade a label call σ calls) (variables (afterCalls call σ calls))
   unfolding advancesMade afterCalls
-  run-takes-up [] σ k long t = rw (add-zero k) t
-  run-takes-up (x ∷ xs) σ k long t =
+  run-holds [] σ k h = rw (add-zero k) h
+  run-holds (x ∷ xs) σ k h =
       let made = madeBy a label x (call σ x) in
       let τ = left σ (call σ x) in
       let later = advancesMade a label call τ xs in
       let e : k + made + later ≡ k + (made + later) = omega arith in
-      let first = call-takes-up x (call σ x) σ k refl long t in
-      subst (λ (n : ℕ). TakenUp a n (variables (afterCalls call τ xs))) e (run-takes-up xs τ (k + made) (first .0) (first .1))
+      subst (λ (n : ℕ). Holding n (variables (afterCalls call τ xs))) e (run-holds xs τ (k + made) (call-holds x (call σ x) σ k refl h))
 
   -- from a configuration whose sixteen variables are zero
   takes-up : (σ : A) → variables σ ≡ replicate 16 (pos 0) → TakesUp a label call variables σ
   takes-up σ z calls =
       let none = taken-up-none a (variables σ) (rw z (zeros 16 (a .steps))) (rw z (zeros 16 (a .remainder))) in
       let all = zero-add (advancesMade a label call σ calls) in
-      rw (← all) (run-takes-up calls σ 0 (ap length z) none)
+      let h = run-holds calls σ 0 (record { long = ap length z; taken-up = none; in-range = none-in-range a }) in
+      rw (← all) (taken-in-range a _ _ divides (h .taken-up) (h .in-range))
     where
       zeros : (n v : ℕ) → getD (replicate n (pos 0)) v (pos 0) ≡ pos 0
       zeros zero v = refl
@@ -135,7 +142,8 @@ module _ (file : List ℕ) (c : Chart) (h : chartOf file ≡ done c) where
         steps = λ σ ms e.
             sym (ap (λ (x : ChartConfiguration). x .variables) (chart-step σ ms e .result))
             ∙ ap (λ (ls : List Label). variablesAfter ls (σ .variables)) (map-map labelOf (transitionAt c) ms);
-        members = λ σ ms e m j. map-by labelOf (getD-mem (c .transitions) m _ (chart-step σ ms e .are-known .each m j));
+        stay = λ σ ms e. chart-step σ ms e .all-stay;
+        members = λ σ ms e m j. map-by labelOf (getD-mem (c .transitions) m _ (chart-step σ ms e .tests .are-known .each m j));
         waits = chart-wait;
         once = λ l m.
             let t = map-at labelOf (c .transitions) m in
@@ -177,7 +185,8 @@ module _ (file : List ℕ) (n : Network) (h : networkOf file ≡ done n) where
         steps = λ σ ms e.
             sym (ap (λ (x : NetworkConfiguration). x .variables) (network-step σ ms e .result))
             ∙ ap (λ (ls : List Label). variablesAfter ls (σ .variables)) (map-map labelOf (edgeAt n) ms);
-        members = λ σ ms e m j. map-by labelOf (getD-mem (n .edges) m _ (network-step σ ms e .are-known .each m j));
+        stay = λ σ ms e. network-step σ ms e .all-stay;
+        members = λ σ ms e m j. map-by labelOf (getD-mem (n .edges) m _ (network-step σ ms e .tests .are-known .each m j));
         waits = network-wait;
         once = λ l m. let t = map-at labelOf (n .edges) m in ap assignsOnce (t .2) ∙ assign-once (t .0) (t .1);
         known = λ l m u j v k.

@@ -1,6 +1,7 @@
 -- Runs side by side: what is claimed of a chart and the network that flattening writes of it, over any list of calls.
 use Prim.Native.Nat.{ℕ, _+_, _-_, _<_}
 use mathlib.Core.Bool.{Bool, true, false, cond, not}
+use mathlib.Core.Logic.{_⊎_}
 use mathlib.Core.List.{List, [], _∷_, _++_, map}
 use mathlib.Core.Path.{_≡_}
 use lib.Dec.{eqb}
@@ -131,6 +132,12 @@ pub record Settled (c : Chart) (n : Network) (r : Run) : Type 0 where
   pub longest : network.longest n (r .network) ≡ chart.longest c (r .chart)
   pub step-moves : (ts : List ℕ) → Accepts (chart.step c (r .chart) ts) → (ms : List ℕ) × Accepts (network.step n (r .network) ms) × (carried n ms ≡ ts)
   pub move-steps : (ms : List ℕ) → Accepts (network.step n (r .network) ms) → Accepts (chart.step c (r .chart) (carried n ms))
+  -- a list of edges and the list of transitions that it carries get the same number wherever the network gets as far as 28 or 21;
+  -- and of a chart list that is refused by one of these there is such a list of edges
+  pub same-refusal : (ms : List ℕ) (k : ℕ) → ((k ≡ 28) ⊎ (k ≡ 21)) → network.step n (r .network) ms ≡ refused k
+      → chart.step c (r .chart) (carried n ms) ≡ refused k
+  pub refusal-moves : (ts : List ℕ) (k : ℕ) → ((k ≡ 28) ⊎ (k ≡ 21)) → chart.step c (r .chart) ts ≡ refused k
+      → (ms : List ℕ) × (network.step n (r .network) ms ≡ refused k) × (carried n ms ≡ ts)
   pub only-one : (ms ns : List ℕ) → Accepts (network.step n (r .network) ms) → Accepts (network.step n (r .network) ns) → carried n ms ≡ carried n ns → ms ≡ ns
 
 -- one claim about a list of network calls

@@ -7,7 +7,7 @@ use lib.IntN.{ℤ}
 use Rattle.lists.specs.Lists.{any}
 use Rattle.reading.specs.Answer.{Answer, done, refused}
 use Rattle.labels.specs.Label.{Label}
-use Rattle.updates.specs.TakeUp.{TakenUp}
+use Rattle.updates.specs.TakeUp.{TakenInRange}
 use Rattle.labels.specs.TakeUp.{OnlyBy, makes}
 use Rattle.updates.specs.declared.update.Advance.{Advance}
 use Rattle.chart_records.specs.Chart.{Chart, transitionAt}
@@ -42,10 +42,11 @@ unfoldable pub advancesMade : {A : Type 0} → Advance → (ℕ → Label) → (
 advancesMade a label call σ [] = 0
 advancesMade a label call σ (x ∷ xs) = madeBy a label x (call σ x) + advancesMade a label call (left σ (call σ x)) xs
 
--- from a configuration: after any list of calls the variables hold as many advances as were made
+-- from a configuration: after any list of calls the variables hold as many advances as were made. These are in the range, since a
+-- step that would leave it is refused (28), and the next advance is in it as long as its whole part is
 abbrev pub TakesUp : {A : Type 0} → Advance → (ℕ → Label) → (A → Call → Answer A) → (A → List ℤ) → A → Type 0
 TakesUp a label call variables σ =
-    (calls : List Call) → TakenUp a (advancesMade a label call σ calls) (variables (afterCalls call σ calls))
+    (calls : List Call) → TakenInRange a (advancesMade a label call σ calls) (variables (afterCalls call σ calls))
 
 -- of a chart in which nothing but the advance writes either of its variables
 abbrev pub TakeUpOfCharts : Type 0

@@ -150,7 +150,7 @@ module _ {file bytes : List ℕ} {c : Chart} {n : Network} (F : Flattening file 
           step-done = network-done (x .network) (network.step n (now .network) ms) answered e
 
           pub step-few : length ms ≤ 16
-          step-few = accepted-at n (now .network) ms step-done .are-known .few
+          step-few = accepted-at n (now .network) ms step-done .tests .are-known .few
 
           pub step-safe : {ts : List ℕ} → ts ≡ carried n ms → Safe c now ts
           unfolding Accepts
