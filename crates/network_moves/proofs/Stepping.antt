@@ -51,20 +51,14 @@ module _ (n : Network) (c : Configuration) (ms : List ℕ) where
         urgency u = rw (h, all-known, all-map (activeEdge n c) (edgeAt n) ms, a, any-map (λ (e : Edge). urgentAt n (e .source)) (edgeAt n) ms, u)
 
         module _ (u : implies (urgent n c) (any (λ m. urgentAt n (edgeAt n m .source)) ms) ≡ true) {r : ℕ} (z : n .rendezvous ≡ r) where
-          pub not-allowed : allowed (labelAt n) (ownerAt n) (activeAt n c) k r ms ≡ false → step n c ms ≡ refused 20
-          unfolding step unless
-          not-allowed l = rw (h, all-known, all-map (activeEdge n c) (edgeAt n) ms, a, any-map (λ (e : Edge). urgentAt n (e .source)) (edgeAt n) ms, u, ap₂ (λ (j i : ℕ). allowed (labelAt n) (ownerAt n) (activeAt n c) j i ms) q z ∙ l)
-
-          module _ (l : allowed (labelAt n) (ownerAt n) (activeAt n c) k r ms ≡ true) where
-            is-allowed : step n c ms ≡ unless 28 (allStay (map (labelAt n) ms) (c .variables)) (tested n (after n (map (edgeAt n) ms) c))
-            unfolding step unless
-            is-allowed =
-                let l' = ap₂ (λ (j i : ℕ). allowed (labelAt n) (ownerAt n) (activeAt n c) j i ms) q z ∙ l in
-                rw (h, all-known, all-map (activeEdge n c) (edgeAt n) ms, a, any-map (λ (e : Edge). urgentAt n (e .source)) (edgeAt n) ms, u, l', map-map (λ (e : Edge). e .label) (edgeAt n) ms)
-
-            pub leaves-range : allStay (map (labelAt n) ms) (c .variables) ≡ false → step n c ms ≡ refused 28
-            unfolding unless
-            leaves-range s = is-allowed ∙ rw s
-
-            pub steps : allStay (map (labelAt n) ms) (c .variables) ≡ true → step n c ms ≡ tested n (after n (map (edgeAt n) ms) c)
-            steps s = is-allowed ∙ unless-by 28 _ s
+          -- what it answers past 27
+          pub past-urgency : step n c ms
+              ≡ unless 20 (allowed (labelAt n) (ownerAt n) (activeAt n c) k r ms)
+              (unless 28 (allStay (map (labelAt n) ms) (c .variables)) (tested n (after n (map (edgeAt n) ms) c)))
+          unfolding step
+          past-urgency =
+              unless-by 26 _ h
+              ∙ (unless-by 18 _ all-known
+              ∙ (unless-by 19 _ (all-map (activeEdge n c) (edgeAt n) ms ∙ a)
+              ∙ (unless-by 27 _ (ap (implies (urgent n c)) (any-map (λ (e : Edge). urgentAt n (e .source)) (edgeAt n) ms) ∙ u)
+              ∙ rw (map-map (λ (e : Edge). e .label) (edgeAt n) ms, q, z))))

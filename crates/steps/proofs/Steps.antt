@@ -106,10 +106,15 @@ module _ (label : ℕ → Label) (owner : ℕ → ℕ) where
         go false a o n = refl
 
 -- the last tests answer as the definitions of a step do
-pub last-tests : {A : Type 0} (allowed within kept : Bool) (x : A) →
+last-tests : {A : Type 0} (allowed within kept : Bool) (x : A) →
     answerBy (lastTests allowed within kept) x ≡ unless 20 allowed (unless 28 within (unless 21 kept (done x)))
 unfolding lastTests unless
 last-tests false within kept x = refl
 last-tests true false kept x = refl
 last-tests true true false x = refl
 last-tests true true true x = refl
+
+pub last-tests-are : {A : Type 0} {a b w v k l : Bool} {x y : A} → a ≡ b → w ≡ v → k ≡ l → x ≡ y →
+    answerBy (lastTests a w k) x ≡ unless 20 b (unless 28 v (unless 21 l (done y)))
+last-tests-are {a = a} {w = w} {k = k} {x = x} p q r s =
+    last-tests a w k x ∙ λ j. unless 20 (p j) (unless 28 (q j) (unless 21 (r j) (done (s j))))

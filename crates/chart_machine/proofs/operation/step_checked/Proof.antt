@@ -1,9 +1,11 @@
-use mathlib.Core.Path.{sym, ap, _∙_}
+use mathlib.Core.Path.{refl, sym, ap, _∙_}
 use borrow.Author.Tests.{not-true, not-false}
-use Rattle.chart_moves.specs.Machine.{tested}
+use Rattle.reading.specs.declared.verdict.Verdict.{Verdict}
+use Rattle.steps.specs.Last.{answerBy}
+use Rattle.steps.proofs.Steps.{last-tests-are}
+use Rattle.chart_moves.specs.Machine.{boundsKept, tested}
 use Rattle.chart_machine.specs.Outcomes.{outcomeOf}
-use Rattle.chart_moves.specs.declared.configuration.Configuration.{Configuration}
-use Rattle.chart_machine.proofs.Refusals.{grown-of, step-elsewhere, step-unknown, step-inactive, step-barred, step-taken}
+use Rattle.chart_machine.proofs.Refusals.{grown-of, step-elsewhere, step-unknown, step-inactive, step-last}
 use borrow.Author.Needs.{needs}
 use Rattle.chart_machine.proofs.operation.step_checked.Statement.{statement}
 use Rattle.chart_machine.proofs.operation.step_checked.Tie as tie
@@ -57,12 +59,26 @@ returns-3 c =
 is-allowed-requires : tie.Need-is-allowed-requires
 is-allowed-requires c κs = search needs
 
-refuse-requires-4 : tie.Need-refuse-requires-4
-refuse-requires-4 c κs = search needs
+after-requires : tie.Need-after-requires
+after-requires c κs = search needs
+
+bounds-kept-requires : tie.Need-bounds-kept-requires
+bounds-kept-requires c κs = search needs
+
+last-tests-requires : tie.Need-last-tests-requires
+last-tests-requires c κs = search needs
+
+outcome-by-requires : tie.Need-outcome-by-requires
+outcome-by-requires c κs = search needs
 
 returns-4 : tie.Need-returns-4
-returns-4 c =
-    let place-1 = c .before .before .before in
+unfolding tested
+returns-4 c = λ k R.
+    let t = c .before in
+    let b = t .before in
+    let after = b .before .before .before .before in
+    let allowed = after .before in
+    let place-1 = allowed .before in
     let if3 = place-1 .if3 in
     let all-active = place-1 .before .all-active in
     let if2 = place-1 .before .before .if2 in
@@ -70,37 +86,14 @@ returns-4 c =
     let known = place-2 .known in
     let if1 = place-2 .before .before .if1 in
     let is-configuration = place-2 .before .before .before .is-configuration in
-    λ k R. c .refuse4 .ensures ∙ ap (outcomeOf _) (sym
-    (step-barred k _ _ (R .laid .transitions) (sym (is-configuration .ensures k (grown-of R)) ∙ not-false _ (if1 .left))
-    (sym (known .ensures) ∙ not-false _ (if2 .left)) (sym (all-active .ensures k R (sym (known .ensures) ∙ not-false _ (if2 .left)))
-    ∙ not-false _ (if3 .left)) (c .before .before .is-allowed .ensures k R (sym (known .ensures) ∙ not-false _ (if2 .left)))
-    (not-true _ (c .before .if4 .taken))))
-
-after-requires : tie.Need-after-requires
-after-requires c κs = search needs
-
-tested-requires : tie.Need-tested-requires
-tested-requires c κs = search needs
-
-returns-5 : tie.Need-returns-5
-returns-5 c =
-    let place-1 = c .before .before .before in
-    let is-allowed = place-1 .is-allowed in
-    let if3 = place-1 .before .if3 in
-    let all-active = place-1 .before .before .all-active in
-    let place-2 = place-1 .before .before .before in
-    let if2 = place-2 .if2 in
-    let known = place-2 .before .known in
-    let place-3 = place-2 .before .before .before in
-    let if1 = place-3 .if1 in
-    let is-configuration = place-3 .before .is-configuration in
-    let args = place-3 .before .before .before .before .before .args in
-    λ k R. c .tested .ensures k (R .laid .stated) ∙ ap (λ (τ : Configuration). outcomeOf (args .given) (tested k τ))
-    (c .before .after .ensures k R (sym (known .ensures) ∙ not-false _ (if2 .left)))
-    ∙ ap (outcomeOf _) (sym (step-taken k _ _ (R .laid .transitions) (sym (is-configuration .ensures k (grown-of R)) ∙ not-false _ (if1 .left))
-    (sym (known .ensures) ∙ not-false _ (if2 .left)) (sym (all-active .ensures k R (sym (known .ensures) ∙ not-false _ (if2 .left)))
-    ∙ not-false _ (if3 .left)) (is-allowed .ensures k R (sym (known .ensures) ∙ not-false _ (if2 .left)))
-    (not-false _ (c .before .before .if4 .left))))
+    let args = place-2 .before .before .before .before .before .before .before .args in
+    let few = sym (known .ensures) ∙ not-false _ (if2 .left) in
+    let next = after .after .ensures .1 k R few in
+    c .outcome-by .ensures ∙ ap (outcomeOf (args .given)) (ap (λ (v : Verdict). answerBy v (after .after .result .configuration)) (t .last-tests .ensures)
+    ∙ last-tests-are (allowed .is-allowed .ensures k R few) (after .after .ensures .0 k R few)
+    (b .bounds-kept .ensures k (after .after .result .configuration) (R .laid .stated) refl refl ∙ ap (boundsKept k) next) next
+    ∙ sym (step-last k _ _ (R .laid .transitions) (sym (is-configuration .ensures k (grown-of R)) ∙ not-false _ (if1 .left)) few
+    (sym (all-active .ensures k R few) ∙ not-false _ (if3 .left)) refl))
 
 pub step-checked-spec : {M : Type 1} → statement M
 step-checked-spec =
@@ -117,8 +110,8 @@ step-checked-spec =
     refuse-requires-3
     returns-3
     is-allowed-requires
-    refuse-requires-4
-    returns-4
     after-requires
-    tested-requires
-    returns-5)
+    bounds-kept-requires
+    last-tests-requires
+    outcome-by-requires
+    returns-4)

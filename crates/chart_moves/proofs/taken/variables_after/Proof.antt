@@ -1,5 +1,5 @@
 use mathlib.Core.Path.{_≡_, refl, sym, ap, _∙_}
-use mathlib.Core.Bool.{Bool, true, _&&_, and-true, and-assoc}
+use mathlib.Core.Bool.{Bool, true, _&&_, and-true}
 use mathlib.Core.List.{List, map}
 use Prim.Native.Nat.{ℕ, _-_}
 use native.Mathlib.Omega.{arith}
@@ -11,7 +11,7 @@ use Rattle.lists.proofs.Parts.{drop-next}
 use Rattle.chart_records.specs.Chart.{Chart, transitionAt}
 use Rattle.chart_records.specs.Laid.{Laid}
 use Rattle.chart_moves.proofs.Choices.{chosen-at, body-here}
-use Rattle.steps.proofs.Turns.{variables-next, stay-next}
+use Rattle.steps.proofs.Turns.{variables-next, stay-more}
 use borrow.Author.Needs.{needs}
 use Rattle.chart_moves.proofs.taken.variables_after.Statement.{statement}
 use Rattle.chart_moves.proofs.taken.variables_after.Tie as tie
@@ -47,19 +47,18 @@ loop-less c = omega arith
 
 loop-again : tie.Need-loop-again Inv-loop μ-loop
 loop-again c = λ k L h.
-    let l = c .before .before .before in
+    let assigned = c .before .before in
+    let chosen = assigned .before .before in
+    let l = chosen .before in
     let e = l .loop-test .taken in
-    let a = l .before .before .before .before .before .args in
-    let at = chosen-at L _ h _ e (c .before .before .chosen .ensures) in
-    let body = λ s. body-here L _ s (c .before .body-of .ensures) in
+    let old = l .before .before .before .before .before .args .old in
     let g = l .before .loop .inv k L h in (
-      g .0 ∙ ap (λ (b : Bool). l .before .loop .within && b) (stay-next _ (drop-next _ _ 0 e) (a .old))
-          ∙ sym (and-assoc (l .before .loop .within) _ _)
-          ∙ ap (λ (b : Bool). (l .before .loop .within && b) && _)
-          (sym (at (λ m. all (stays (a .old)) (transitionAt k m .label .body .updates)) (λ s. let b = body s in c .assigned .ensures .0 _ (b .0) (b .1)))),
+      g .0 ∙ stay-more (λ m. transitionAt k m .label) (drop-next _ _ 0 e) old (l .before .loop .within)
+          (ap (λ (b : Bool). l .before .loop .within && b)
+          (chosen-at L _ h _ e (chosen .chosen .ensures) (λ m. all (stays old) (transitionAt k m .label .body .updates)) (λ s. let b = body-here L _ s (assigned .before .body-of .ensures) in assigned .assigned .ensures .0 _ (b .0) (b .1)))),
       g .1 ∙ variables-next _ (drop-next _ _ 0 e) _ _
-          ∙ ap (assign (a .old) _)
-          (sym (at (λ m. assign (a .old) (transitionAt k m .label .body .updates) (l .before .loop .values)) (λ s. let b = body s in c .assigned .ensures .1 _ (b .0) (b .1)))),
+          ∙ ap (assign old _)
+          (sym (chosen-at L _ h _ e (chosen .chosen .ensures) (λ m. assign old (transitionAt k m .label .body .updates) (l .before .loop .values)) (λ s. let b = body-here L _ s (assigned .before .body-of .ensures) in assigned .assigned .ensures .1 _ (b .0) (b .1)))),
     )
 
 returns : tie.Need-returns Inv-loop μ-loop

@@ -1,9 +1,11 @@
 use mathlib.Core.Path.{sym, ap, _∙_}
 use borrow.Author.Tests.{not-true, not-false}
-use Rattle.network_moves.specs.Machine.{tested}
+use Rattle.reading.specs.declared.verdict.Verdict.{Verdict}
+use Rattle.steps.specs.Last.{answerBy}
+use Rattle.steps.proofs.Steps.{last-tests-are}
+use Rattle.network_moves.specs.Machine.{boundsKept, tested}
 use Rattle.network_machine.specs.Answers.{outcomeOf}
-use Rattle.network_moves.proofs.Stepping.{known-below, known-few, inactive, urgency, not-allowed, steps}
-use Rattle.network_machine.proofs.Waits.{bounds-broken, bounds-right}
+use Rattle.network_moves.proofs.Stepping.{known-below, known-few, inactive, urgency, past-urgency}
 use borrow.Author.Needs.{needs}
 use Rattle.network_machine.proofs.step.step_along.Statement.{statement}
 use Rattle.network_machine.proofs.step.step_along.Tie as tie
@@ -35,31 +37,25 @@ returns-2 c = λ n L h g. let e1 = c .before .before .before in
 is-allowed-requires : tie.Need-is-allowed-requires
 is-allowed-requires c κs = search needs
 
-refused-requires-3 : tie.Need-refused-requires-3
-refused-requires-3 c κs = search needs
-
-returns-3 : tie.Need-returns-3
-returns-3 c = λ n L h g. let e2 = c .before .before .before in
-    let u = e2 .before in
-    let e1 = u .before in
-    let x = e1 .before in
-    let a = x .before .before .before .args in
-    let active = sym (x .all-active .ensures n L (known-below _ _ g)) ∙ not-false _ (e1 .if1 .left) in
-    let kept = sym (u .urgency-kept .ensures n L (known-below _ _ g)) ∙ not-false _ (e2 .if2 .left) in
-    c .refused3 .ensures ∙ ap (outcomeOf (a .c)) (sym (not-allowed n (a .c) _ h (L .edges) g active kept (L .located .rendezvous) (sym (c .before .before .is-allowed .ensures n L (known-below _ _ g) (known-few _ _ g)) ∙ not-true _ (c .before .if3 .taken))))
-
 configuration-after-requires : tie.Need-configuration-after-requires
 configuration-after-requires c κs = search needs
 
 bounds-kept-requires : tie.Need-bounds-kept-requires
 bounds-kept-requires c κs = search needs
 
-refused-requires-4 : tie.Need-refused-requires-4
-refused-requires-4 c κs = search needs
+last-tests-requires : tie.Need-last-tests-requires
+last-tests-requires c κs = search needs
 
-returns-4 : tie.Need-returns-4
-returns-4 c = λ n L h g. let e3 = c .before .before .before .before in
-    let l = e3 .before in
+outcome-by-requires : tie.Need-outcome-by-requires
+outcome-by-requires c κs = search needs
+
+returns-3 : tie.Need-returns-3
+unfolding tested
+returns-3 c = λ n L h g.
+    let t = c .before in
+    let b = t .before in
+    let k = b .before .before in
+    let l = k .before in
     let e2 = l .before in
     let u = e2 .before in
     let e1 = u .before in
@@ -67,25 +63,11 @@ returns-4 c = λ n L h g. let e3 = c .before .before .before .before in
     let a = x .before .before .before .args in
     let active = sym (x .all-active .ensures n L (known-below _ _ g)) ∙ not-false _ (e1 .if1 .left) in
     let kept = sym (u .urgency-kept .ensures n L (known-below _ _ g)) ∙ not-false _ (e2 .if2 .left) in
-    let fits = sym (l .is-allowed .ensures n L (known-below _ _ g) (known-few _ _ g)) ∙ not-false _ (e3 .if3 .left) in
-    let k = c .before .before .before in
-    let b = sym (c .before .before .bounds-kept .ensures n (L .located)) ∙ not-true _ (c .before .if4 .taken) in
-    c .refused4 .ensures ∙ ap (outcomeOf (a .c)) (sym (steps n (a .c) _ h (L .edges) g active kept (L .located .rendezvous) fits ∙ ap (tested n) (sym (k .configuration-after .ensures n L (known-below _ _ g))) ∙ bounds-broken n _ b))
-
-returns-5 : tie.Need-returns-5
-returns-5 c = λ n L h g. let e3 = c .before .before .before in
-    let l = e3 .before in
-    let e2 = l .before in
-    let u = e2 .before in
-    let e1 = u .before in
-    let x = e1 .before in
-    let a = x .before .before .before .args in
-    let active = sym (x .all-active .ensures n L (known-below _ _ g)) ∙ not-false _ (e1 .if1 .left) in
-    let kept = sym (u .urgency-kept .ensures n L (known-below _ _ g)) ∙ not-false _ (e2 .if2 .left) in
-    let fits = sym (l .is-allowed .ensures n L (known-below _ _ g) (known-few _ _ g)) ∙ not-false _ (e3 .if3 .left) in
-    let k = c .before .before in
-    let b = sym (c .before .bounds-kept .ensures n (L .located)) ∙ not-false _ (c .if4 .left) in
-    ap (outcomeOf (a .c)) (sym (steps n (a .c) _ h (L .edges) g active kept (L .located .rendezvous) fits ∙ ap (tested n) (sym (k .configuration-after .ensures n L (known-below _ _ g))) ∙ bounds-right n _ b))
+    let after = k .configuration-after .ensures .1 n L (known-below _ _ g) in
+    c .outcome-by .ensures ∙ ap (outcomeOf (a .c)) (ap (λ (v : Verdict). answerBy v (k .configuration-after .result .configuration)) (t .last-tests .ensures)
+    ∙ last-tests-are (l .is-allowed .ensures n L (known-below _ _ g) (known-few _ _ g)) (k .configuration-after .ensures .0 n L (known-below _ _ g))
+    (b .bounds-kept .ensures n (L .located) ∙ ap (boundsKept n) after) after
+    ∙ sym (past-urgency n (a .c) _ h (L .edges) g active kept (L .located .rendezvous)))
 
 pub step-along-spec : {M : Type 1} → statement M
 step-along-spec =
@@ -98,10 +80,8 @@ step-along-spec =
     refused-requires-2
     returns-2
     is-allowed-requires
-    refused-requires-3
-    returns-3
     configuration-after-requires
     bounds-kept-requires
-    refused-requires-4
-    returns-4
-    returns-5)
+    last-tests-requires
+    outcome-by-requires
+    returns-3)

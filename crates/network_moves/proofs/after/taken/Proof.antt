@@ -23,7 +23,7 @@ reset-requires c κs = search needs
 returns : tie.Need-returns
 returns c =
     let f = c .before in
-    let w = f .before .before .before .before in
+    let w = f .before .before .before .before .before in
     let o = w .before in
     let a = o .before .before .before .before .before .before .before .args in (
       λ d K. ap (λ (b : Bool). a .before .within && b) (w .assigned-by .ensures .0 d K),
