@@ -23,7 +23,7 @@ pub fn start(chart: &Chart) -> ChartConfiguration {
     ChartConfiguration { active, values: Values::default() }
 }
 
-/// Moves a set of transitions, given by their numbers: refusals 17 to 21.
+/// Moves a set of transitions, given by their numbers: refusals 17, 18, 19, 20, 28, 21.
 pub fn step(
     chart: &Chart,
     configuration: &ChartConfiguration,
@@ -56,7 +56,8 @@ pub fn step(
                 }
             }
         }
-        transition.label.apply(&configuration.values, &mut new.values);
+        let label = &transition.label;
+        label.apply(&configuration.values, &mut new.values).ok_or(Refusal::RangeLeft)?;
     }
     keeping_bounds(chart, new)
 }

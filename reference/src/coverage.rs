@@ -361,7 +361,10 @@ fn add_advances_made(label: &Label, values: &Values, found: &mut Features) {
             ("the least remainder", old == i32::MIN),
             ("a remainder above the denominator", old > i32::from(advance.denominator)),
             ("a sum that passes the range", !in_range(advance.sum(&values.variables))),
-            ("steps that wrap", !in_range(advance.exact_steps(&values.variables))),
+            ("steps that reach an end of the range", {
+                let steps = advance.exact_steps(&values.variables);
+                in_range(steps) && !(in_range(steps - 1) && in_range(steps + 1))
+            }),
             ("negative steps", values.variables[advance.steps] < 0),
         ];
         let met = cases.into_iter().filter(|(_, holds)| *holds);

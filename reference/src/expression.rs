@@ -9,11 +9,11 @@ pub enum Expression {
     Constant(i32),
     /// Code 1.
     Variable(usize),
-    /// Code 2, wrapping.
+    /// Code 2.
     Sum(Box<Expression>, Box<Expression>),
-    /// Code 3, wrapping.
+    /// Code 3.
     Difference(Box<Expression>, Box<Expression>),
-    /// Code 4, wrapping.
+    /// Code 4.
     Product(Box<Expression>, Box<Expression>),
     /// Code 5: the quotient by a positive divisor, rounded down.
     Quotient(Box<Expression>, i32),
@@ -67,26 +67,27 @@ impl Expression {
         }
     }
 
-    /// The value where the variables have these values.
-    pub fn value(&self, variables: &[i32; VARIABLES]) -> i32 {
+    /// The value where the variables have these values, or none if the exact result of some
+    /// operation in it leaves signed 32 bits.
+    pub fn value(&self, variables: &[i32; VARIABLES]) -> Option<i32> {
+        let exact = |first: &Expression, second: &Expression, operation: fn(i64, i64) -> i64| {
+            let (first, second) = (first.value(variables)?, second.value(variables)?);
+            // Of two numbers of 32 bits every result has 64 bits.
+            i32::try_from(operation(i64::from(first), i64::from(second))).ok()
+        };
         match self {
-            Expression::Constant(value) => *value,
-            Expression::Variable(variable) => variables[*variable],
-            Expression::Sum(first, second) => {
-                first.value(variables).wrapping_add(second.value(variables))
-            }
-            Expression::Difference(first, second) => {
-                first.value(variables).wrapping_sub(second.value(variables))
-            }
-            Expression::Product(first, second) => {
-                first.value(variables).wrapping_mul(second.value(variables))
-            }
-            // With a positive divisor the Euclidean quotient is the one rounded down.
+            Expression::Constant(value) => Some(*value),
+            Expression::Variable(variable) => Some(variables[*variable]),
+            Expression::Sum(first, second) => exact(first, second, |one, other| one + other),
+            Expression::Difference(first, second) => exact(first, second, |one, other| one - other),
+            Expression::Product(first, second) => exact(first, second, |one, other| one * other),
+            // With a positive divisor the Euclidean quotient is the one rounded down. Neither it nor
+            // the remainder can leave the range.
             Expression::Quotient(argument, divisor) => {
-                argument.value(variables).div_euclid(*divisor)
+                Some(argument.value(variables)?.div_euclid(*divisor))
             }
             Expression::Remainder(argument, divisor) => {
-                argument.value(variables).rem_euclid(*divisor)
+                Some(argument.value(variables)?.rem_euclid(*divisor))
             }
         }
     }

@@ -94,10 +94,12 @@ impl Guard {
         }
     }
 
+    /// A data guard with a side that has no value does not hold, whatever its relation.
     pub fn holds(&self, values: &Values) -> bool {
         match self {
             Guard::Data { relation, left, right } => {
-                relation.holds(left.value(&values.variables), right.value(&values.variables))
+                let sides = left.value(&values.variables).zip(right.value(&values.variables));
+                sides.is_some_and(|(left, right)| relation.holds(left, right))
             }
             Guard::Clock { clock, relation, constant } => {
                 relation.holds(values.clocks[*clock], *constant)

@@ -129,15 +129,17 @@ impl Label {
         true
     }
 
-    /// Writes this label's resets and updates into `new`. All updates read `old`.
-    pub fn apply(&self, old: &Values, new: &mut Values) {
+    /// Writes this label's resets and updates into `new`, or gives none if an update leaves the range.
+    /// All updates read `old`.
+    pub fn apply(&self, old: &Values, new: &mut Values) -> Option<()> {
         for update in &self.updates {
-            update.apply(&old.variables, &mut new.variables);
+            update.apply(&old.variables, &mut new.variables)?;
         }
         for (clock, value) in new.clocks.iter_mut().enumerate() {
             if self.resets & (1 << clock) != 0 {
                 *value = 0;
             }
         }
+        Some(())
     }
 }

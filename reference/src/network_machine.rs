@@ -28,7 +28,7 @@ pub fn start(network: &Network) -> NetworkConfiguration {
     NetworkConfiguration { locations, flags: [0; AUTOMATA], values: Values::default() }
 }
 
-/// Moves a set of edges, given by their numbers: refusals 26, 18, 19, 27, 20, 21.
+/// Moves a set of edges, given by their numbers: refusals 26, 18, 19, 27, 20, 28, 21.
 pub fn step(
     network: &Network,
     configuration: &NetworkConfiguration,
@@ -56,7 +56,7 @@ pub fn step(
         let automaton = network.locations[edge.source].automaton;
         new.locations[automaton] = edge.target as u8;
         new.flags[automaton] = (new.flags[automaton] & !edge.exits_written) | edge.values_written;
-        edge.label.apply(&configuration.values, &mut new.values);
+        edge.label.apply(&configuration.values, &mut new.values).ok_or(Refusal::RangeLeft)?;
     }
     keeping_bounds(network, new)
 }

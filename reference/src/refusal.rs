@@ -56,11 +56,13 @@ pub enum Refusal {
     NetworkConfiguration = 26,
     /// An urgent location is occupied and must be left first.
     Urgency = 27,
+    /// An assignment or advance of the list has a result that leaves signed 32 bits.
+    RangeLeft = 28,
 }
 
 impl Refusal {
     /// Every refusal, in the order of the numbers.
-    pub const ALL: [Refusal; 26] = [
+    pub const ALL: [Refusal; 27] = [
         Refusal::ChartHeader,
         Refusal::ChartCount,
         Refusal::ChartLength,
@@ -87,6 +89,7 @@ impl Refusal {
         Refusal::NetworkField,
         Refusal::NetworkConfiguration,
         Refusal::Urgency,
+        Refusal::RangeLeft,
     ];
 
     /// The paper's number.

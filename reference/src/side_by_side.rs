@@ -86,9 +86,9 @@ pub struct Tally {
     pub broadcasts_with_several_receivers: u64,
     pub waits: u64,
     /// Refused chart calls by number.
-    pub chart_refusals: [u64; 28],
+    pub chart_refusals: [u64; 29],
     /// Refused network calls by number.
-    pub network_refusals: [u64; 28],
+    pub network_refusals: [u64; 29],
     /// The most urgent moves owed at one time.
     pub most_owed: usize,
     /// Pairs of variables, of the chart and of the network, that one advance alone writes, where

@@ -1,9 +1,10 @@
 //! What a weaver relies on of fractional take-up: from the start, while nothing else writes the pair
-//! of an advance by p/q, n of them leave the whole part of np/q in the steps as long as that is
-//! below 2,147,483,648, and np mod q in the remainder.
+//! of an advance by p/q, n of them leave the whole part of np/q in the steps and np mod q in the
+//! remainder. While that whole part is below 2,147,483,648 the advance is not refused for its own
+//! sake; the first that would pass it is.
 
 use crate::label::Label;
-use crate::limits::{LARGEST, VARIABLES};
+use crate::limits::VARIABLES;
 use crate::update::{Advance, Update};
 
 /// The advances that alone write their two variables: every update in these labels that writes one
@@ -53,10 +54,8 @@ impl TakeUps {
         self.made.iter().all(|(advance, times)| {
             let parts = times * u64::from(advance.numerator);
             let denominator = u64::from(advance.denominator);
-            let whole = parts / denominator;
-            let steps_hold =
-                whole > u64::from(LARGEST) || i64::from(variables[advance.steps]) == whole as i64;
-            steps_hold && i64::from(variables[advance.remainder]) == (parts % denominator) as i64
+            i64::from(variables[advance.steps]) == (parts / denominator) as i64
+                && i64::from(variables[advance.remainder]) == (parts % denominator) as i64
         })
     }
 

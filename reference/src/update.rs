@@ -48,17 +48,20 @@ impl Advance {
         i64::from(old[self.remainder]) + i64::from(self.numerator)
     }
 
-    /// The steps after the advance before they are wrapped. With a positive denominator the
+    /// The steps after the advance, which may leave the range. With a positive denominator the
     /// Euclidean quotient is the one rounded down.
     pub fn exact_steps(&self, old: &[i32; VARIABLES]) -> i64 {
         i64::from(old[self.steps]) + self.sum(old).div_euclid(i64::from(self.denominator))
     }
 
-    /// Writes both variables. The old pair is read.
-    fn apply(&self, old: &[i32; VARIABLES], new: &mut [i32; VARIABLES]) {
-        // The conversion keeps the lowest 32 bits: the steps wrap as a sum does.
-        new[self.steps] = self.exact_steps(old) as i32;
-        new[self.remainder] = self.sum(old).rem_euclid(i64::from(self.denominator)) as i32;
+    /// Writes both variables, or gives none if a value to be stored leaves the range. The old pair is
+    /// read.
+    fn apply(&self, old: &[i32; VARIABLES], new: &mut [i32; VARIABLES]) -> Option<()> {
+        new[self.steps] = i32::try_from(self.exact_steps(old)).ok()?;
+        let rest = self.sum(old).rem_euclid(i64::from(self.denominator));
+        // It is less than the denominator, so it is in the range.
+        new[self.remainder] = i32::try_from(rest).ok()?;
+        Some(())
     }
 }
 
@@ -104,11 +107,14 @@ impl Update {
         std::iter::once(first).chain(second)
     }
 
-    /// Writes the new values of its variables into `new`. Only `old` is read.
-    pub fn apply(&self, old: &[i32; VARIABLES], new: &mut [i32; VARIABLES]) {
+    /// Writes the new values of its variables into `new`, or gives none if a result leaves the range:
+    /// of an assignment that of any operation, of an advance only the two stored values. Only `old` is
+    /// read.
+    pub fn apply(&self, old: &[i32; VARIABLES], new: &mut [i32; VARIABLES]) -> Option<()> {
         match self {
             Update::Assignment(assignment) => {
-                new[assignment.variable] = assignment.expression.value(old);
+                new[assignment.variable] = assignment.expression.value(old)?;
+                Some(())
             }
             Update::Advance(advance) => advance.apply(old, new),
         }

@@ -359,7 +359,17 @@ fn add_guard_candidates(guard: Guard, charts: &mut Vec<Candidate>, networks: &mu
 /// at the ends of theirs.
 fn add_advance_candidates(all: &mut Candidates) {
     let ratios = [(0, 1), (0, 7), (1, 1), (7, 3), (1, 65_535), (65_535, 1), (65_535, 65_535)];
-    let pairs = [(0, 0), (5, -1), (-9, 2), (2, 70_000), (i32::MAX, i32::MAX), (i32::MIN, i32::MIN)];
+    let pairs = [
+        (0, 0),
+        (5, -1),
+        (-9, 2),
+        (2, 70_000),
+        (0, i32::MAX),
+        (0, i32::MIN),
+        (i32::MAX, 0),
+        (i32::MAX, i32::MAX),
+        (i32::MIN, i32::MIN),
+    ];
     for (numerator, denominator) in ratios {
         let advance = Advance { numerator, denominator, ..faulty::ADVANCE };
         let before = Update::assignment(2, Expression::Variable(advance.steps));

@@ -289,7 +289,9 @@ fn damaged_configurations_and_lists() {
             let answer = request.answer();
             let number = count(&mut chart_numbers, &answer);
             match request {
-                Request::ChartStep(..) => assert!([0, 17, 18, 19, 20, 21].contains(&number)),
+                Request::ChartStep(..) => {
+                    assert!([0, 17, 18, 19, 20, 21, 28].contains(&number));
+                }
                 Request::ChartWait(..) => assert!([0, 17, 21, 22].contains(&number)),
                 _ => assert_eq!(number, 0),
             }
@@ -304,7 +306,7 @@ fn damaged_configurations_and_lists() {
             let number = count(&mut network_numbers, &answer);
             match request {
                 Request::NetworkStep(..) => {
-                    assert!([0, 18, 19, 20, 21, 26, 27].contains(&number));
+                    assert!([0, 18, 19, 20, 21, 26, 27, 28].contains(&number));
                 }
                 Request::NetworkWait(..) => assert!([0, 21, 22, 26, 27].contains(&number)),
                 _ => assert_eq!(number, 0),
@@ -316,8 +318,8 @@ fn damaged_configurations_and_lists() {
     }
     println!("chart requests: {chart_numbers:?}");
     println!("network requests: {network_numbers:?}");
-    assert_eq!(chart_numbers.len(), 7);
-    assert_eq!(network_numbers.len(), 8);
+    assert_eq!(chart_numbers.len(), 8);
+    assert_eq!(network_numbers.len(), 9);
 }
 
 #[test]

@@ -294,7 +294,8 @@ fn a_network_bears_the_version_of_its_chart() {
     }
 }
 
-/// An advance reads the old pair, and what stands beside it reads the old values too.
+/// An advance reads the old pair, and what stands beside it reads the old values too. The sum of
+/// remainder and numerator may pass the range, the steps may not: 28.
 #[test]
 fn all_updates_of_a_step_read_the_old_values() {
     let beside = [
@@ -303,12 +304,16 @@ fn all_updates_of_a_step_read_the_old_values() {
     ];
     // Steps and remainder before and after an advance by 7/3.
     let cases = [
-        ((0, 0), (2, 1)),
-        ((10, 2), (13, 0)),
-        ((10, -8), (9, 2)),
-        ((i32::MAX, 2), (i32::MIN + 2, 0)),
-        ((0, i32::MIN), (-715_827_881, 2)),
-        ((0, i32::MAX), (715_827_884, 2)),
+        ((0, 0), Some((2, 1))),
+        ((10, 2), Some((13, 0))),
+        ((10, -8), Some((9, 2))),
+        ((i32::MAX - 3, 2), Some((i32::MAX, 0))),
+        ((i32::MAX - 2, 2), None),
+        ((i32::MAX, -7), Some((i32::MAX, 0))),
+        ((i32::MIN, -7), Some((i32::MIN, 0))),
+        ((i32::MIN, -8), None),
+        ((0, i32::MIN), Some((-715_827_881, 2))),
+        ((0, i32::MAX), Some((715_827_884, 2))),
     ];
     for updates in beside {
         let chart = one_pick(updates);
@@ -316,12 +321,14 @@ fn all_updates_of_a_step_read_the_old_values() {
         for (old, new) in cases {
             let mut given = chart_machine::start(&chart);
             given.values.variables[..2].copy_from_slice(&[old.0, old.1]);
-            let after = chart_machine::step(&chart, &given, &[0]).unwrap();
-            assert_eq!(after.values.variables[..3], [new.0, new.1, old.0]);
+            let after = chart_machine::step(&chart, &given, &[0]).map(|new| new.values);
             let start = network_machine::start(&network);
-            let given = NetworkConfiguration { values: given.values, ..start };
-            let stepped = network_machine::step(&network, &given, &[0]).unwrap();
-            assert_eq!(stepped.values, after.values);
+            let on_network = NetworkConfiguration { values: given.values, ..start };
+            let stepped = network_machine::step(&network, &on_network, &[0]);
+            assert_eq!(stepped.map(|new| new.values), after);
+            let written = after.map(|values| [0, 1, 2].map(|number| values.variables[number]));
+            let expected = new.map(|(steps, remainder)| [steps, remainder, old.0]);
+            assert_eq!(written, expected.ok_or(Refusal::RangeLeft), "{old:?}");
         }
     }
 }

@@ -1,4 +1,4 @@
-//! The samples S1 to S10 of the paper, and the sizes that it names.
+//! The samples S1 to S10 of the paper but for S9, which was withdrawn, and the sizes that it names.
 
 use reference::chart::{Chart, Kind};
 use reference::chart_machine;
@@ -103,14 +103,40 @@ fn s6() {
 }
 
 #[test]
-fn s7_and_s9() {
+fn s7() {
     let value = |expression: Expression| expression.value(&[0; VARIABLES]);
     let constant = |value: i32| Box::new(Expression::Constant(value));
-    assert_eq!(value(Expression::Quotient(constant(-7), 2)), -4);
-    assert_eq!(value(Expression::Remainder(constant(-7), 2)), 1);
-    assert_eq!(value(Expression::Sum(constant(i32::MAX), constant(1))), i32::MIN);
-    assert_eq!(value(Expression::Quotient(constant(i32::MIN), 1)), i32::MIN);
-    assert_eq!(value(Expression::Product(constant(i32::MIN), constant(-1))), i32::MIN);
+    assert_eq!(value(Expression::Quotient(constant(-7), 2)), Some(-4));
+    assert_eq!(value(Expression::Remainder(constant(-7), 2)), Some(1));
+    assert_eq!(value(Expression::Quotient(constant(i32::MIN), 1)), Some(i32::MIN));
+}
+
+/// S9 had a sum that wraps. It was withdrawn: such a sum has no value, and an assignment of it is 28.
+#[test]
+fn in_the_place_of_s9() {
+    let constant = |value: i32| Box::new(Expression::Constant(value));
+    let sum = Expression::Sum(constant(i32::MAX), constant(1));
+    assert_eq!(sum.value(&[0; VARIABLES]), None);
+    let product = Expression::Product(constant(i32::MIN), constant(-1));
+    assert_eq!(product.value(&[0; VARIABLES]), None);
+    let declared = Declared { variables: 1, ..Declared::default() };
+    let assigned = |expression: Expression| {
+        let updates = vec![Update::assignment(0, expression)];
+        let chart = one_loop(declared, Label { updates, ..Label::of_signal(Signal::None) });
+        let after = chart_machine::step(&chart, &chart_machine::start(&chart), &[0]);
+        let network = network_of(&chart).unwrap();
+        let start = network_machine::start(&network);
+        let on_network = network_machine::step(&network, &start, &[0]).map(|new| new.values);
+        assert_eq!(on_network, after.map(|new| new.values));
+        after.map(|new| new.values.variables[0])
+    };
+    assert_eq!(assigned(sum.clone()), Err(Refusal::RangeLeft));
+    assert_eq!(assigned(*constant(i32::MAX)), Ok(i32::MAX));
+    // Any operation counts, not only the value that would be stored.
+    let less = Expression::Difference(Box::new(sum.clone()), constant(1));
+    let times_0 = Expression::Product(Box::new(sum), constant(0));
+    assert_eq!(assigned(less), Err(Refusal::RangeLeft));
+    assert_eq!(assigned(times_0), Err(Refusal::RangeLeft));
 }
 
 #[test]

@@ -16,6 +16,7 @@ use reference::longest_reason::Reason;
 use reference::longest_tally::LongestTally;
 use reference::network_machine;
 use reference::random::Random;
+use reference::refusal::Refusal;
 use reference::sensors::{has_sensors, plain_states, with_marked_choices};
 use reference::side_by_side::{run_both_lists, Failure, Machines, Tally};
 use reference::special;
@@ -205,7 +206,7 @@ fn a_second_writer_is_noticed() {
 }
 
 /// From zero, n advances by p/q leave the whole part of np/q as long as it is below 2^31. The first
-/// that passes it wraps.
+/// that would pass it is refused by both machines.
 #[test]
 fn take_up_holds_up_to_the_limit_of_the_steps() {
     for (numerator, denominator) in [(65_535, 1), (65_534, 1), (65_535, 2), (62_501, 3)] {
@@ -214,20 +215,22 @@ fn take_up_holds_up_to_the_limit_of_the_steps() {
         let network = network_of(&chart).unwrap();
         let mut on_chart = chart_machine::start(&chart);
         let mut on_network = network_machine::start(&network);
-        let (mut picks, mut wrapped) = (0u64, false);
-        while !wrapped {
-            on_chart = chart_machine::step(&chart, &on_chart, &[0]).unwrap();
-            on_network = network_machine::step(&network, &on_network, &[0]).unwrap();
-            picks += 1;
+        for picks in 1u64.. {
             let parts = picks * u64::from(numerator);
             let whole = parts / u64::from(denominator);
-            wrapped = whole >= 1 << 31;
-            let steps = if wrapped { whole as i64 - (1 << 32) } else { whole as i64 };
+            let after_chart = chart_machine::step(&chart, &on_chart, &[0]);
+            let after_network = network_machine::step(&network, &on_network, &[0]);
+            if whole >= 1 << 31 {
+                assert_eq!(after_chart, Err(Refusal::RangeLeft));
+                assert_eq!(after_network, Err(Refusal::RangeLeft));
+                assert!(picks > 32_000, "{picks}");
+                break;
+            }
+            (on_chart, on_network) = (after_chart.unwrap(), after_network.unwrap());
             let rest = (parts % u64::from(denominator)) as i32;
-            assert_eq!(on_chart.values.variables[..3], [rest, 0, steps as i32], "{picks}");
+            assert_eq!(on_chart.values.variables[..3], [rest, 0, whole as i32], "{picks}");
             assert_eq!(on_network.values, on_chart.values);
         }
-        assert!(picks > 32_000, "{picks}");
     }
 }
 

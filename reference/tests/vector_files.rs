@@ -99,7 +99,7 @@ const ADVANCES_MADE: [&str; 6] = [
     "advance with the least remainder",
     "advance with a remainder above the denominator",
     "advance with a sum that passes the range",
-    "advance with steps that wrap",
+    "advance with steps that reach an end of the range",
     "advance with negative steps",
 ];
 
@@ -208,7 +208,7 @@ fn the_chart_requests_cover_everything() {
     assert_covered(counts, parts("chart step", &ADVANCES_MADE));
     assert_covered(counts, faults("check", |one| one.chart_refusal));
     assert_covered(counts, faults("chart start", |one| one.chart_refusal));
-    assert_covered(counts, refusals("chart step", 17..=21));
+    assert_covered(counts, refusals("chart step", (17..=21).chain([28])));
     assert_covered(counts, guards_both_ways("chart step"));
     assert_covered(counts, parts("chart step", &LABEL_PARTS));
     assert_covered(counts, parts("chart step", &SETS));
@@ -274,7 +274,7 @@ fn the_network_requests_cover_everything() {
     assert_covered(counts, parts("network step", &ADVANCES));
     assert_covered(counts, parts("network step", &ADVANCES_MADE));
     assert_covered(counts, faults("network start", |one| one.network_refusal));
-    assert_covered(counts, refusals("network step", [18, 19, 20, 21, 26, 27]));
+    assert_covered(counts, refusals("network step", [18, 19, 20, 21, 26, 27, 28]));
     assert_covered(counts, refusals("network wait", [21, 22, 26, 27]));
     assert_covered(counts, refusals("network longest wait", [26]));
     assert_covered(counts, longest_waits("network longest wait", &Reason::ALL));
