@@ -4,6 +4,7 @@ use std::rc::Rc;
 
 use crate::chart::{Chart, Kind, State, Transition, MAIN_ENTRY};
 use crate::expression::Expression;
+use crate::generate_range::{end_expression, most_levels};
 use crate::generate_sensors::add_sensors;
 use crate::generate_updates::Writable;
 use crate::guard::{Guard, Relation};
@@ -57,6 +58,9 @@ pub struct Wish {
     pub advances: usize,
     /// Where there are advances: most pairs of variables that one advance alone writes.
     pub take_ups: usize,
+    /// That an expression, or one in it, has numbers at the ends of the range. If 0, the others are
+    /// drawn as they were before there was this.
+    pub ends: usize,
     /// That a transition leads back to its source.
     pub self_loops: usize,
     /// That an end of a transition is composite where it can be.
@@ -90,12 +94,14 @@ impl Wish {
         assignments: 40,
         advances: 60,
         take_ups: 1,
+        ends: 0,
         self_loops: 15,
         composite_ends: 50,
     };
 
     /// The wish that belongs to a seed: seeds run through all kinds of charts in turn, first in one
-    /// version, then in the next, and then through all that again with sensors.
+    /// version, then in the next, then through all that again with sensors, and then through all that
+    /// again with numbers at the ends of the range.
     pub fn from_seed(seed: u64) -> Wish {
         let mut random = Random::new(seed ^ 0x5741_4E54);
         let ordinary = Wish::ORDINARY;
@@ -209,10 +215,22 @@ impl Wish {
         let version = Version::ALL[(seed / 8) as usize % Version::ALL.len()];
         let wish = Wish { transitions: wish.transitions.min(TRANSITIONS), version, ..wish };
         let wish = wish.with_more_updates(&mut random);
-        if (seed / 16) % 2 == 1 {
-            wish.with_sensors(&mut random)
+        let wish = if (seed / 16) % 2 == 1 { wish.with_sensors(&mut random) } else { wish };
+        if (seed / 32) % 2 == 1 {
+            wish.with_ends()
         } else {
             wish
+        }
+    }
+
+    /// With numbers at the ends of the range, and with guards and updates in which they are.
+    fn with_ends(self) -> Wish {
+        Wish {
+            variables: self.variables.max(2),
+            guards: self.guards.max(40),
+            assignments: self.assignments.max(70),
+            ends: 35,
+            ..self
         }
     }
 
@@ -560,11 +578,11 @@ fn one_label(wish: &Wish, writable: &Writable, random: &mut Random, signal: Sign
 fn one_guard(wish: &Wish, random: &mut Random) -> Option<Guard> {
     let relation = random.pick(&Relation::ALL);
     match random.below(3) {
-        0 if wish.variables > 0 => Some(Guard::Data {
-            relation,
-            left: one_expression(wish, random, 3),
-            right: one_expression(wish, random, 2),
-        }),
+        0 if wish.variables > 0 => {
+            let levels = [3, 2].map(|ordinary| most_levels(wish, random, ordinary));
+            let [left, right] = levels.map(|levels| one_expression(wish, random, levels));
+            Some(Guard::Data { relation, left, right })
+        }
         1 if wish.clocks > 0 => Some(Guard::Clock {
             clock: random.below(wish.clocks),
             relation,
@@ -582,6 +600,9 @@ fn one_guard(wish: &Wish, random: &mut Random) -> Option<Guard> {
 
 /// An expression of at most this many levels.
 pub fn one_expression(wish: &Wish, random: &mut Random, levels: usize) -> Expression {
+    if wish.ends > 0 && random.chance(wish.ends) {
+        return end_expression(wish, random, levels);
+    }
     if levels <= 1 || random.chance(25) {
         return if wish.variables > 0 && random.chance(60) {
             Expression::Variable(random.below(wish.variables))

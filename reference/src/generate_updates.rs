@@ -2,6 +2,7 @@
 
 use crate::expression::Expression;
 use crate::generate::{one_expression, Wish};
+use crate::generate_range::{end_number, most_levels};
 use crate::limits::LEVELS;
 use crate::random::Random;
 use crate::update::{Advance, Update};
@@ -49,7 +50,7 @@ impl Writable {
                 let Advance { steps, remainder, .. } = random.pick(&advances);
                 Expression::Variable(random.pick(&[steps, remainder]))
             } else {
-                one_expression(wish, random, 4)
+                assigned_expression(wish, random, 4)
             };
             let place = random.below(list.len() + 1);
             list.insert(place, Update::assignment(variable, expression));
@@ -71,12 +72,22 @@ impl Writable {
             ];
         }
         let levels = if random.chance(10) { LEVELS } else { 4 };
-        let mut list = vec![Update::assignment(first, one_expression(wish, random, levels))];
+        let mut list = vec![Update::assignment(first, assigned_expression(wish, random, levels))];
         if first != second {
-            list.push(Update::assignment(second, one_expression(wish, random, 3)));
+            list.push(Update::assignment(second, assigned_expression(wish, random, 3)));
         }
         list
     }
+}
+
+/// Where numbers at the ends of the range are wanted, some are assigned as they are, so that
+/// variables have them.
+fn assigned_expression(wish: &Wish, random: &mut Random, ordinary: usize) -> Expression {
+    if wish.ends > 0 && random.chance(40) {
+        return Expression::Constant(end_number(random));
+    }
+    let levels = most_levels(wish, random, ordinary);
+    one_expression(wish, random, levels)
 }
 
 /// An advance on two of the variables, which are taken from the list.

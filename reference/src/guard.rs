@@ -7,7 +7,7 @@ use crate::reader::{in_range, Fault, Reader};
 use crate::values::Values;
 
 /// Relations 0 to 5.
-#[derive(Clone, Copy, PartialEq, Eq, Debug)]
+#[derive(Clone, Copy, PartialEq, Eq, PartialOrd, Ord, Debug)]
 pub enum Relation {
     Less,
     AtMost,

@@ -9,6 +9,7 @@ use crate::chart::Chart;
 use crate::chart_machine::{self, ChartConfiguration};
 use crate::damage::{damage_list, random_ticks};
 use crate::flatten::network_of;
+use crate::label::Label;
 use crate::layout::Layout;
 use crate::longest::{is_longest_of_chart, is_longest_of_network, LongestWaits};
 use crate::longest_tally::LongestTally;
@@ -17,9 +18,11 @@ use crate::network::Network;
 use crate::network_machine::{self, NetworkConfiguration};
 use crate::picture::picture;
 use crate::random::Random;
+use crate::range_tally::{any_leaves, RangeFacts, RangeTally};
 use crate::refusal::Refusal;
 use crate::sensor_tally::{SensorFacts, SensorTally};
 use crate::sensors::tests_nothing;
+use crate::steps::{got_to_updates, number, Steps};
 use crate::take_up::{sole_advances, TakeUps};
 use crate::update::Advance;
 
@@ -35,8 +38,11 @@ pub struct Machines {
     pub chart_advances: Vec<Advance>,
     pub network_advances: Vec<Advance>,
     pub sensors: SensorFacts,
+    pub range: RangeFacts,
     /// What the tests ask for the longest wait.
     pub longest: LongestWaits,
+    /// What the tests and runs call for a step.
+    pub steps: Steps,
 }
 
 impl Machines {
@@ -50,7 +56,9 @@ impl Machines {
             chart_advances: sole_advances(chart_labels),
             network_advances: sole_advances(network_labels),
             sensors: SensorFacts::of(&chart, &network),
+            range: RangeFacts::of(&chart),
             longest: LongestWaits::RIGHT,
+            steps: Steps::RIGHT,
             chart,
             network,
         })
@@ -62,6 +70,17 @@ impl Machines {
             .filter_map(|&edge| self.network.edges[usize::from(edge)].transition)
             .map(|number| number as u16)
             .collect()
+    }
+
+    /// The labels of the transitions and of the edges of a list, those that are known.
+    fn chart_labels(&self, list: &[u16]) -> Vec<&Label> {
+        let known = list.iter().filter_map(|&one| self.chart.transitions.get(usize::from(one)));
+        known.map(|transition| &*transition.label).collect()
+    }
+
+    fn network_labels(&self, list: &[u16]) -> Vec<&Label> {
+        let known = list.iter().filter_map(|&one| self.network.edges.get(usize::from(one)));
+        known.map(|edge| &*edge.label).collect()
     }
 }
 
@@ -98,6 +117,7 @@ pub struct Tally {
     pub most_advances: u64,
     pub sensors: SensorTally,
     pub longest: LongestTally,
+    pub range: RangeTally,
 }
 
 impl Tally {
@@ -118,6 +138,7 @@ impl Tally {
         self.most_advances = self.most_advances.max(other.most_advances);
         self.sensors.add(&other.sensors);
         self.longest.add(&other.longest);
+        self.range.add(&other.range);
     }
 }
 
@@ -218,7 +239,7 @@ impl<'a> Moment<'a> {
             machines,
             chart: chart_machine::start(&machines.chart),
             network,
-            active_edges: active_edges(&machines.network, &network),
+            active_edges: active_edges(machines, &network),
             owed: 0,
             chart_list: Vec::new(),
             chart_take_ups: TakeUps::none_made(&machines.chart_advances),
@@ -258,6 +279,9 @@ impl<'a> Moment<'a> {
                 self.tally.network_refusals[usize::from(refusal.number())] += 1;
                 self.count_refused_wait(call, refusal);
                 self.tally.longest.one_more_refused += u64::from(self.is_longest_with(call, 1));
+                if let Call::Step(list) = call {
+                    self.test_refused_step(list, refusal)?;
+                }
                 return Ok(Some(refusal));
             }
         };
@@ -277,7 +301,7 @@ impl<'a> Moment<'a> {
             }
         }
         self.network = new;
-        self.active_edges = active_edges(&self.machines.network, &new);
+        self.active_edges = active_edges(self.machines, &new);
         Ok(None)
     }
 
@@ -322,6 +346,15 @@ impl<'a> Moment<'a> {
         self.tally.sensors.exits_shut += of_others;
     }
 
+    /// Counts the guards that do not hold because of the range.
+    fn count_guards(&mut self) {
+        for transition in &self.machines.chart.transitions {
+            if self.chart.active[transition.source] {
+                self.tally.range.count_guards(&transition.label, &self.chart.values);
+            }
+        }
+    }
+
     fn count_refused_wait(&mut self, call: &Call, refusal: Refusal) {
         if let (Call::Wait(ticks), Refusal::BoundBroken) = (call, refusal) {
             let by_sensor = self.machines.sensors.refuse_wait(&self.chart, *ticks);
@@ -360,6 +393,11 @@ impl<'a> Moment<'a> {
             self.tally.chart_calls += 1;
             self.tally.chart_refusals[usize::from(refusal.number())] += 1;
             self.count_refused_wait(call, refusal);
+            if let (Call::Step(list), Refusal::NotAllowed) = (call, refusal) {
+                let labels = self.machines.chart_labels(list);
+                let leaves = any_leaves(labels, &self.chart.values);
+                self.tally.range.not_allowed_of_chart += u64::from(leaves);
+            }
             // No network move carries a list that the chart refuses; a wait is refused alike.
             return self.test_chart_call(call);
         }
@@ -369,8 +407,10 @@ impl<'a> Moment<'a> {
             }
             Call::Step(list) => {
                 let found = self.network_moves_carrying(list);
-                demand(found.len() == 1, "not exactly one network move carries an accepted list")?;
-                self.call_network(&Call::Step(found[0].clone()))?;
+                let [(edges, 0)] = &found[..] else {
+                    return Err("not exactly one network move carries an accepted list".to_string());
+                };
+                self.call_network(&Call::Step(edges.clone()))?;
                 self.test(random)?;
                 while self.owed > 0 {
                     let urgent = self.allowed_network_moves(random);
@@ -386,13 +426,12 @@ impl<'a> Moment<'a> {
 
     /// The demand is one claim about the whole list: from the start the chart list leads here.
     fn replay_chart_list(&self) -> Result<(), Failure> {
-        let mut configuration = chart_machine::start(&self.machines.chart);
+        let Machines { chart, steps, .. } = self.machines;
+        let mut configuration = chart_machine::start(chart);
         for call in &self.chart_list {
             let answer = match call {
-                Call::Step(list) => chart_machine::step(&self.machines.chart, &configuration, list),
-                Call::Wait(ticks) => {
-                    chart_machine::wait(&self.machines.chart, &configuration, *ticks)
-                }
+                Call::Step(list) => (steps.of_chart)(chart, &configuration, list),
+                Call::Wait(ticks) => chart_machine::wait(chart, &configuration, *ticks),
             };
             configuration = answer.map_err(|_| "the chart list is refused when run again")?;
         }
@@ -448,24 +487,26 @@ impl<'a> Moment<'a> {
         )?;
         self.test_take_ups()?;
         self.test_longest_waits()?;
-        let moves = self.allowed_network_moves(random);
+        let mut moves = self.network_candidates(random);
         if self.owed > 0 {
+            moves.retain(|list| self.network_step(list).is_ok());
             return self.test_while_owed(&moves, random);
         }
+        for list in &moves {
+            self.test_matched(list)?;
+        }
+        moves.retain(|list| self.network_step(list).is_ok());
         demand(
             self.network == picture(&self.machines.chart, &self.machines.layout, &self.chart),
             "with none owed, the network's configuration is not the picture of the chart's",
         )?;
         self.count_exits_shut();
+        self.count_guards();
         let mut lists = Vec::new();
         for list in &moves {
             let carried = self.carried(list);
             demand(!carried.is_empty(), "with none owed, a move without transitions is allowed")?;
             demand(!self.is_urgent(list), "with none owed, an urgent move is allowed")?;
-            demand(
-                self.chart_answer(&Call::Step(carried.clone())).is_ok(),
-                "the network allows a move whose list the chart refuses",
-            )?;
             lists.push(carried);
         }
         lists.sort();
@@ -498,20 +539,69 @@ impl<'a> Moment<'a> {
         Ok(())
     }
 
-    /// With none owed: a chart step is accepted exactly when one network move carrying the same
-    /// list is allowed, and never two; a wait gets the same answer with the same number.
-    fn test_chart_call(&self, call: &Call) -> Result<(), Failure> {
+    /// With none owed: where the network gets as far as the updates of a list, the chart gives the
+    /// same number to the list of transitions that it carries.
+    fn test_matched(&mut self, list: &[u16]) -> Result<(), Failure> {
+        let answer = self.network_step(list);
+        if !got_to_updates(&answer) {
+            return Ok(());
+        }
+        let carried = self.carried(list);
+        let (of_network, of_chart) = (number(&answer), number(&self.chart_step(&carried)));
+        demand(
+            of_network == of_chart,
+            &format!(
+                "the network gives {list:?} the number {of_network}, the chart {carried:?} {of_chart}"
+            ),
+        )?;
+        self.count_matched(&carried, of_chart);
+        Ok(())
+    }
+
+    fn count_matched(&mut self, carried: &[u16], number: u8) {
+        let Machines { range, .. } = self.machines;
+        let labels = self.machines.chart_labels(carried);
+        let values = &self.chart.values;
+        let tally = &mut self.tally.range;
+        tally.count_matched(number);
+        if number == Refusal::RangeLeft.number() {
+            tally.count_refused(&labels, values, range.breaks_bound(&self.chart, carried));
+        } else if number == 0 {
+            tally.count_accepted(&labels, values);
+        }
+    }
+
+    /// Tests a list that the network refuses, which need not fit one of the three cases.
+    fn test_refused_step(&mut self, list: &[u16], refusal: Refusal) -> Result<(), Failure> {
+        if refusal == Refusal::NotAllowed {
+            let leaves = any_leaves(self.machines.network_labels(list), &self.network.values);
+            self.tally.range.not_allowed_of_network += u64::from(leaves);
+        }
+        if self.owed > 0 {
+            return Ok(());
+        }
+        self.test_matched(list)
+    }
+
+    /// With none owed: a chart step gets as far as its updates exactly when one network move carrying
+    /// the same list does, and never two; it gets the same number then. A wait gets the same answer
+    /// with the same number.
+    fn test_chart_call(&mut self, call: &Call) -> Result<(), Failure> {
         let chart = self.chart_answer(call);
         match call {
             Call::Step(list) => {
-                let expected = usize::from(chart.is_ok());
-                let found = self.network_moves_carrying(list).len();
+                let of_chart = number(&chart);
+                let expected = if got_to_updates(&chart) { vec![of_chart] } else { Vec::new() };
+                let found = self.network_moves_carrying(list);
+                let found: Vec<u8> = found.into_iter().map(|(_, number)| number).collect();
                 demand(
                     found == expected,
-                    &format!(
-                        "{found} moves carry {list:?}, for which the chart expects {expected}"
-                    ),
-                )
+                    &format!("moves that carry {list:?} get {found:?}, the chart gives {of_chart}"),
+                )?;
+                if let [number] = found[..] {
+                    self.tally.range.count_matched_from_chart(number);
+                }
+                Ok(())
             }
             Call::Wait(ticks) => {
                 let network = self.network_wait(*ticks).map(|new| new.values);
@@ -524,16 +614,20 @@ impl<'a> Moment<'a> {
     // The machines.
 
     fn network_step(&self, list: &[u16]) -> Result<NetworkConfiguration, Refusal> {
-        network_machine::step(&self.machines.network, &self.network, list)
+        (self.machines.steps.of_network)(&self.machines.network, &self.network, list)
     }
 
     fn network_wait(&self, ticks: u32) -> Result<NetworkConfiguration, Refusal> {
         network_machine::wait(&self.machines.network, &self.network, ticks)
     }
 
+    fn chart_step(&self, list: &[u16]) -> Result<ChartConfiguration, Refusal> {
+        (self.machines.steps.of_chart)(&self.machines.chart, &self.chart, list)
+    }
+
     fn chart_answer(&self, call: &Call) -> Result<ChartConfiguration, Refusal> {
         match call {
-            Call::Step(list) => chart_machine::step(&self.machines.chart, &self.chart, list),
+            Call::Step(list) => self.chart_step(list),
             Call::Wait(ticks) => chart_machine::wait(&self.machines.chart, &self.chart, *ticks),
         }
     }
@@ -555,9 +649,9 @@ impl<'a> Moment<'a> {
     }
 
     fn active_transitions(&self) -> Vec<(u16, Member)> {
-        let chart = &self.machines.chart;
+        let Machines { chart, steps, .. } = self.machines;
         (0..chart.transitions.len())
-            .filter(|&number| chart_machine::is_active(chart, &self.chart, number))
+            .filter(|&number| (steps.active_in_chart)(chart, &self.chart, number))
             .map(|number| (number as u16, chart_machine::member(chart, number)))
             .collect()
     }
@@ -581,8 +675,9 @@ impl<'a> Moment<'a> {
         candidates(&self.active_transitions(), rendezvous, MOST_BROADCAST_SETS, random)
     }
 
-    /// All allowed network moves made of one edge for each transition of the list.
-    fn network_moves_carrying(&self, list: &[u16]) -> Vec<Vec<u16>> {
+    /// All network moves made of one edge for each transition of the list that get as far as their
+    /// updates, with the number that they get.
+    fn network_moves_carrying(&self, list: &[u16]) -> Vec<(Vec<u16>, u8)> {
         let ascending = list.windows(2).all(|pair| pair[0] < pair[1]);
         if list.is_empty() || !ascending {
             return Vec::new();
@@ -604,8 +699,11 @@ impl<'a> Moment<'a> {
         for edges in &mut moves {
             edges.sort_unstable();
         }
-        moves.retain(|edges| self.network_step(edges).is_ok());
-        moves
+        let answered = |edges: Vec<u16>| {
+            let answer = self.network_step(&edges);
+            got_to_updates(&answer).then(|| (edges, number(&answer)))
+        };
+        moves.into_iter().filter_map(answered).collect()
     }
 
     // Random calls.
@@ -615,8 +713,13 @@ impl<'a> Moment<'a> {
             let longest = network_machine::longest_wait(&self.machines.network, &self.network);
             return random_wait(longest, random);
         }
-        let allowed = self.allowed_network_moves(random);
-        self.random_network_step(&allowed, random)
+        // Some that are refused with 28 or 21 are called too.
+        let fitting = if random.chance(10) {
+            self.network_candidates(random)
+        } else {
+            self.allowed_network_moves(random)
+        };
+        self.random_network_step(&fitting, random)
     }
 
     fn random_network_step(&self, fitting: &[Vec<u16>], random: &mut Random) -> Call {
@@ -635,12 +738,13 @@ impl<'a> Moment<'a> {
     }
 }
 
-fn active_edges(network: &Network, configuration: &NetworkConfiguration) -> Vec<(u16, Member)> {
+fn active_edges(machines: &Machines, configuration: &NetworkConfiguration) -> Vec<(u16, Member)> {
+    let Machines { network, steps, .. } = machines;
     network
         .edges
         .iter()
         .enumerate()
-        .filter(|(_, edge)| network_machine::is_active(network, configuration, edge))
+        .filter(|(_, edge)| (steps.active_in_network)(network, configuration, edge))
         .map(|(number, edge)| (number as u16, network_machine::member(network, edge)))
         .collect()
 }

@@ -233,6 +233,19 @@ pub fn rendezvous_with_swap(guard: Guard) -> Chart {
     Chart::new(Version::One, declared, 1, 0, states, transitions)
 }
 
+/// A parallel root with two sequential children. One sends on a broadcast channel, the other receives
+/// by a guarded transition.
+pub fn guarded_receiver(guard: Guard) -> Chart {
+    let mut chart = rendezvous_with_swap(guard);
+    let guarded = Rc::clone(&chart.transitions[0].label);
+    let sends = Label::of_signal(Signal::Send(0));
+    let receives = Label { guards: guarded.guards.clone(), ..Label::of_signal(Signal::Receive(0)) };
+    chart.transitions[0].label = Rc::new(sends);
+    chart.transitions[1].label = Rc::new(receives);
+    chart.declared = Declared { rendezvous: 0, broadcast: 1, ..chart.declared };
+    chart
+}
+
 /// A chart at every limit that fits together: 48 states, 16 of them sequential, a network of 1,024
 /// edges, and a file of nearly 65,536 bytes.
 pub fn largest() -> Chart {

@@ -9,6 +9,7 @@ use reference::check::check;
 use reference::damage::damage_chart;
 use reference::flatten::network_of;
 use reference::generate::chart_from_seed;
+use reference::guard::Relation;
 use reference::label::{Label, Signal};
 use reference::layout::{Layout, Place};
 use reference::limits::NONE;
@@ -16,6 +17,7 @@ use reference::longest_reason::Reason;
 use reference::longest_tally::LongestTally;
 use reference::network_machine;
 use reference::random::Random;
+use reference::range_tally::RangeTally;
 use reference::refusal::Refusal;
 use reference::sensors::{has_sensors, plain_states, with_marked_choices};
 use reference::side_by_side::{run_both_lists, Failure, Machines, Tally};
@@ -56,7 +58,7 @@ fn every_clause_holds_on_random_runs() {
     assert!(tally.take_ups > 1_000 && tally.most_advances >= 10);
     assert!(tally.moves > 10_000 && tally.urgent_moves > 5_000 && tally.waits > 5_000);
     assert!(tally.broadcasts_with_several_receivers > 1_000);
-    for number in [18, 19, 20, 21, 22] {
+    for number in [18, 19, 20, 21, 22, 28] {
         assert!(tally.chart_refusals[number] > 100, "chart refusal {number}");
         assert!(tally.network_refusals[number] > 100, "network refusal {number}");
     }
@@ -79,6 +81,33 @@ fn every_clause_holds_on_random_runs() {
     assert!(sensors.moves_to_plain > 1_500 && sensors.plain_exits_shut > 5_000);
     assert!(sensors.waits_refused > 500);
     assert_longest_waits_were_met(&tally.longest);
+    assert_results_that_leave_the_range_were_met(&tally.range);
+}
+
+/// Both machines gave the same number often, for every reason that 28 has, and guards failed by the
+/// range with every relation and every kind of transition.
+fn assert_results_that_leave_the_range_were_met(range: &RangeTally) {
+    for matched in [&range.matched, &range.matched_from_chart] {
+        assert!(matched.keys().eq(&[0, 21, 28]), "{range:#?}");
+        assert!(matched[&0] > 500_000 && matched[&21] > 2_000 && matched[&28] > 40_000);
+    }
+    assert!(range.by_assignment > 40_000 && range.by_advance > 1_500, "{range:#?}");
+    assert!(range.by_inner_result > 20_000 && range.bound_broken_too > 200, "{range:#?}");
+    assert!(range.sums_passed > 500 && range.not_allowed_of_chart > 100, "{range:#?}");
+    assert!(range.not_allowed_of_network > 50, "{range:#?}");
+    for places in [&range.in_assignments, &range.in_left_sides, &range.in_right_sides] {
+        // At the eighth level are constants and variables alone.
+        assert!(places.at_level.keys().copied().eq(1..=7), "{range:#?}");
+        assert!(places.at_level.values().all(|&count| count > 1_500), "{range:#?}");
+        let below = [places.below_0, places.below_quotient, places.below_remainder];
+        assert!(below.iter().all(|&count| count > 5_000), "{range:#?}");
+    }
+    for relation in Relation::ALL {
+        assert!(range.guards[&relation] > 5_000, "{range:#?}");
+        assert!(range.guards_met_if_wrapped[&relation] > 1_000, "{range:#?}");
+    }
+    assert!(range.guards_without_signal > 10_000, "{range:#?}");
+    assert!(range.guards_of_senders > 5_000 && range.guards_of_receivers > 5_000, "{range:#?}");
 }
 
 /// Everything that can decide a longest wait did so often, on either machine.

@@ -2,7 +2,8 @@
 //! prints how much was covered.
 //!
 //! `runs [--runs N] [--seed S]`: at least N runs (50,000 if it is left out), two of each chart of the
-//! seeds from S (0) on, of which half have sensors. The first clause that fails stops it with status 1.
+//! seeds from S (0) on, of which half have sensors and half have numbers at the ends of the range. The
+//! first clause that fails stops it with status 1.
 
 use std::env;
 use std::process::ExitCode;
@@ -39,6 +40,7 @@ fn main() -> ExitCode {
     println!("{moves} moves with transitions, {urgent_moves} urgent moves, {waits} waits");
     println!("{:#?}", tally.sensors);
     println!("{:#?}", tally.longest);
+    println!("{:#?}", tally.range);
     println!(
         "every clause holds on {} runs, of the seeds {first_seed} to {}",
         tally.runs,
