@@ -5,12 +5,14 @@ use crate::chart::{Chart, ROOT};
 use crate::chart_machine::{self, ChartConfiguration};
 use crate::check::check;
 use crate::coverage::{features, run_features, Counts, Features};
+use crate::coverage_range::range_features;
 use crate::damage::{advance_places, damage_chart, damage_file, Form};
 use crate::expression::Expression;
 use crate::faulty::{self, all_faulty, Faulty};
 use crate::flatten::network_of;
 use crate::generate::{chart_from_wish, Wish};
 use crate::generate_longest::{chart_longest_requests, network_longest_requests};
+use crate::generate_range::{chart_end_requests, network_end_requests};
 use crate::guard::{Guard, Relation};
 use crate::layout::Layout;
 use crate::limits::{ADVANCE_BYTES, LIST};
@@ -20,6 +22,7 @@ use crate::request::Request;
 use crate::run_request::RunRequest;
 use crate::side_by_side::{random_network_list, Call, Machines};
 use crate::special;
+use crate::special_range::{self, Example};
 use crate::special_sensors;
 use crate::update::{Advance, Update};
 use crate::values::Values;
@@ -94,6 +97,12 @@ impl Candidate {
         Candidate::answered(&AnyRequest::One(request), features)
     }
 
+    /// Chosen by what it exercises of results that leave the range.
+    fn of_range(request: Request) -> Candidate {
+        let features = range_features(&request);
+        Candidate::answered(&AnyRequest::One(request), features)
+    }
+
     fn of_run(file: Vec<u8>, calls: Vec<Call>) -> Candidate {
         let request = RunRequest { file, calls };
         let features = run_features(&request);
@@ -117,6 +126,7 @@ struct Candidates {
     flatten: Vec<Candidate>,
     network: Vec<Candidate>,
     runs: Vec<Candidate>,
+    range: Vec<Candidate>,
 }
 
 /// The vector file. It is the same at every call.
@@ -140,6 +150,7 @@ pub fn vector_file() -> VectorFile {
             choose("flatten", flattens, candidates.flatten),
             choose("network", starts, candidates.network),
             choose("side by side", Vec::new(), candidates.runs),
+            choose("range", Vec::new(), candidates.range),
         ],
     }
 }
@@ -157,6 +168,13 @@ fn all_candidates(random: &mut Random) -> Candidates {
     let mut run_random = Random::new(0x5349_4445);
     for one in &charts {
         add_run_candidates(one, &mut all.runs, &mut run_random);
+    }
+    let mut range_random = Random::new(0x454E_4453);
+    for one in &charts {
+        add_range_candidates(one, &mut all.range, &mut range_random);
+    }
+    for one in special_range::examples() {
+        add_example_candidates(&one, &mut all.range);
     }
     for guard in all_guards() {
         add_guard_candidates(guard, &mut all.chart, &mut all.network);
@@ -319,6 +337,35 @@ fn add_run_candidates(chart: &Chart, list: &mut Vec<Candidate>, random: &mut Ran
         list.push(Candidate::of_run(damage_chart(chart, random).write(), calls.clone()));
         list.push(Candidate::of_run(damage_file(Form::Chart, &file, random), calls.clone()));
     }
+}
+
+/// Steps of a chart and of its network with variables at the ends of the range.
+fn add_range_candidates(chart: &Chart, list: &mut Vec<Candidate>, random: &mut Random) {
+    let Ok(network) = check(&chart.write()).and_then(|chart| network_of(&chart)) else {
+        return;
+    };
+    let run = chart_requests(chart, 12, random);
+    let mut requests = chart_end_requests(chart, &run, random);
+    if network.write().len() <= MOST_NETWORK_BYTES {
+        let run = network_requests(&network, 12, random);
+        requests.extend(network_end_requests(&network, &run, random));
+    }
+    list.extend(requests.into_iter().map(Candidate::of_range));
+}
+
+/// A step made by hand, on both machines.
+fn add_example_candidates(example: &Example, list: &mut Vec<Candidate>) {
+    let Example { chart, values, list: numbers } = example;
+    let Ok(network) = network_of(chart) else {
+        return;
+    };
+    let values = *values;
+    let given = ChartConfiguration { values, ..chart_machine::start(chart) };
+    let request = Request::ChartStep(chart.write(), given, numbers.clone());
+    list.push(Candidate::of_range(request));
+    let given = NetworkConfiguration { values, ..network_machine::start(&network) };
+    let request = Request::NetworkStep(network.write(), given, numbers.clone());
+    list.push(Candidate::of_range(request));
 }
 
 /// Every kind of guard with every relation, each against 2.

@@ -88,6 +88,47 @@ fn a_chart_step() {
     assert_eq!(step(&late, &[0]), Err(Refusal::BoundBroken));
 }
 
+/// The same chart, in which every transition but the receiver adds 1 to a variable.
+fn adding_chart() -> Chart {
+    let mut chart = chart();
+    chart.declared.variables = 1;
+    let more =
+        Expression::Sum(Box::new(Expression::Variable(0)), Box::new(Expression::Constant(1)));
+    for transition in &mut chart.transitions {
+        let mut label = (*transition.label).clone();
+        if !matches!(label.signal, Signal::Receive(_)) {
+            label.updates.push(Update::assignment(0, more.clone()));
+        }
+        transition.label = Rc::new(label);
+    }
+    check(&chart.write()).expect("the chart passes")
+}
+
+/// 28 comes after 20 and before 21.
+#[test]
+fn a_chart_step_that_leaves_the_range() {
+    let chart = adding_chart();
+    let step = |variable: i32, clock: u32, list: &[u16]| {
+        let mut given = chart_machine::start(&chart);
+        given.values.variables[0] = variable;
+        given.values.clocks[0] = clock;
+        chart_machine::step(&chart, &given, list).map(|new| new.values.variables[0])
+    };
+    assert_eq!(step(i32::MAX - 1, 0, &[0]), Ok(i32::MAX));
+    assert_eq!(step(i32::MAX, 0, &[0]), Err(Refusal::RangeLeft));
+    // 18, 19 and 20 before 28.
+    assert_eq!(step(i32::MAX, 0, &[0, 9]), Err(Refusal::List));
+    assert_eq!(step(i32::MAX, 0, &[2]), Err(Refusal::Inactive));
+    assert_eq!(step(i32::MAX, 3, &[2]), Err(Refusal::RangeLeft));
+    assert_eq!(step(i32::MAX, 0, &[0, 1]), Err(Refusal::NotAllowed));
+    assert_eq!(step(i32::MAX, 0, &[3]), Err(Refusal::NotAllowed));
+    // 28 before 21: entering the composite state breaks its bound.
+    assert_eq!(step(i32::MAX, 6, &[0]), Err(Refusal::RangeLeft));
+    assert_eq!(step(0, 6, &[0]), Err(Refusal::BoundBroken));
+    // 17 first.
+    assert_eq!(step(i32::MAX, LARGEST + 1, &[0]), Err(Refusal::ChartConfiguration));
+}
+
 #[test]
 fn a_chart_wait() {
     let chart = chart();
@@ -139,6 +180,39 @@ fn a_network_step() {
     let mut late = start;
     late.values.clocks[0] = 6;
     assert_eq!(step(&late, &edges[..1]), Err(Refusal::BoundBroken));
+}
+
+/// 28 comes after 27 and 20 and before 21.
+#[test]
+fn a_network_step_that_leaves_the_range() {
+    let network = network_of(&adding_chart()).unwrap();
+    let edges: Vec<u16> = (0..5).map(|transition| edge(&network, transition)).collect();
+    let start = network_machine::start(&network);
+    let step = |given: &NetworkConfiguration, variable: i32, clock: u32, list: &[u16]| {
+        let mut given = *given;
+        given.values.variables[0] = variable;
+        given.values.clocks[0] = clock;
+        network_machine::step(&network, &given, list).map(|new| new.values.variables[0])
+    };
+    assert_eq!(step(&start, i32::MAX - 1, 0, &edges[..1]), Ok(i32::MAX));
+    assert_eq!(step(&start, i32::MAX, 0, &edges[..1]), Err(Refusal::RangeLeft));
+    // 18, 19 and 20 before 28.
+    assert_eq!(step(&start, i32::MAX, 0, &[edges[0], 1_000]), Err(Refusal::List));
+    assert_eq!(step(&start, i32::MAX, 0, &edges[2..3]), Err(Refusal::Inactive));
+    assert_eq!(step(&start, i32::MAX, 3, &edges[2..3]), Err(Refusal::RangeLeft));
+    let mut both = edges[..2].to_vec();
+    both.sort();
+    assert_eq!(step(&start, i32::MAX, 0, &both), Err(Refusal::NotAllowed));
+    assert_eq!(step(&start, i32::MAX, 0, &edges[3..4]), Err(Refusal::NotAllowed));
+    // 27 before 28.
+    let at_pre = network_machine::step(&network, &start, &edges[..1]).unwrap();
+    assert_eq!(step(&at_pre, i32::MAX, 0, &edges[1..2]), Err(Refusal::Urgency));
+    // 28 before 21: pre has the bound of what is entered.
+    assert_eq!(step(&start, i32::MAX, 6, &edges[..1]), Err(Refusal::RangeLeft));
+    assert_eq!(step(&start, 0, 6, &edges[..1]), Err(Refusal::BoundBroken));
+    // 26 first.
+    let refused = Err(Refusal::NetworkConfiguration);
+    assert_eq!(step(&start, i32::MAX, LARGEST + 1, &edges[..1]), refused);
 }
 
 #[test]

@@ -1,6 +1,7 @@
 //! Results that leave signed 32 bits: a data guard with one does not hold, and an update with one is
 //! refused with 28. Wrong readings of that are noticed by runs and by the vectors.
 
+use std::collections::BTreeSet;
 use std::rc::Rc;
 
 use reference::binary_form::{requests_from_bytes, AnyRequest};
@@ -23,6 +24,7 @@ use reference::refusal::Refusal;
 use reference::request::{Request, Success};
 use reference::side_by_side::{run_both_lists, Machines};
 use reference::special::{guarded_receiver, one_loop, rendezvous_with_swap};
+use reference::special_range::{at_the_ends, one_too_many, without_value};
 use reference::steps::Steps;
 use reference::text_form::request_from_text;
 use reference::update::{Assignment, Update};
@@ -33,51 +35,11 @@ fn constant(value: i32) -> Box<Expression> {
     Box::new(Expression::Constant(value))
 }
 
-/// 2,147,483,647 and 1 added, at this level: `around` is put around it so many times less one.
-fn at_level(level: usize, around: impl Fn(Box<Expression>) -> Expression) -> Expression {
-    let sum = Expression::Sum(constant(i32::MAX), constant(1));
-    (1..level).fold(sum, |inner, _| around(Box::new(inner)))
-}
-
-/// Such a sum at every level, below each operation, with values that would be in the range.
-fn without_value() -> Vec<Expression> {
-    let mut all = Vec::new();
-    for level in 1..=7 {
-        all.push(at_level(level, |inner| Expression::Difference(inner, constant(1))));
-        all.push(at_level(level, |inner| Expression::Sum(constant(-1), inner)));
-        all.push(at_level(level, |inner| Expression::Product(inner, constant(0))));
-        all.push(at_level(level, |inner| Expression::Product(constant(0), inner)));
-        all.push(at_level(level, |inner| Expression::Quotient(inner, 2)));
-        all.push(at_level(level, |inner| Expression::Remainder(inner, 2)));
-    }
-    all.push(Expression::Difference(constant(i32::MIN), constant(1)));
-    all.push(Expression::Difference(constant(0), constant(i32::MIN)));
-    all.push(Expression::Product(constant(46_341), constant(46_341)));
-    all.push(Expression::Product(constant(i32::MIN), constant(-1)));
-    all.push(Expression::Product(constant(65_536), constant(32_768)));
-    all.push(Expression::Product(constant(i32::MIN), constant(i32::MIN)));
-    all
-}
-
-/// Results at the ends of the range, with what they are.
-fn at_the_ends() -> Vec<(Expression, i32)> {
-    vec![
-        (Expression::Sum(constant(i32::MAX - 1), constant(1)), i32::MAX),
-        (Expression::Sum(constant(i32::MIN), constant(i32::MAX)), -1),
-        (Expression::Difference(constant(-1), constant(i32::MAX)), i32::MIN),
-        (Expression::Difference(constant(-1), constant(i32::MIN)), i32::MAX),
-        (Expression::Product(constant(46_340), constant(46_340)), 2_147_395_600),
-        (Expression::Product(constant(65_536), constant(-32_768)), i32::MIN),
-        (Expression::Product(constant(i32::MAX), constant(-1)), -i32::MAX),
-        (Expression::Quotient(constant(i32::MIN), 1), i32::MIN),
-        (Expression::Quotient(constant(i32::MIN), i32::MAX), -2),
-        (Expression::Remainder(constant(i32::MIN), i32::MAX), i32::MAX - 1),
-    ]
-}
-
 #[test]
 fn a_guard_without_a_value_does_not_hold_whatever_its_relation() {
     let values = Values::default();
+    let levels: BTreeSet<usize> = without_value().iter().map(Expression::levels).collect();
+    assert!(levels.into_iter().eq(2..=8));
     for expression in without_value() {
         assert!(expression.levels() <= 8 && expression.value(&values.variables).is_none());
         for relation in Relation::ALL {
@@ -128,7 +90,7 @@ fn an_assignment_without_a_value_is_28_in_both_versions() {
 fn senders_and_receivers_without_a_value_are_not_active() {
     let values = Values::default();
     for relation in Relation::ALL {
-        for left in [at_level(1, |one| *one), Expression::Sum(constant(1), constant(1))] {
+        for left in [one_too_many(), Expression::Sum(constant(1), constant(1))] {
             let inside = left.value(&values.variables);
             let guard = Guard::Data { relation, left, right: Expression::Constant(2) };
             let holds = inside.is_some_and(|value| relation.holds(value, 2));

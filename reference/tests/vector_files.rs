@@ -1,7 +1,7 @@
 //! The vector file for programs: what is in the repository is what is written, and it covers every
 //! refusal, every kind of guard, relation, signal and place, both versions with every kind of
-//! advance and every fault of one, sensors and plain parallel states at every place, and longest waits
-//! decided by everything that can decide one.
+//! advance and every fault of one, sensors and plain parallel states at every place, longest waits
+//! decided by everything that can decide one, and results that leave the range at every place.
 
 use std::fs;
 use std::path::Path;
@@ -315,7 +315,7 @@ fn the_runs_cover_everything() {
     let refused = |call, numbers: &[u8]| -> Vec<String> {
         numbers.iter().map(|number| format!("side by side: {call} refused {number}")).collect()
     };
-    assert_covered(counts, refused("step", &[18, 19, 20, 21, 27]));
+    assert_covered(counts, refused("step", &[18, 19, 20, 21, 27, 28]));
     assert_covered(counts, refused("step without a number", &[18]));
     assert_covered(counts, refused("step of too many numbers", &[18]));
     assert_covered(counts, refused("wait", &[21, 22, 27]));
@@ -337,5 +337,49 @@ fn the_runs_cover_everything() {
     for owed in ["0", "1", "2", "3 or more"] {
         assert_covered(counts, [format!("side by side: move, {owed} owed")]);
         assert_covered(counts, [format!("side by side: urgent move, {owed} still owed")]);
+    }
+}
+
+/// What a step has of results that leave the range.
+fn range_parts() -> Vec<String> {
+    let mut all: Vec<String> = [
+        "28 by an assignment",
+        "28 by an advance",
+        "28 by steps above the range",
+        "28 by steps below the range",
+        "28 by another update than the first",
+        "28 by an inner result, the value being inside",
+        "28 where a bound is broken too",
+        "20 where an update would leave the range",
+        "guard of a transition without signal without a value, which wrapped ones would meet",
+        "guard of a sender without a value, which wrapped ones would meet",
+        "guard of a receiver without a value, which wrapped ones would meet",
+        "accepted without a receiver whose guard has no value",
+        "accepted with a result at an end of the range",
+    ]
+    .map(String::from)
+    .to_vec();
+    for place in ["28", "guard, left side", "guard, right side"] {
+        all.extend((2..=4).map(|code| format!("{place} by code {code}")));
+        all.extend((1..=7).map(|level| format!("{place} at level {level}")));
+        let below = ["a product by 0", "a quotient", "a remainder"];
+        all.extend(below.map(|of| format!("{place} below {of}")));
+    }
+    for guard in guards().iter().filter(|guard| guard.starts_with("Data")) {
+        all.push(format!("guard {guard} without a value"));
+        all.push(format!("guard {guard} without a value, which wrapped ones would meet"));
+    }
+    for version in [1, 2] {
+        all.extend(["28", "20", "guard"].map(|kind| format!("{kind} in version {version}")));
+    }
+    all
+}
+
+#[test]
+fn the_requests_near_the_ends_of_the_range_cover_everything() {
+    let counts = &part("range").counts;
+    for operation in ["chart step", "network step"] {
+        let wanted = range_parts().into_iter().map(|part| format!("{operation}: {part}"));
+        assert_covered(counts, wanted);
     }
 }
