@@ -12,10 +12,12 @@ use crate::damage::{damage_chart, damage_file, Form};
 use crate::flatten::network_of;
 use crate::generate::chart_from_seed;
 use crate::generate_longest::{chart_longest_requests, network_longest_requests};
+use crate::generate_range::{chart_end_requests, network_end_requests};
 use crate::network::Network;
 use crate::network_machine;
 use crate::proved;
 use crate::random::Random;
+use crate::refusal::Refusal;
 use crate::request::Request;
 use crate::text_form::request_to_text;
 use crate::walk::{chart_requests, network_requests};
@@ -25,11 +27,18 @@ use crate::walk::{chart_requests, network_requests};
 pub struct Agreed {
     accepted: BTreeMap<&'static str, u64>,
     refused: BTreeMap<&'static str, u64>,
+    /// How many were refused, for each number.
+    numbers: BTreeMap<u8, u64>,
 }
 
 impl Agreed {
     pub fn total(&self) -> u64 {
         self.accepted.values().chain(self.refused.values()).sum()
+    }
+
+    /// How many answers with this number agreed.
+    pub fn refused_with(&self, refusal: Refusal) -> u64 {
+        self.numbers.get(&refusal.number()).copied().unwrap_or(0)
     }
 
     pub fn compare(&mut self, request: &Request) {
@@ -40,18 +49,22 @@ impl Agreed {
                 panic!("{given:?} to\n{}", request_to_text(request));
             }
         }
+        if let Err(refusal) = &answer {
+            *self.numbers.entry(refusal.number()).or_insert(0) += 1;
+        }
         let counts = if answer.is_ok() { &mut self.accepted } else { &mut self.refused };
         *counts.entry(operation_name(request)).or_insert(0) += 1;
     }
 
-    /// A chart, runs of it and of its network, longest waits along them, and damaged files: some 17
-    /// times `count` requests.
+    /// A chart, runs of it and of its network, longest waits and steps with variables at the ends of
+    /// the range along them, and damaged files: some 19 times `count` requests.
     pub fn compare_chart(&mut self, chart: &Chart, count: usize, random: &mut Random) {
         let file = chart.write();
         self.compare(&Request::Check(file.clone()));
         let run = chart_requests(chart, count, random);
         let longest = chart_longest_requests(chart, &run, random);
-        for request in run.iter().chain(&longest) {
+        let ends = chart_end_requests(chart, &run, random);
+        for request in run.iter().chain(&longest).chain(&ends) {
             self.compare(request);
         }
         self.compare_flattening(&file, random);
@@ -88,7 +101,8 @@ impl Agreed {
         let file = network.write();
         let run = network_requests(network, count, random);
         let longest = network_longest_requests(network, &run, random);
-        for request in run.iter().chain(&longest) {
+        let ends = network_end_requests(network, &run, random);
+        for request in run.iter().chain(&longest).chain(&ends) {
             self.compare(request);
         }
         for _ in 0..count {
@@ -112,6 +126,7 @@ impl fmt::Display for Agreed {
             let refused = self.refused.get(name).unwrap_or(&0);
             writeln!(formatter, "{name:<20}{accepted:>12}{refused:>12}")?;
         }
+        writeln!(formatter, "refused, by number: {:?}", self.numbers)?;
         write!(formatter, "{} calls agreed", self.total())
     }
 }

@@ -39,9 +39,12 @@ const ENDS: [i32; 18] = [
     -32_768,
 ];
 
-/// Two of three are one of the first four.
+/// The numbers among them for products.
+const FACTORS: &[i32] = ENDS.split_at(8).1;
+
+/// More than half are one of the first four.
 pub fn end_number(random: &mut Random) -> i32 {
-    if random.chance(66) {
+    if random.chance(50) {
         random.pick(&ENDS[..4])
     } else {
         random.pick(&ENDS)
@@ -55,7 +58,7 @@ fn small_number(random: &mut Random) -> i32 {
 /// An expression of at most this many levels, with an operation on numbers at the ends at any level and
 /// others around it, most of which stay inside where it does.
 pub fn end_expression(wish: &Wish, random: &mut Random, levels: usize) -> Expression {
-    if levels <= 1 {
+    if levels <= 1 || random.chance(10) {
         return Expression::Constant(end_number(random));
     }
     let mut expression = end_operation(wish, random);
@@ -67,6 +70,10 @@ pub fn end_expression(wish: &Wish, random: &mut Random, levels: usize) -> Expres
 
 /// An operation on two constants or variables, which leaves the range about as often as not.
 fn end_operation(wish: &Wish, random: &mut Random) -> Expression {
+    if random.chance(15) {
+        let factor = |random: &mut Random| Box::new(Expression::Constant(random.pick(FACTORS)));
+        return Expression::Product(factor(random), factor(random));
+    }
     let first = Box::new(one_leaf(wish, random, 60));
     let second = Box::new(one_leaf(wish, random, 30));
     let (first, second) = if random.chance(50) { (first, second) } else { (second, first) };

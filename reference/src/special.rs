@@ -312,6 +312,78 @@ fn full_sum(levels: usize) -> Expression {
     Expression::Sum(Box::new(full_sum(levels - 1)), Box::new(full_sum(levels - 1)))
 }
 
+/// How many receivers each sequential state of `most_levels` has but for the first.
+const RECEIVERS: usize = 4;
+
+/// A broadcast among 15 sequential states whose guards and updates are full trees of the most levels:
+/// the first sends by a transition with four guards and 16 assignments, the others receive, each by one
+/// of four transitions, whose guards are all looked at. Whatever steps lead there from the start,
+/// nothing leaves the range, so that a machine whose sums wrap accepts them too.
+pub fn most_levels() -> Chart {
+    let mut states = vec![state(NONE, Kind::Parallel, 1, 0)];
+    let mut transitions = Vec::new();
+    for region in 0..AUTOMATA - 1 {
+        let outer = states.len();
+        states.push(state(0, Kind::Sequential, 1, 0));
+        states.push(state(outer as u8, Kind::Basic, 1, 0));
+        let labels = if region == 0 {
+            vec![full_sender()]
+        } else {
+            (0..RECEIVERS).map(|number| full_receiver(region, number)).collect()
+        };
+        transitions.extend(labels.into_iter().map(|label| Transition {
+            source: outer + 1,
+            destination: outer + 1,
+            exit: None,
+            entry: None,
+            label: Rc::new(label),
+        }));
+    }
+    let declared = Declared { clocks: 1, variables: 16, rendezvous: 0, broadcast: 1 };
+    Chart::new(Version::One, declared, 1, 0, states, transitions)
+}
+
+/// Each assignment keeps what a tree of one level less leaves by 3, so variables are 0 to 2.
+fn full_sender() -> Label {
+    let assigned = |variable: usize| {
+        let tree = Box::new(full_tree(LEVELS - 1, variable));
+        Update::assignment(variable, Expression::Remainder(tree, 3))
+    };
+    let guards = (0..4).map(|number| full_guard(number, 100_000)).collect();
+    let updates = (0..16).map(assigned).collect();
+    Label { signal: Signal::Send(0), resets: 1, guards, updates }
+}
+
+/// Of the receivers of one state only the first has a guard that holds.
+fn full_receiver(region: usize, number: usize) -> Label {
+    let constant = if number == 0 { 100_000 } else { -100_000 };
+    let guards = vec![full_guard(RECEIVERS * region + number, constant)];
+    Label { guards, ..Label::of_signal(Signal::Receive(0)) }
+}
+
+/// That a tree of the most levels is less than a constant.
+fn full_guard(first: usize, constant: i32) -> Guard {
+    let right = Expression::Constant(constant);
+    Guard::Data { relation: Relation::Less, left: full_tree(LEVELS, first), right }
+}
+
+/// A tree of so many levels with variables and constants by turns. Where these are 0 to 3, five levels
+/// are at most 144 and at least -144, six 20,736, seven 41,472 and eight 82,944.
+fn full_tree(levels: usize, first: usize) -> Expression {
+    if levels == 1 {
+        return match first % 2 {
+            0 => Expression::Variable(first / 2 % 16),
+            _ => Expression::Constant([1, 3, 2, 2, 1, 3, 3][first / 2 % 7]),
+        };
+    }
+    let [left, right] = [0, 1].map(|side| Box::new(full_tree(levels - 1, 2 * first + side)));
+    match levels {
+        2 | 5 | 7 => Expression::Sum(left, right),
+        4 | 8 => Expression::Difference(left, right),
+        _ => Expression::Product(left, right),
+    }
+}
+
 /// Sample S3 with a transition that has every kind of guard, a quotient and a broadcast: a short
 /// file with every kind of field.
 pub fn dense() -> Chart {

@@ -8,8 +8,9 @@ use reference::check::check;
 use reference::expression::Expression;
 use reference::flatten::network_of;
 use reference::generate::{chart_from_seed, chart_from_wish, Wish};
+use reference::guard::Guard;
 use reference::label::Signal;
-use reference::limits::{CLOCKS, STATES, VARIABLES};
+use reference::limits::{CLOCKS, LEVELS, STATES, VARIABLES};
 use reference::network::Network;
 use reference::sensors::{has_sensors, is_in, is_sensor, plain_states};
 use reference::take_up::sole_advances;
@@ -261,6 +262,60 @@ fn plain_states_are_drawn_at_every_place() {
     }
     println!("plain states: {places:?}");
     assert!(places.len() == 8 && places.values().all(|&count| count > 100), "{places:?}");
+}
+
+/// Counts the constants of an expression that are among `numbers`, by number and level.
+fn count_constants(
+    expression: &Expression,
+    level: usize,
+    numbers: &[i32],
+    counts: &mut BTreeMap<(i32, usize), u64>,
+) {
+    match expression {
+        Expression::Constant(value) if numbers.contains(value) => {
+            *counts.entry((*value, level)).or_insert(0) += 1;
+        }
+        Expression::Constant(_) | Expression::Variable(_) => {}
+        Expression::Sum(first, second)
+        | Expression::Difference(first, second)
+        | Expression::Product(first, second) => {
+            count_constants(first, level + 1, numbers, counts);
+            count_constants(second, level + 1, numbers, counts);
+        }
+        Expression::Quotient(argument, _) | Expression::Remainder(argument, _) => {
+            count_constants(argument, level + 1, numbers, counts);
+        }
+    }
+}
+
+/// At every level, on either side of guards and in assignments.
+#[test]
+fn half_of_the_charts_have_numbers_at_the_ends_of_the_range() {
+    let numbers = [i32::MAX, i32::MAX - 1, i32::MIN, i32::MIN + 1, 46_340, 46_341, 65_536];
+    let mut counts = [(); 3].map(|()| BTreeMap::new());
+    let mut with_ends = 0;
+    for seed in 0..CHARTS {
+        with_ends += u64::from(Wish::from_seed(seed).ends > 0);
+        let chart = chart_from_seed(seed);
+        for label in chart.transitions.iter().map(|one| &one.label) {
+            for guard in &label.guards {
+                if let Guard::Data { left, right, .. } = guard {
+                    count_constants(left, 1, &numbers, &mut counts[0]);
+                    count_constants(right, 1, &numbers, &mut counts[1]);
+                }
+            }
+            for update in &label.updates {
+                if let Update::Assignment(one) = update {
+                    count_constants(&one.expression, 1, &numbers, &mut counts[2]);
+                }
+            }
+        }
+    }
+    assert!(with_ends > CHARTS * 2 / 5 && with_ends < CHARTS * 3 / 5, "{with_ends}");
+    for counts in counts {
+        assert_eq!(counts.len(), numbers.len() * LEVELS, "{counts:?}");
+        assert!(counts.values().all(|&count| count > 5), "{counts:?}");
+    }
 }
 
 /// The ordinary input of the benchmark is one of these, and its times are compared across changes: a

@@ -5,6 +5,7 @@
 use reference::binary_form::{requests_from_bytes, AnyRequest};
 use reference::compare::Agreed;
 use reference::random::Random;
+use reference::refusal::Refusal;
 use reference::request::Request;
 use reference::special;
 use reference::special_sensors;
@@ -32,6 +33,7 @@ fn runs_and_damaged_files_agree() {
         agreed.compare_seed(seed, 20);
     }
     println!("{agreed}");
+    assert!(agreed.refused_with(Refusal::RangeLeft) > 1_000);
 }
 
 #[test]
@@ -46,6 +48,7 @@ fn charts_at_the_limits_agree() {
         special::chart_with_edges(1025),
         special::most_alternatives(),
         special::most_advances(),
+        special::most_levels(),
         special_sensors::most_sensors(),
     ];
     for chart in charts.into_iter().chain(special_sensors::with_sensors()) {

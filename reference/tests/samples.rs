@@ -12,7 +12,8 @@ use reference::network_machine;
 use reference::refusal::Refusal;
 use reference::special::{
     self, broadcast_of_self_loops, chart_with_edges, chart_with_sequential_children, largest,
-    longest_network, many_equal_choices, most_alternatives, sample_1, sample_3, state, transition,
+    longest_network, many_equal_choices, most_alternatives, most_levels, sample_1, sample_3, state,
+    transition,
 };
 use reference::update::Update;
 use reference::version::Version;
@@ -214,6 +215,36 @@ fn the_largest_chart_passes() {
     let length = flatten(&file, &mut buffer).unwrap();
     let network = reference::network::Network::read(&buffer[..length]).unwrap();
     assert_eq!(network.edges.len(), 1024);
+}
+
+/// What the benchmark steps: full trees of eight levels, of which none leaves the range in any run.
+#[test]
+fn the_chart_of_most_levels() {
+    let chart = check(&most_levels().write()).unwrap();
+    let network = network_of(&chart).unwrap();
+    let expressions = chart.transitions.iter().flat_map(|one| {
+        let of_guards = one.label.guards.iter().map(|guard| match guard {
+            Guard::Data { left, .. } => left.levels(),
+            _ => 0,
+        });
+        let of_updates = one.label.updates.iter().map(|update| match update {
+            Update::Assignment(one) => one.expression.levels(),
+            Update::Advance(_) => 0,
+        });
+        of_guards.chain(of_updates).collect::<Vec<usize>>()
+    });
+    assert_eq!(expressions.collect::<Vec<usize>>(), [8; 4 + 16 + 14 * 4]);
+    let list: Vec<u16> = std::iter::once(0).chain((0..14).map(|region| 1 + 4 * region)).collect();
+    let mut on_chart = chart_machine::start(&chart);
+    let mut on_network = network_machine::start(&network);
+    let mut met = std::collections::BTreeSet::new();
+    for _ in 0..200 {
+        on_chart = chart_machine::step(&chart, &on_chart, &list).unwrap();
+        on_network = network_machine::step(&network, &on_network, &list).unwrap();
+        assert_eq!(on_network.values, on_chart.values);
+        met.extend(on_chart.values.variables);
+    }
+    assert!(met.iter().copied().eq(0..3), "{met:?}");
 }
 
 /// Every alternative has the whole label, so a network can be far longer than its chart.

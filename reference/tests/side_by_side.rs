@@ -135,6 +135,7 @@ fn every_clause_holds_on_special_charts() {
         special::many_equal_choices(),
         special::chart_with_sequential_children(15),
         special::most_advances(),
+        special::most_levels(),
         special_sensors::most_sensors(),
     ];
     let mut most_owed = 0;

@@ -1,5 +1,6 @@
-//! Times every operation on a small, an ordinary and the largest input, on one with many advances and
-//! on one with many sensors, and flattening on more, and prints two tables.
+//! Times every operation on a small, an ordinary and the largest input, on one with many advances, on one
+//! with many sensors and on one with expressions of the most levels, and flattening on more, and prints
+//! two tables.
 //!
 //! Each operation reads its file anew, as its description says. Implementations are compared in
 //! one run over the same inputs: the first of the list is this one; with the feature `proved` the
@@ -51,6 +52,7 @@ fn main() {
         ("largest", special::largest()),
         ("advances", special::most_advances()),
         ("sensors", special_sensors::most_sensors()),
+        ("levels", special::most_levels()),
     ];
     charts.retain(|(size, chart)| passes_everywhere(size, chart));
     time_operations(&charts);
