@@ -502,6 +502,18 @@ impl<'a> Moment<'a> {
         )?;
         self.count_exits_shut();
         self.count_guards();
+        self.test_allowed_moves(moves)?;
+        for list in self.chart_candidates(random) {
+            self.test_chart_call(&Call::Step(list))?;
+        }
+        for ticks in [0, 1, random.between(1, 12) as u32, random.bits() as u32] {
+            self.test_chart_call(&Call::Wait(ticks))?;
+        }
+        Ok(())
+    }
+
+    /// With none owed, each allowed move carries a list of its own and is not urgent.
+    fn test_allowed_moves(&self, moves: Vec<Vec<u16>>) -> Result<(), Failure> {
         let mut lists = Vec::new();
         for list in &moves {
             let carried = self.carried(list);
@@ -514,14 +526,7 @@ impl<'a> Moment<'a> {
         let mut different_moves = moves;
         different_moves.sort();
         different_moves.dedup();
-        demand(lists.len() == different_moves.len(), "two allowed moves carry one list")?;
-        for list in self.chart_candidates(random) {
-            self.test_chart_call(&Call::Step(list))?;
-        }
-        for ticks in [0, 1, random.between(1, 12) as u32, random.bits() as u32] {
-            self.test_chart_call(&Call::Wait(ticks))?;
-        }
-        Ok(())
+        demand(lists.len() == different_moves.len(), "two allowed moves carry one list")
     }
 
     fn test_while_owed(&self, moves: &[Vec<u16>], random: &mut Random) -> Result<(), Failure> {
@@ -554,8 +559,26 @@ impl<'a> Moment<'a> {
                 "the network gives {list:?} the number {of_network}, the chart {carried:?} {of_chart}"
             ),
         )?;
+        self.test_advances(list, &carried)?;
         self.count_matched(&carried, of_chart);
         Ok(())
+    }
+
+    /// An advance that alone writes its pair is refused for its own sake when its steps would pass the
+    /// range, and not before.
+    fn test_advances(&self, list: &[u16], carried: &[u16]) -> Result<(), Failure> {
+        let on_chart =
+            |label: &&Label| self.chart_take_ups.leave_in_time(label, &self.chart.values);
+        let on_network =
+            |label: &&Label| self.network_take_ups.leave_in_time(label, &self.network.values);
+        demand(
+            self.machines.chart_labels(carried).iter().all(on_chart),
+            "an advance of the chart leaves the range too early or too late",
+        )?;
+        demand(
+            self.machines.network_labels(list).iter().all(on_network),
+            "an advance of the network leaves the range too early or too late",
+        )
     }
 
     fn count_matched(&mut self, carried: &[u16], number: u8) {

@@ -4,8 +4,10 @@
 //! sake; the first that would pass it is.
 
 use crate::label::Label;
-use crate::limits::VARIABLES;
+use crate::limits::{LARGEST, VARIABLES};
+use crate::range::leaves;
 use crate::update::{Advance, Update};
+use crate::values::Values;
 
 /// The advances that alone write their two variables: every update in these labels that writes one
 /// of the two is that advance in the same terms.
@@ -56,6 +58,19 @@ impl TakeUps {
             let denominator = u64::from(advance.denominator);
             i64::from(variables[advance.steps]) == (parts / denominator) as i64
                 && i64::from(variables[advance.remainder]) == (parts % denominator) as i64
+        })
+    }
+
+    /// Whether each of the advances, where a label would make it once more, leaves the range exactly if
+    /// the whole part passes it.
+    pub fn leave_in_time(&self, label: &Label, values: &Values) -> bool {
+        label.updates.iter().all(|update| {
+            let counted = self.made.iter().find(|(sole, _)| update.as_advance() == Some(sole));
+            counted.is_none_or(|(advance, times)| {
+                let parts = (times + 1) * u64::from(advance.numerator);
+                let passes = parts / u64::from(advance.denominator) > u64::from(LARGEST);
+                leaves(update, values) == passes
+            })
         })
     }
 
