@@ -6,9 +6,9 @@ use native.Mathlib.Omega.{arith}
 use borrow.Author.Tests.{ltb-true}
 use lib.IntN.{ℤ, pos, negsuc, natAbs}
 use lib.Signed.{mag, ltZ}
-use Rattle.expr.specs.Integer.{signed}
+use Rattle.numbers.specs.Integer.{signed}
 use Rattle.lists.proofs.Bools.{clash}
-use Rattle.expr.proofs.Integers.{signed-low, signed-high}
+use Rattle.numbers.proofs.Integers.{signed-low, signed-high}
 
 pub bits-below : (z : ℤ) {n : ℕ} → mag z < 2 ^ 31 → ltZ z (pos 0) ≡ true → n ≡ natAbs z → signed (4294967295 - n + 1) ≡ z
 bits-below (pos n) b h e = absurd (omega (arith, ltb-true n 0 h))

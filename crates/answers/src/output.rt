@@ -1,9 +1,9 @@
 // Answers, on standard output.
 ghost use mathlib.Core.Path.{_≡_};
-ghost use Rattle.expr.specs.Integer.{signed};
+ghost use Rattle.numbers.specs.Integer.{signed};
 use crate::checksum::checksum;
-use expr::signed::absolute;
-use expr::signed::is_negative;
+use numbers::signed::absolute;
+use numbers::signed::is_negative;
 
 pub fn text(s: &[u8]) {
     io::write_all(1, s);

@@ -30,12 +30,12 @@ pub fn longest(ticks: u32) {
 }
 
 pub fn signed_number(z: i32) {
-    if expr::signed::is_negative(z) {
+    if numbers::signed::is_negative(z) {
         text(b" -");
     } else {
         text(b" ");
     }
-    io::print_decimal(1, expr::signed::absolute(z) as u64);
+    io::print_decimal(1, numbers::signed::absolute(z) as u64);
 }
 
 // The first variables of sixteen, as many as are declared.

@@ -12,8 +12,8 @@ use lib.Dec.{ltb}
 use lib.IntN.{ℤ}
 use lib.ListN.{length, getD, take, drop}
 use Rattle.reading.specs.Reading.{Fault, length-fault, range-fault, Read, got, fault, Reader, yield, next, _>>=_, byte, byte4, such, mapped}
-use Rattle.expr.specs.Integer.{signed, isDivisor}
-use Rattle.expr.specs.Value.{combined, divided}
+use Rattle.numbers.specs.Integer.{signed, isDivisor}
+use Rattle.numbers.specs.Value.{combined, divided}
 use Rattle.expr.specs.Expression.{Expr, constant, variable, sum, difference, product, quotient, remainder, Code, constant-code}
 use Rattle.expr.specs.Expression.{variable-code, sum-code, difference-code, product-code, quotient-code, remainder-code, codes}
 use Rattle.expr.specs.Expression.{divisor, two, by, after, expression, value}

@@ -5,16 +5,16 @@ ghost use lib.IntN.{pos};
 ghost use lib.ListN.{length, getD};
 ghost use lib.Dec.{ltb};
 ghost use Rattle.reading.specs.Reading.{byte, byte4, such, mapped, skipped};
-ghost use Rattle.expr.specs.Integer.{signed};
-ghost use Rattle.expr.specs.Value.{divided, valueOf, valueEnd};
+ghost use Rattle.numbers.specs.Integer.{signed};
+ghost use Rattle.numbers.specs.Value.{divided};
 ghost use Rattle.expr.specs.Expression.{divisor, expression, value};
+ghost use Rattle.expr.specs.Evaluation.{valueOf, valueEnd, valueFault};
 ghost use Rattle.reading.specs.Places.{onward, byteOf, byteEnd, wordOf, wordEnd, reached, reachedEnd, byteReached, wordReached};
-use crate::signed::is_divisor;
-use crate::signed::signed;
-use crate::value::Value;
-use crate::value::ValueRead;
-use crate::value::combine;
-use crate::value::divide;
+use numbers::signed::is_divisor;
+use numbers::signed::signed;
+use numbers::value::Value;
+use numbers::value::combine;
+use numbers::value::divide;
 use reading::field::ByteRead;
 use reading::field::Fault;
 use reading::field::Reached;
@@ -26,6 +26,21 @@ use reading::field::word_fault;
 
 // How deep an expression may nest, a constant or a variable being one level.
 pub const LEVELS: u8 = 8;
+
+// The value of an expression and the next place, or the fault.
+pub enum ValueRead {
+    Value(Value, usize),
+    Fault(Fault),
+}
+
+pub fn value_fault(v: ValueRead) -> Fault
+    ensures { λ r. ⌜ r ≡ valueFault v ⌝ }
+{
+    match v {
+        ValueRead::Fault(f) => f,
+        ValueRead::Value(_, _) => Fault::Length,
+    }
+}
 
 fn byte_reached(b: ByteRead) -> Reached
     ensures { λ r. ⌜ r ≡ byteReached b ⌝ }

@@ -1,4 +1,2 @@
-// Expressions and guards.
+// Expressions.
 pub mod expression;
-pub mod signed;
-pub mod value;

@@ -5,13 +5,13 @@ use crate::show::number;
 use crate::show::signed_number;
 use crate::show::truth;
 use expr::expression;
-use expr::signed;
-use expr::value;
-use expr::value::Value;
-use expr::value::ValueRead;
+use expr::expression::ValueRead;
 use labels::guard;
 use labels::label;
 use labels::label::LabelRead;
+use numbers::signed;
+use numbers::value;
+use numbers::value::Value;
 use reading::field::Reached;
 use reading::field::TestRead;
 

@@ -1,5 +1,5 @@
 // Answers, on standard output.
-use expr::signed;
+use numbers::signed;
 use reading::field::Fault;
 
 pub fn text(s: &[u8]) {

@@ -6,9 +6,9 @@ use Rattle.reading.specs.Answer as Answer
 use Rattle.clocks.specs.Clocks as Clocks
 use Rattle.expr.specs.Expression as Expression
 use Rattle.labels.specs.Guard as Guard
-use Rattle.expr.specs.Integer as Integer
-use Rattle.expr.specs.Relation as Relation
-use Rattle.expr.specs.Value as Value
+use Rattle.numbers.specs.Integer as Integer
+use Rattle.numbers.specs.Relation as Relation
+use Rattle.numbers.specs.Value as Value
 use Rattle.labels.specs.Label as Label
 use Rattle.updates.specs.Update as Update
 use Rattle.lists.specs.Lists as Lists

@@ -10,7 +10,7 @@ use lib.IntN.{ℤ}
 use lib.ListN.{set}
 use Rattle.lists.specs.Lists.{concat}
 use Rattle.reading.specs.Reading.{Read, got, fault, Reader, yield, _>>=_, byte, such, many}
-use Rattle.expr.specs.Value.{numberOf}
+use Rattle.numbers.specs.Value.{numberOf}
 use Rattle.expr.specs.Expression.{Expr, expression, levels, value}
 use Rattle.labels.specs.Guard.{guard}
 use Rattle.updates.specs.Update.{Update, assignment, opens, ofForm, update, targets, updated, assign}

@@ -8,7 +8,7 @@ use Prim.Native.Nat.{ℕ, zero, suc}
 use lib.Dec.{ltb}
 use lib.ListN.{getD}
 use Rattle.reading.specs.Reading.{Fault, got, fault, yield, byte, such}
-use Rattle.expr.specs.Relation.{lt, relations}
+use Rattle.numbers.specs.Relation.{lt, relations}
 use Rattle.labels.specs.Guard.{relation, clock, ticks, dataGuard, clockGuard, differenceGuard, guard}
 use Rattle.reading.proofs.Places.{bind-got, bind-fault}
 use Rattle.reading.proofs.Reading.{such-at}

@@ -6,9 +6,9 @@ use lib.IntN.{ℤ}
 use lib.Dec.{ltb}
 use lib.ListN.{getD}
 use Rattle.reading.specs.Reading.{Reader, yield, _>>=_, byte, byte4, such}
-use Rattle.expr.specs.Value.{compared}
+use Rattle.numbers.specs.Value.{compared}
 use Rattle.expr.specs.Expression.{Expr, expression, levels, value}
-use Rattle.expr.specs.Relation.{lt, Relation, compareℕ, relations}
+use Rattle.numbers.specs.Relation.{lt, Relation, compareℕ, relations}
 
 pub data Guard : Type 0 where
   data-guard : Relation → Expr → Expr → Guard

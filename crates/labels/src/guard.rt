@@ -6,11 +6,11 @@ ghost use Rattle.reading.specs.Reading.{mapped, skipped};
 ghost use Rattle.expr.specs.Expression.{expression, value};
 ghost use Rattle.labels.specs.Guard.{ticks, dataGuard, clockGuard, differenceGuard, guard, holds};
 ghost use Rattle.reading.specs.Places.{onward, wordOf, testOf, reached, testReached};
-ghost use Rattle.expr.specs.Value.{valueOf};
+ghost use Rattle.expr.specs.Evaluation.{valueOf};
 use expr::expression;
-use expr::signed;
-use expr::value;
-use expr::value::ValueRead;
+use expr::expression::ValueRead;
+use numbers::signed;
+use numbers::value;
 use reading::field;
 use reading::field::ByteRead;
 use reading::field::Fault;
@@ -141,11 +141,11 @@ fn data_guard_holds(s: &[u8], at: usize, variables: u8, values: &[i32; 16]) -> T
     };
     let v = expression::value_at(s, at1, variables, values);
     let ValueRead::Value(x, at2) = v else {
-        return TestRead::Fault(value::value_fault(v));
+        return TestRead::Fault(expression::value_fault(v));
     };
     let w = expression::value_at(s, at2, variables, values);
     let ValueRead::Value(y, at3) = w else {
-        return TestRead::Fault(value::value_fault(w));
+        return TestRead::Fault(expression::value_fault(w));
     };
     TestRead::Value(value::compare_values(relation, x, y), at3)
 }

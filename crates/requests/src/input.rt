@@ -64,7 +64,7 @@ fn mark(s: &[u8], i: u8) -> bool
 fn value(s: &[u8], i: u8) -> i32
     ensures { λ r. ⌜ r ≡ valueAt (now (s .entry)) i ⌝ }
 {
-    expr::signed::signed(word(s, i))
+    numbers::signed::signed(word(s, i))
 }
 
 // The active states.

@@ -16,11 +16,11 @@ use Rattle.lists.specs.Lists.{any, elem, concat}
 use Rattle.lists.proofs.Bools.{clash, decided, fails, and-l, both, or-l, or-cases, neither-l, neither-r}
 use Rattle.lists.proofs.Lists.{elem-by}
 use Rattle.lists.proofs.Once.{Once, once-first, once-second}
-use Rattle.expr.specs.Integer.{floorDiv, floorMod}
+use Rattle.numbers.specs.Integer.{floorDiv, floorMod}
 use Rattle.expr.specs.Expression.{value}
-use Rattle.expr.specs.Value.{exactly, isNumber, numberOf}
-use Rattle.expr.specs.declared.value.Value.the-variants as Va
-use Rattle.expr.proofs.Values.{exactly-inside, exactly-is-number}
+use Rattle.numbers.specs.Value.{exactly, isNumber, numberOf}
+use Rattle.numbers.specs.declared.value.Value.the-variants as Va
+use Rattle.numbers.proofs.Values.{exactly-inside, exactly-is-number}
 use Rattle.updates.specs.Update.{Update, assignment, advance, formOf, writes, targets, total, stepsAfter, remainderAfter, stays, updated, assign}
 use Rattle.updates.specs.TakeUp.{writesEither, isAdvance, advancedBy, TakenUp, AdvanceStays, TakenInRange}
 use Rattle.updates.specs.declared.update.Advance.{Advance}

@@ -8,10 +8,10 @@ use lib.ListN.{getD, set}
 use Rattle.lists.specs.Lists.{concat}
 use Rattle.reading.specs.Reading.{Reader, yield, _>>=_, byte, byte2, such}
 use Rattle.reading.specs.Version.{hasAdvances}
-use Rattle.expr.specs.Integer.{floorDiv, floorMod}
-use Rattle.expr.specs.Value.{exactly, isNumber, numberOf}
+use Rattle.numbers.specs.Integer.{floorDiv, floorMod}
+use Rattle.numbers.specs.Value.{exactly, isNumber, numberOf}
 use Rattle.expr.specs.Expression.{Expr, expression, levels, value}
-use Rattle.expr.specs.declared.value.Value.{Value}
+use Rattle.numbers.specs.declared.value.Value.{Value}
 use Rattle.updates.specs.declared.update.Advance.{Advance}
 use Rattle.updates.specs.declared.update.Form.{Form}
 use Rattle.updates.specs.declared.update.Form.the-variants as Fm

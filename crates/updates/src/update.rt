@@ -5,15 +5,15 @@ ghost use lib.ListN.{set};
 ghost use Prim.Native.Nat.{_≤_};
 ghost use Rattle.reading.specs.Reading.{byte, byte2, such, mapped};
 ghost use Rattle.reading.specs.Places.{onward, byteOf, shortOf, reached};
-ghost use Rattle.expr.specs.Value.{valueOf};
+ghost use Rattle.expr.specs.Evaluation.{valueOf};
 ghost use Rattle.expr.specs.Expression.{expression, value};
 ghost use Rattle.updates.specs.Update.{opens, advanced, form, ofForm, update, formOf, writes, advance, stays, updated};
 ghost use Rattle.updates.specs.Forms.{formRead, formFault, Noted};
 ghost use lib.Dec.{leb};
 use expr::expression;
-use expr::signed;
-use expr::value;
-use expr::value::ValueRead;
+use expr::expression::ValueRead;
+use numbers::signed;
+use numbers::value;
 use reading::field;
 use reading::field::ByteRead;
 use reading::field::Fault;
@@ -251,7 +251,7 @@ pub fn updated_at(
         Form::Assignment(v) => {
             let x = value_from(s, from, variables, old);
             let ValueRead::Value(z, next) = x else {
-                return not_updated(value::value_fault(x), new);
+                return not_updated(expression::value_fault(x), new);
             };
             Updated {
                 reached: Reached::At(next),

@@ -5,11 +5,12 @@ use native.Mathlib.Omega.{arith}
 use lib.IntN.{ℤ}
 use lib.ListN.{length, getD}
 use Rattle.reading.specs.Reading.{Reader, yield, _>>=_, mapped}
-use Rattle.expr.specs.Value.{combined, divided, valueOf, valueEnd}
+use Rattle.numbers.specs.Value.{combined, divided}
+use Rattle.expr.specs.Evaluation.{valueOf, valueEnd}
 use Rattle.expr.specs.Expression.{divisor, expression, value}
 use Rattle.reading.specs.Places.{onward}
-use Rattle.expr.specs.declared.value.Value.{Value}
-use Rattle.expr.specs.declared.value.ValueRead.the-variants as Vl
+use Rattle.numbers.specs.declared.value.Value.{Value}
+use Rattle.expr.specs.declared.expression.ValueRead.the-variants as Vl
 use Rattle.lists.proofs.Parts.{part-end}
 use Rattle.reading.proofs.Places.{answered}
 use Rattle.expr.proofs.Expressions.{read-empty, read-deep, read-unknown, read-constant, read-variable, read-two, read-by}
@@ -19,7 +20,7 @@ use borrow.Fn.PlainCycle.{Measures, is, falls, and}
 use Rattle.expr.proofs.expression.evaluate.Reads as evaluate
 use Rattle.expr.proofs.expression.evaluate.Kinds as evaluate-kinds
 use Rattle.expr.proofs.expression.+evaluate.Lts-evaluate as evaluate-lts
-use Rattle.expr.proofs.value.combine.Reads as combine-reads
+use Rattle.numbers.proofs.value.combine.Reads as combine-reads
 use Rattle.expr.proofs.expression.divide_by.Reads as divide-by-reads
 use Rattle.expr.proofs.expression.evaluate_variable.Reads as evaluate-variable-reads
 use Rattle.expr.proofs.expression.read_signed.Reads as read-signed-reads

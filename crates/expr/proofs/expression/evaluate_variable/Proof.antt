@@ -3,7 +3,7 @@ use native.Mathlib.Omega.{arith}
 use Rattle.reading.specs.Places.{byteOf, byteEnd, byteFault}
 use Rattle.reading.proofs.Reading.{mapped-got, mapped-fault}
 use Rattle.reading.proofs.Places.{handed-on, answered}
-use Rattle.expr.proofs.Integers.{read-back}
+use Rattle.numbers.proofs.Integers.{read-back}
 use borrow.Author.Needs.{needs}
 use Rattle.expr.proofs.expression.evaluate_variable.Statement.{statement}
 use Rattle.expr.proofs.expression.evaluate_variable.Tie as tie

@@ -2,12 +2,12 @@ use mathlib.Core.Path.{sym, ap}
 use native.Mathlib.Omega.{arith}
 use Rattle.reading.specs.Reading.{mapped}
 use Prim.Native.Nat.{ℕ}
-use Rattle.expr.specs.Integer.{signed}
-use Rattle.expr.specs.declared.value.Value.{Value}
-use Rattle.expr.specs.declared.value.Value.the-variants as Va
+use Rattle.numbers.specs.Integer.{signed}
+use Rattle.numbers.specs.declared.value.Value.{Value}
+use Rattle.numbers.specs.declared.value.Value.the-variants as Va
 use Rattle.reading.specs.Places.{wordOf, wordEnd, wordFault}
 use Rattle.reading.proofs.Places.{handed-on, answered}
-use Rattle.expr.proofs.Integers.{read-back}
+use Rattle.numbers.proofs.Integers.{read-back}
 use borrow.Author.Needs.{needs}
 use Rattle.expr.proofs.expression.read_signed.Statement.{statement}
 use Rattle.expr.proofs.expression.read_signed.Tie as tie

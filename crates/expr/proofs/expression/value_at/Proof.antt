@@ -3,7 +3,7 @@ use native.Mathlib.Omega.{arith}
 use lib.ListN.{length}
 use Rattle.reading.specs.Reading.{mapped}
 use Rattle.expr.specs.Expression.{expression, value}
-use Rattle.expr.specs.Value.{valueOf, valueEnd}
+use Rattle.expr.specs.Evaluation.{valueOf, valueEnd}
 use Rattle.reading.proofs.Places.{length-onward, part-got, part-fault, answered}
 use Rattle.lists.proofs.Parts.{part-length}
 use Rattle.expr.proofs.Expressions.{read-empty}

@@ -1,7 +1,7 @@
 use mathlib.Core.Path.{sym, _∙_}
 use Rattle.reading.specs.Reading.{yield}
 use Rattle.labels.specs.Guard.{dataGuard, holds}
-use Rattle.expr.specs.Value.{valueOf, valueFault}
+use Rattle.expr.specs.Evaluation.{valueOf, valueFault}
 use Rattle.reading.specs.Places.{byteOf, byteFault}
 use Rattle.reading.proofs.Places.{handed-on, bind-got, bind-fault, answered}
 use Rattle.reading.proofs.Reading.{mapped-got, mapped-fault, mapped-at, fault-at}

@@ -1,6 +1,6 @@
 use mathlib.Core.Path.{ap, _∙_}
-use Rattle.expr.specs.Integer.{signed}
-use Rattle.expr.proofs.Integers.{read-back}
+use Rattle.numbers.specs.Integer.{signed}
+use Rattle.numbers.proofs.Integers.{read-back}
 use borrow.Author.Needs.{needs}
 use Rattle.requests.proofs.input.value.Statement.{statement}
 use Rattle.requests.proofs.input.value.Tie as tie

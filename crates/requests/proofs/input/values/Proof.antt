@@ -1,5 +1,5 @@
 use mathlib.Core.Path.{_∙_}
-use Rattle.expr.proofs.Integers.{read-back}
+use Rattle.numbers.proofs.Integers.{read-back}
 use mathlib.Core.List.{map}
 use Prim.Native.Nat.{_-_}
 use native.Mathlib.Omega.{arith}

@@ -7,10 +7,10 @@ use lib.IntN.{ℤ, pos, _+ℤ_}
 use Prim.Native.Nat.{_≤_}
 use mir.Syntax.{w32}
 use mir.Val.{toZ, ofZ}
-use Rattle.expr.specs.Integer.{floorDiv, floorMod}
-use Rattle.expr.specs.Value.{exactly, isNumber, numberOf}
+use Rattle.numbers.specs.Integer.{floorDiv, floorMod}
+use Rattle.numbers.specs.Value.{exactly, isNumber, numberOf}
 use lib.ListN.{set}
-use Rattle.expr.proofs.Integers.{read-back}
+use Rattle.numbers.proofs.Integers.{read-back}
 use Rattle.updates.specs.Update.{stays, updated, stepsAfter, remainderAfter, total}
 use Rattle.updates.proofs.update.after_advance.Statement.{statement}
 use Rattle.updates.proofs.update.after_advance.Tie as tie

@@ -3,10 +3,11 @@ use mathlib.Core.Path.{_≡_, sym, ap, _∙_}
 use mathlib.Core.List.{List}
 use lib.IntN.{ℤ}
 use lib.ListN.{set}
-use Rattle.expr.proofs.Integers.{read-back}
+use Rattle.numbers.proofs.Integers.{read-back}
 use Prim.Native.Nat.{ℕ}
 use Rattle.reading.specs.Reading.{got}
-use Rattle.expr.specs.Value.{isNumber, numberOf, valueOf, valueFault}
+use Rattle.numbers.specs.Value.{isNumber, numberOf}
+use Rattle.expr.specs.Evaluation.{valueOf, valueFault}
 use Rattle.reading.specs.Places.{reached, onward}
 use Rattle.reading.proofs.Places.{handed-on, answered}
 use Rattle.reading.proofs.Reading.{mapped-got, mapped-fault, mapped-at, fault-at, got-by}

@@ -1,0 +1,30 @@
+-- A difference of two 32-bit numbers is exact in 64.
+use borrow.Author.Needs.{needs}
+use mathlib.Core.Path.{_∙_, ap}
+use mir.Syntax.{w64}
+use mir.ValLaws.{toZ-ofZ}
+use Rattle.numbers.specs.Value.{exactly}
+use Rattle.numbers.proofs.Integers.{cast-fits, read-wide, sub-fits}
+use Rattle.numbers.proofs.value.difference.Statement.{statement}
+use Rattle.numbers.proofs.value.difference.Tie as tie
+
+cast-exactly : tie.Need-cast-exactly
+cast-exactly c = cast-fits _ (c .fits .x)
+
+cast-exactly-2 : tie.Need-cast-exactly-2
+cast-exactly-2 c = cast-fits _ (c .fits .y)
+
+sub-exactly : tie.Need-sub-exactly
+sub-exactly c = rw (read-wide (c .args .x) (c .fits .x), read-wide (c .args .y) (c .fits .y)) (sub-fits _ _ (c .fits .x) (c .fits .y))
+
+exactly-requires : tie.Need-exactly-requires
+exactly-requires c κs = search needs
+
+returns : tie.Need-returns
+returns c =
+    let s = c .before in
+    c .exactly .ensures
+    ∙ rw (read-wide (s .args .x) (s .fits .x), read-wide (s .args .y) (s .fits .y)) (ap exactly (toZ-ofZ w64 _ (sub-fits _ _ (s .fits .x) (s .fits .y))))
+
+pub difference-spec : {M : Type 1} → statement M
+difference-spec = tie.close (tie.spec cast-exactly cast-exactly-2 sub-exactly exactly-requires returns)
