@@ -92,8 +92,8 @@ fn clocks_after(rest: &[u8], offsets: &[u32], list: &[u16], clocks: [u32; 8]) ->
 
 // The configuration after some transitions, and whether their updates stayed in the range.
 pub struct Next {
-    pub within: bool,
     pub configuration: Configuration,
+    pub within: bool,
 }
 
 // The same of the transitions of a list.

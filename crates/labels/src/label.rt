@@ -85,8 +85,8 @@ fn all_hold(
 
 // The variables after some updates, and whether these stayed in the range.
 pub struct NewValues {
-    pub within: bool,
     pub values: [i32; 16],
+    pub within: bool,
 }
 
 // The variables after so many updates from a place on, which are known to be there. All of them read `old`.

@@ -68,8 +68,8 @@ fn assigned_by(rest: &[u8], counts: Counts, e: Edge, old: [i32; 16], new: [i32; 
 
 // The configuration after some edges, and whether their updates stayed in the range.
 pub struct Next {
-    pub within: bool,
     pub configuration: Configuration,
+    pub within: bool,
 }
 
 // The same with one more edge taken. Its updates read the old values.
