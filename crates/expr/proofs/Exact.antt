@@ -1,13 +1,12 @@
 -- The value of an expression is the exact one where no operation in it leaves the range, and else none.
 use mathlib.Core.Path.{_≡_, refl, ap₂, ap, _∙_}
 use mathlib.Core.Bool.{Bool, true, false, cond, _&&_}
-use mathlib.Core.List.{List}
 use lib.IntN.{ℤ, _+ℤ_, _-ℤ_, _*ℤ_}
 use Rattle.numbers.specs.Integer.{inside, floorDiv, floorMod}
 use Rattle.numbers.specs.Value.{exactly, ofTwo, ofOne}
 use Rattle.numbers.specs.declared.value.Value.{Value}
 use Rattle.numbers.specs.declared.value.Value.the-variants as Va
-use Rattle.expr.specs.Expression.{Expr, constant, variable, sum, difference, product, quotient, remainder, value}
+use Rattle.expr.specs.Expression.{constant, variable, sum, difference, product, quotient, remainder, value}
 use Rattle.expr.specs.Exact.{exact, allInside, ValueIsExact}
 
 -- a number where a test holds

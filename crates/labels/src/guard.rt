@@ -6,7 +6,6 @@ ghost use Rattle.reading.specs.Reading.{mapped, skipped};
 ghost use Rattle.expr.specs.Expression.{expression, value};
 ghost use Rattle.labels.specs.Guard.{ticks, dataGuard, clockGuard, differenceGuard, guard, holds};
 ghost use Rattle.reading.specs.Places.{onward, wordOf, testOf, reached, testReached};
-ghost use Rattle.expr.specs.Evaluation.{valueOf};
 use expr::expression;
 use expr::expression::ValueRead;
 use numbers::signed;

@@ -1,6 +1,6 @@
 // The label of a transition or an edge: what stands from the signal on.
 ghost use mathlib.Core.Path.{_≡_};
-ghost use mathlib.Core.Bool.{_&&_, _||_, not};
+ghost use mathlib.Core.Bool.{true, _&&_, _||_, not};
 ghost use lib.Dec.{eqb};
 ghost use Rattle.lists.specs.Lists.{all, distinct};
 ghost use Rattle.reading.specs.Reading.{got, byte, such, many, mapped, skipped};
@@ -123,8 +123,10 @@ fn all_assigned(
     NewValues { within, values }
 }
 
-// Nothing assigned.
-fn unassigned(values: [i32; 16]) -> NewValues {
+// The variables after no update.
+fn unassigned(values: [i32; 16]) -> NewValues
+    ensures { λ r. ⌜ (r .within ≡ true) × (r .values ≡ values) ⌝ }
+{
     NewValues {
         within: true,
         values,

@@ -1,5 +1,5 @@
 -- What a step answers, by the first of its tests that fails.
-use mathlib.Core.Path.{_≡_, ap, ap₂, _∙_}
+use mathlib.Core.Path.{_≡_, ap, _∙_}
 use mathlib.Core.Bool.{true, false}
 use mathlib.Core.List.{List, map, map-map}
 use Prim.Native.Nat.{ℕ, _≤_}

@@ -1,11 +1,10 @@
 -- Laws of signed numbers: how the machine reads them, which results fit 64 bits, the floored quotient and remainder by
 -- sign and magnitude, and the relation that a number stands for.
-use mathlib.Core.Path.{_≡_, refl, sym, ap, ap₂, _∙_}
+use mathlib.Core.Path.{_≡_, refl, ap, ap₂, _∙_}
 use mathlib.Core.Bool.{Bool, true, false, cond}
 use Prim.Native.Nat.{ℕ, zero, suc, _+_, _-_, _*_, _/_, _%_, _^_, _≤_, _<_}
 use native.Mathlib.Omega.{arith}
-use native.Mathlib.Nat.{le-trans, lt-trans, mul-le-mul, mod-eq-of-lt, div-le-self, add-div-right, add-zero}
-use native.Mathlib.Numerals.{add-one}
+use native.Mathlib.Nat.{le-trans, lt-trans, mul-le-mul}
 use lib.Dec.{leb, ltb, lit<}
 use lib.IntN.{ℤ, pos, negsuc, natAbs, negℤ, subℕ, _+ℤ_, _-ℤ_, _*ℤ_}
 use lib.ListN.{getD}
@@ -16,7 +15,7 @@ use mir.Val.{SFits, ofZ, toZ}
 use mir.ValLaws.{toZ-ofZ, toZ-pos}
 use Rattle.numbers.specs.Integer.{signed, isDivisor, floorDiv, floorMod}
 use Rattle.numbers.specs.Relation.{lt, relations}
-use Rattle.lists.proofs.Bools.{clash, and-l, and-r, cond-yes}
+use Rattle.lists.proofs.Bools.{clash, and-l, and-r}
 
 -- what the machine reads of a number in 32 bits, and of one cast to 64 bits
 pub read-back : (z : ℤ) → mag z < 2 ^ 31 → toZ w32 (ofZ w32 z) ≡ z

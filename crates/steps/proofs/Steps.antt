@@ -10,7 +10,7 @@ use lib.ListN.{length, length-map}
 use Rattle.lists.specs.Lists.{elem, below, distinct}
 use Rattle.labels.specs.Label.{Label, sends, receives}
 use Rattle.steps.specs.Moves.{senders, oneSends, maximal, noneFits, allowed}
-use Rattle.reading.specs.Answer.{Answer, done, unless}
+use Rattle.reading.specs.Answer.{done, unless}
 use Rattle.steps.specs.Last.{lastTests, answerBy}
 use Rattle.steps.specs.Cases.{member, ownerOf, signalsOn, takesPart, oneSender, allowedIf, caseOf, caseAllows}
 use Rattle.steps.specs.declared.step.Member.{Member}

@@ -1,12 +1,11 @@
 -- The quotient of the magnitudes, with the sign.
 use borrow.Author.Needs.{needs}
 use mathlib.Core.Path.{_≡_, _∙_, sym, ap}
-use mathlib.Core.Bool.{true, cond}
+use mathlib.Core.Bool.{true}
 use native.Mathlib.Omega.{arith}
 use native.Mathlib.Nat.{div-le-self}
-use Prim.Native.Nat.{_/_, _<_, _^_}
-use lib.IntN.{pos, negsuc}
-use lib.Signed.{mag, ltZ}
+use Prim.Native.Nat.{_<_, _^_}
+use lib.Signed.{mag}
 use borrow.Author.Tests.{not-true, not-false}
 use Rattle.lists.proofs.Bools.{cond-yes, cond-no}
 use Rattle.numbers.specs.Integer.{isDivisor}
