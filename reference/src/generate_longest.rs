@@ -15,11 +15,9 @@ use crate::values::{Bounds, Values};
 pub fn chart_longest_requests(chart: &Chart, run: &[Request], random: &mut Random) -> Vec<Request> {
     let file = chart.write();
     let mut requests = Vec::new();
-    for request in run {
-        if let Request::ChartStep(_, given, _) | Request::ChartWait(_, given, _) = request {
-            requests.push(Request::ChartLongest(file.clone(), *given));
-            requests.push(Request::ChartLongest(file.clone(), wild_chart(chart, given, random)));
-        }
+    for given in run.iter().filter_map(Request::given_to_chart) {
+        requests.push(Request::ChartLongest(file.clone(), *given));
+        requests.push(Request::ChartLongest(file.clone(), wild_chart(chart, given, random)));
     }
     requests
 }
@@ -32,12 +30,10 @@ pub fn network_longest_requests(
 ) -> Vec<Request> {
     let file = network.write();
     let mut requests = Vec::new();
-    for request in run {
-        if let Request::NetworkStep(_, given, _) | Request::NetworkWait(_, given, _) = request {
-            let wild = wild_network(network, given, random);
-            requests.push(Request::NetworkLongest(file.clone(), *given));
-            requests.push(Request::NetworkLongest(file.clone(), wild));
-        }
+    for given in run.iter().filter_map(Request::given_to_network) {
+        let wild = wild_network(network, given, random);
+        requests.push(Request::NetworkLongest(file.clone(), *given));
+        requests.push(Request::NetworkLongest(file.clone(), wild));
     }
     requests
 }

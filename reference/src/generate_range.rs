@@ -141,10 +141,7 @@ pub fn end_values(values: &Values, variables: usize, random: &mut Random) -> Val
 pub fn chart_end_requests(chart: &Chart, run: &[Request], random: &mut Random) -> Vec<Request> {
     let file = chart.write();
     let mut requests = Vec::new();
-    for request in run {
-        let (Request::ChartStep(_, given, _) | Request::ChartWait(_, given, _)) = request else {
-            continue;
-        };
+    for given in run.iter().filter_map(Request::given_to_chart) {
         let values = end_values(&given.values, chart.declared.variables, random);
         let given = ChartConfiguration { values, ..*given };
         let member = |number: usize| (number as u16, chart_machine::member(chart, number));
@@ -171,11 +168,7 @@ pub fn network_end_requests(
 ) -> Vec<Request> {
     let file = network.write();
     let mut requests = Vec::new();
-    for request in run {
-        let (Request::NetworkStep(_, given, _) | Request::NetworkWait(_, given, _)) = request
-        else {
-            continue;
-        };
+    for given in run.iter().filter_map(Request::given_to_network) {
         let values = end_values(&given.values, network.declared.variables, random);
         let given = NetworkConfiguration { values, ..*given };
         let member = |number: usize| {

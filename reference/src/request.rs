@@ -76,6 +76,22 @@ impl Request {
         }
     }
 
+    /// What a step or a wait of a chart is given.
+    pub fn given_to_chart(&self) -> Option<&ChartConfiguration> {
+        match self {
+            Request::ChartStep(_, given, _) | Request::ChartWait(_, given, _) => Some(given),
+            _ => None,
+        }
+    }
+
+    /// What a step or a wait of a network is given.
+    pub fn given_to_network(&self) -> Option<&NetworkConfiguration> {
+        match self {
+            Request::NetworkStep(_, given, _) | Request::NetworkWait(_, given, _) => Some(given),
+            _ => None,
+        }
+    }
+
     pub fn file(&self) -> &[u8] {
         match self {
             Request::Check(file)

@@ -1,7 +1,8 @@
 //! The longest wait of both machines: worked cases, each answer tried by waits, and readings of it that
 //! are wrong and have to be noticed.
 
-use reference::binary_form::{requests_from_bytes, AnyRequest};
+mod committed;
+
 use reference::chart::{Chart, Kind};
 use reference::chart_machine::{self, active_bounds, ChartConfiguration};
 use reference::check::check;
@@ -20,10 +21,11 @@ use reference::refusal::Refusal;
 use reference::request::{Request, Success};
 use reference::side_by_side::{run_both_lists, Machines};
 use reference::special::{one_loop, sample_3, state};
-use reference::text_form::request_from_text;
 use reference::values::{ticks_left, Bounds};
 use reference::version::Version;
 use reference::walk::{chart_requests, network_requests};
+
+use committed::vectors;
 
 /// A loop with so many clocks, and these bounds on the first of its basic state.
 fn with_bounds(clocks: usize, bounds: &[u32]) -> Chart {
@@ -335,14 +337,7 @@ fn wrong_readings_are_noticed_in_runs() {
 /// A program that reads it so does not pass the vectors.
 #[test]
 fn wrong_readings_fail_the_vectors() {
-    let lines = include_str!("../vectors/text.requests").lines();
-    let text = lines.map(|line| request_from_text(line).expect("a request"));
-    let bytes = requests_from_bytes(include_bytes!("../vectors/requests.stdin"));
-    let bytes = bytes.expect("whole requests").into_iter().filter_map(|request| match request {
-        AnyRequest::One(request) => Some(request),
-        AnyRequest::Run(_) => None,
-    });
-    for (form, requests) in [("text", text.collect::<Vec<_>>()), ("bytes", bytes.collect())] {
+    for (form, requests) in vectors() {
         for (name, wrong) in WRONG {
             let (mut charts, mut networks) = (0, 0);
             for request in &requests {

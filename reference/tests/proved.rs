@@ -2,26 +2,22 @@
 //! refused call changes nothing that was lent, flattening nothing after the network, and a longest
 //! wait nothing but the ticks, which `proved` tests.
 
-use reference::binary_form::{requests_from_bytes, AnyRequest};
+mod committed;
+
 use reference::compare::Agreed;
 use reference::random::Random;
 use reference::refusal::Refusal;
 use reference::request::Request;
 use reference::special;
 use reference::special_sensors;
-use reference::text_form::request_from_text;
+
+use committed::vectors;
 
 #[test]
 fn every_vector_agrees() {
     let mut agreed = Agreed::default();
-    for line in include_str!("../vectors/text.requests").lines() {
-        agreed.compare(&request_from_text(line).expect("a request"));
-    }
-    let requests = requests_from_bytes(include_bytes!("../vectors/requests.stdin"));
-    for request in requests.expect("whole requests") {
-        if let AnyRequest::One(request) = request {
-            agreed.compare(&request);
-        }
+    for request in vectors().into_iter().flat_map(|(_, requests)| requests) {
+        agreed.compare(&request);
     }
     println!("{agreed}");
 }

@@ -1,10 +1,11 @@
 //! Results that leave signed 32 bits: a data guard with one does not hold, and an update with one is
 //! refused with 28. Wrong readings of that are noticed by runs and by the vectors.
 
+mod committed;
+
 use std::collections::BTreeSet;
 use std::rc::Rc;
 
-use reference::binary_form::{requests_from_bytes, AnyRequest};
 use reference::chart::Chart;
 use reference::chart_machine;
 use reference::check::check;
@@ -26,10 +27,11 @@ use reference::side_by_side::{run_both_lists, Machines};
 use reference::special::{guarded_receiver, one_loop, rendezvous_with_swap};
 use reference::special_range::{at_the_ends, one_too_many, without_value};
 use reference::steps::Steps;
-use reference::text_form::request_from_text;
 use reference::update::{Assignment, Update};
 use reference::values::Values;
 use reference::version::Version;
+
+use committed::vectors;
 
 fn constant(value: i32) -> Box<Expression> {
     Box::new(Expression::Constant(value))
@@ -436,14 +438,7 @@ fn wrong_readings_are_noticed_in_runs() {
 /// A program that reads it so does not pass the vectors, in either machine.
 #[test]
 fn wrong_readings_fail_the_vectors() {
-    let lines = include_str!("../vectors/text.requests").lines();
-    let text = lines.map(|line| request_from_text(line).expect("a request"));
-    let bytes = requests_from_bytes(include_bytes!("../vectors/requests.stdin"));
-    let bytes = bytes.expect("whole requests").into_iter().filter_map(|request| match request {
-        AnyRequest::One(request) => Some(request),
-        AnyRequest::Run(_) => None,
-    });
-    for (form, requests) in [("text", text.collect::<Vec<_>>()), ("bytes", bytes.collect())] {
+    for (form, requests) in vectors() {
         for (name, wrong) in WRONG {
             let (mut charts, mut networks) = (0, 0);
             for request in &requests {
