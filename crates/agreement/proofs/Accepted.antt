@@ -12,9 +12,9 @@ use Rattle.labels.specs.Label.{Label}
 use Rattle.steps.specs.Moves.{allStay}
 use Rattle.lists.proofs.Bools.{implies-at, implies-by}
 use Rattle.lists.proofs.Lists.{all-at, all-by, any-at, any-by, map-at, map-by}
+use Rattle.steps.proofs.Last.{Late, done-late, late-past}
 use Rattle.steps.proofs.Moves.{Known, known-at, known-by}
 use Rattle.reading.proofs.Answer.{unless-at, unless-by, refused-not, done-injective, refused-injective}
-use Rattle.chart_moves.proofs.Step.{Late, done-late, late-past}
 use Rattle.network_records.specs.Network.{Edge, Network, urgentAt, edgeAt, ownerOf}
 use Rattle.network_moves.specs.Machine.{isConfiguration, boundsKept, activeEdge, urgent, after, tested, step, wait}
 use Rattle.agreement.specs.Agreement.{NetworkConfiguration, Accepts, Alike, isUrgent}

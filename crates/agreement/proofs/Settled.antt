@@ -18,6 +18,7 @@ use Rattle.lists.proofs.Lists.{all-at, all-by, map-at, map-by}
 use Rattle.lists.proofs.Ascending.{ascending-once, ascending-same}
 use Rattle.labels.proofs.Labels.{receiver-assigns-nothing}
 use Rattle.steps.proofs.Kept.{keeps-clocks-after}
+use Rattle.steps.proofs.Last.{done-late, refused-late}
 use Rattle.steps.proofs.Sets.{Matched, matched-length, allowed-set-at, allowed-set-by, OneAssigns, one-assigns, variables-alike, stay-alike, clocks-alike}
 use Rattle.chart_records.specs.Chart.{Chart, Transition, transitionAt, home}
 use Rattle.chart_records.specs.Tree.{sequentials}
@@ -25,7 +26,7 @@ use Rattle.chart_moves.specs.Machine as chart
 use Rattle.chart_records.proofs.Rules.{Passed}
 use Rattle.chart_records.proofs.Ranges.{Ranges}
 use Rattle.chart_moves.proofs.After.{after-clocks}
-use Rattle.chart_moves.proofs.Step.{Together, AllowedStep, allowed-step-at, allowed-step-by, allowed-together, step-at, done-late, refused-late}
+use Rattle.chart_moves.proofs.Step.{Together, AllowedStep, allowed-step-at, allowed-step-by, allowed-together, step-at}
 use Rattle.chart_moves.proofs.Step.{active-source, configuration-tree, configuration-clocks, configuration-bounds}
 use Rattle.chart_rules.proofs.TransitionRules.{transition-mem}
 use Rattle.chart_moves.proofs.Moved.{next-configured}

@@ -1,18 +1,19 @@
 -- What a step that is not refused says, and that start and step stay within the trees.
 use mathlib.Core.Path.{_≡_, refl, sym, ap, _∙_, subst}
 use mathlib.Core.Bool.{Bool, true}
-use mathlib.Core.Logic.{_⊎_, inr, ⊎-elim, _≢_}
+use mathlib.Core.Logic.{inr, ⊎-elim}
 use mathlib.Core.List.{List, map, map-map, List·Memᴰ as Mem}
 use Prim.Native.Nat.{ℕ, _<_}
 use native.Mathlib.Omega.{arith}
 use lib.ListN.{length}
 use Rattle.lists.specs.Lists.{has}
-use Rattle.reading.specs.Answer.{Answer, done, refused, unless}
+use Rattle.reading.specs.Answer.{Answer, done, unless}
 use Rattle.labels.specs.Label.{Label}
 use Rattle.steps.specs.Moves.{allowed, allStay}
 use Rattle.lists.proofs.Bools.{parts, and-l, both}
 use Rattle.lists.proofs.Lists.{all-at, all-by, map-at, map-by}
-use Rattle.reading.proofs.Answer.{unless-at, unless-past, unless-by, refused-not, done-injective, refused-injective}
+use Rattle.reading.proofs.Answer.{unless-at, unless-by, done-injective}
+use Rattle.steps.proofs.Last.{Late, done-late, late-past}
 use Rattle.steps.proofs.Moves.{Known, known-at, known-by}
 use Rattle.steps.proofs.Sets.{allowed-set-at, allowed-channels}
 use Rattle.clocks.proofs.Rows.{ClockValues, values-in-limit, keeps-zeros, in-limit-zeros, zero-past-zeros, zeros-past-zeros}
@@ -41,19 +42,6 @@ pub record Stepped (c : Chart) (σ : Configuration) (ms : List ℕ) (τ : Config
   pub all-stay : allStay (map (λ m. transitionAt c m .label) ms) (σ .variables) ≡ true
   pub bounds-kept : boundsKept c τ ≡ true
   pub result : after c (map (transitionAt c) ms) σ ≡ τ
-
--- the answer of a step whose set is allowed: a result, or a refusal by 28 or 21
-abbrev pub Late : {A : Type 0} → Answer A → Type 0
-Late x = (k : ℕ) → x ≡ refused k → (k ≡ 28) ⊎ (k ≡ 21)
-
-pub done-late : {A : Type 0} {a : A} → Late (done a)
-done-late k e = refused-not (sym e)
-
-pub refused-late : {A : Type 0} {k : ℕ} → ((k ≡ 28) ⊎ (k ≡ 21)) → Late {A = A} (refused k)
-refused-late h j e = subst (λ (k : ℕ). (k ≡ 28) ⊎ (k ≡ 21)) (refused-injective e) h
-
-pub late-past : {A : Type 0} {x : Answer A} (n : ℕ) (b : Bool) (a : Answer A) → Late x → n ≢ 28 → n ≢ 21 → unless n b a ≡ x → (b ≡ true) × (a ≡ x)
-late-past n b a late p q h = unless-past n b a (λ e. ⊎-elim p q (late n (sym e))) h
 
 module _ (c : Chart) (σ : Configuration) (ms : List ℕ) where
   pub allowed-step-at : {x : Answer Configuration} → Late x → step c σ ms ≡ x → AllowedStep c σ ms

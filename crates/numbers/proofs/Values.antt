@@ -1,16 +1,16 @@
 -- Laws of values: which exact results are numbers, and what the operations give of none and of numbers.
-use mathlib.Core.Path.{_≡_, refl, sym}
+use mathlib.Core.Path.{_≡_, refl, sym, ap, _∙_}
 use mathlib.Core.Bool.{Bool, true, false, cond}
 use mathlib.Core.Logic.{_≢_}
 use Prim.Native.Nat.{ℕ, _^_, _≤_, _<_}
 use lib.Dec.{eqb}
-use lib.IntN.{ℤ, _+ℤ_, _-ℤ_, _*ℤ_}
+use lib.IntN.{ℤ, pos, _+ℤ_, _-ℤ_, _*ℤ_}
 use lib.Signed.{mag}
 use borrow.Author.Tests.{lt-ltb, le-ltb, ne-eqb}
 use Rattle.lists.proofs.Bools.{cond-yes, cond-no}
-use Rattle.numbers.specs.Integer.{inside, floorDiv, floorMod}
+use Rattle.numbers.specs.Integer.{inside, isDivisor, floorDiv, floorMod}
 use Rattle.numbers.specs.Relation.{Relation, compareℤ}
-use Rattle.numbers.specs.Value.{exactly, combined, divided, isNumber, compared}
+use Rattle.numbers.specs.Value.{exactly, ofOne, combined, divided, isNumber, compared}
 use Rattle.numbers.specs.declared.value.Value.{Value}
 use Rattle.numbers.specs.declared.value.Value.the-variants as Va
 
@@ -58,19 +58,24 @@ module _ {code : ℕ} {x y : Value} {a b : ℤ} (h : x ≡ Va.Number a) (k : y �
   unfolding combined
   combined-product n m = rw (h, k, ne-eqb code 2 n, ne-eqb code 3 m)
 
--- a quotient or remainder, by the code
-module _ (code : ℕ) {x : Value} (d : ℕ) where
-  pub divided-none : x ≡ Va.None → Va.None ≡ divided code x d
+-- a quotient or remainder, by the code, if d is a divisor; else a number gives 0
+module _ (code d : ℕ) {x : Value} where
+  pub divided-none : x ≡ Va.None → Va.None ≡ cond (isDivisor d) (divided code x d) (ofOne (λ z. pos 0) x)
   unfolding divided
-  divided-none h = rw h (either (eqb code 5) refl refl)
+  divided-none h = rw h (either (isDivisor d) (sym (either (eqb code 5) refl refl)) refl)
 
-  pub divided-quotient : {a : ℤ} → x ≡ Va.Number a → code ≡ 5 → Va.Number (floorDiv a d) ≡ divided code x d
-  unfolding divided
-  divided-quotient h e = rw (h, e)
+  module _ {a : ℤ} (h : x ≡ Va.Number a) where
+    of-number : (b : Bool) {z : ℤ} → Va.Number z ≡ divided code x d → Va.Number (cond b z (pos 0)) ≡ cond b (divided code x d) (ofOne (λ z. pos 0) x)
+    of-number true e = e
+    of-number false e = rw h
 
-  pub divided-remainder : {a : ℤ} → x ≡ Va.Number a → code ≢ 5 → Va.Number (floorMod a d) ≡ divided code x d
-  unfolding divided
-  divided-remainder h n = rw (h, ne-eqb code 5 n)
+    pub divided-quotient : {z : ℤ} → code ≡ 5 → z ≡ cond (isDivisor d) (floorDiv a d) (pos 0) → Va.Number z ≡ cond (isDivisor d) (divided code x d) (ofOne (λ z. pos 0) x)
+    unfolding divided
+    divided-quotient e k = ap Va.Number k ∙ of-number (isDivisor d) (rw (h, e))
+
+    pub divided-remainder : {z : ℤ} → code ≢ 5 → z ≡ cond (isDivisor d) (floorMod a d) (pos 0) → Va.Number z ≡ cond (isDivisor d) (divided code x d) (ofOne (λ z. pos 0) x)
+    unfolding divided
+    divided-remainder n k = ap Va.Number k ∙ of-number (isDivisor d) (rw (h, ne-eqb code 5 n))
 
 -- two numbers in a relation
 pub compared-numbers : (r : Relation) {x y : Value} {a b : ℤ} → x ≡ Va.Number a → y ≡ Va.Number b → compareℤ r a b ≡ compared r x y

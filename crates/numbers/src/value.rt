@@ -1,12 +1,12 @@
 // The value of an expression: a number, or none where the exact result of an operation in it is outside signed 32 bits.
 ghost use mathlib.Core.Path.{_≡_};
-ghost use Prim.Native.Nat.{_≤_};
-ghost use mathlib.Core.Bool.{true};
+ghost use mathlib.Core.Bool.{cond};
 ghost use lib.IntN.{pos, _+ℤ_, _-ℤ_, _*ℤ_};
+ghost use lib.Dec.{leb};
 ghost use lib.ListN.{getD};
 ghost use Rattle.numbers.specs.Integer.{isDivisor, floorDiv};
 ghost use Rattle.numbers.specs.Relation.{lt, relations};
-ghost use Rattle.numbers.specs.Value.{exactly, combined, divided, isNumber, numberOf, compared};
+ghost use Rattle.numbers.specs.Value.{exactly, ofOne, combined, divided, isNumber, numberOf, compared};
 use crate::signed::compare;
 use crate::signed::floored;
 use crate::signed::magnitude;
@@ -65,9 +65,9 @@ pub fn combine(code: u8, x: Value, y: Value) -> Value
     }
 }
 
-// The quotient or remainder, by the code.
+// The quotient or remainder, by the code. By what is no divisor a number gives 0.
 pub fn divide(code: u8, x: Value, d: u32) -> Value
-    ensures { λ r. ⌜ (isDivisor d ≡ true → r ≡ divided code x d) ⌝ }
+    ensures { λ r. ⌜ r ≡ cond (isDivisor d) (divided code x d) (ofOne (λ z. pos 0) x) ⌝ }
 {
     let Value::Number(z) = x else {
         return Value::None;
@@ -79,9 +79,9 @@ pub fn divide(code: u8, x: Value, d: u32) -> Value
     }
 }
 
-// The steps after an advance: the whole part is added.
+// The steps after an advance: the whole part is added. By a denominator of 0 they have no value.
 pub fn steps_after(steps: i32, remainder: i32, numerator: u16, denominator: u16) -> Value
-    ensures { λ r. ⌜ (1 ≤ denominator → r ≡ exactly (steps +ℤ floorDiv (remainder +ℤ pos numerator) denominator)) ⌝ }
+    ensures { λ r. ⌜ r ≡ cond (leb 1 denominator) (exactly (steps +ℤ floorDiv (remainder +ℤ pos numerator) denominator)) Value.None ⌝ }
 {
     if denominator == 0 {
         return Value::None;

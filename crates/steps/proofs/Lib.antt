@@ -1,5 +1,6 @@
 -- Laws of the definitions of this crate.
 pub mod Kept
+pub mod Last
 pub mod Moves
 pub mod Sets
 pub mod Steps

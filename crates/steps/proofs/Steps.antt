@@ -10,8 +10,6 @@ use lib.ListN.{length, length-map}
 use Rattle.lists.specs.Lists.{elem, below, distinct}
 use Rattle.labels.specs.Label.{Label, sends, receives}
 use Rattle.steps.specs.Moves.{senders, oneSends, maximal, noneFits, allowed}
-use Rattle.reading.specs.Answer.{done, unless}
-use Rattle.steps.specs.Last.{lastTests, answerBy}
 use Rattle.steps.specs.Cases.{member, ownerOf, signalsOn, takesPart, oneSender, allowedIf, caseOf, caseAllows}
 use Rattle.steps.specs.declared.step.Member.{Member}
 use Rattle.steps.specs.declared.step.Case.{Case}
@@ -104,17 +102,3 @@ module _ (label : ℕ → Label) (owner : ℕ → ℕ) where
             twice false = refl
         go true false o n = refl
         go false a o n = refl
-
--- the last tests answer as the definitions of a step do
-last-tests : {A : Type 0} (allowed within kept : Bool) (x : A) →
-    answerBy (lastTests allowed within kept) x ≡ unless 20 allowed (unless 28 within (unless 21 kept (done x)))
-unfolding lastTests unless
-last-tests false within kept x = refl
-last-tests true false kept x = refl
-last-tests true true false x = refl
-last-tests true true true x = refl
-
-pub last-tests-are : {A : Type 0} {a b w v k l : Bool} {x y : A} → a ≡ b → w ≡ v → k ≡ l → x ≡ y →
-    answerBy (lastTests a w k) x ≡ unless 20 b (unless 28 v (unless 21 l (done y)))
-last-tests-are {a = a} {w = w} {k = k} {x = x} p q r s =
-    last-tests a w k x ∙ λ j. unless 20 (p j) (unless 28 (q j) (unless 21 (r j) (done (s j))))

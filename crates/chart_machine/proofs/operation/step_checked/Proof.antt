@@ -2,7 +2,7 @@ use mathlib.Core.Path.{refl, sym, ap, _∙_}
 use borrow.Author.Tests.{not-true, not-false}
 use Rattle.reading.specs.declared.verdict.Verdict.{Verdict}
 use Rattle.steps.specs.Last.{answerBy}
-use Rattle.steps.proofs.Steps.{last-tests-are}
+use Rattle.steps.proofs.Last.{last-tests-are}
 use Rattle.chart_moves.specs.Machine.{boundsKept, tested}
 use Rattle.chart_machine.specs.Outcomes.{outcomeOf}
 use Rattle.chart_machine.proofs.Refusals.{grown-of, step-elsewhere, step-unknown, step-inactive, step-last}

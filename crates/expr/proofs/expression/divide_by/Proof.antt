@@ -1,8 +1,9 @@
-use mathlib.Core.Path.{_≡_, sym, ap}
+use mathlib.Core.Path.{_≡_, sym, ap, _∙_}
 use native.Mathlib.Omega.{arith}
 use Rattle.reading.specs.Reading.{got}
 use Rattle.expr.specs.Expression.{divisor}
 use Rattle.reading.specs.Places.{onward, wordOf, wordEnd, wordFault}
+use Rattle.lists.proofs.Bools.{cond-yes}
 use Rattle.reading.proofs.Reading.{mapped-got, mapped-fault}
 use Rattle.reading.proofs.Places.{handed-on, answered}
 use Rattle.expr.proofs.Expressions.{divisor-in}
@@ -43,7 +44,7 @@ divide-requires c κs = search needs
 returns-2 : tie.Need-returns-2
 returns-2 c =
     let at-w = c .before .before in (
-      rw (c .divide .ensures (divisor-in _ (taken (c .before)))) (sym (mapped-got _ (taken (c .before)))),
+      rw (c .divide .ensures ∙ cond-yes _ _ (divisor-in _ (taken (c .before)))) (sym (mapped-got _ (taken (c .before)))),
       omega (arith, ap wordEnd (at-w .w .given .1), at-w .before .before .read-divisor .ensures .1),
     )
 

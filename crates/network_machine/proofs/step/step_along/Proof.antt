@@ -2,7 +2,7 @@ use mathlib.Core.Path.{sym, ap, _∙_}
 use borrow.Author.Tests.{not-true, not-false}
 use Rattle.reading.specs.declared.verdict.Verdict.{Verdict}
 use Rattle.steps.specs.Last.{answerBy}
-use Rattle.steps.proofs.Steps.{last-tests-are}
+use Rattle.steps.proofs.Last.{last-tests-are}
 use Rattle.network_moves.specs.Machine.{boundsKept, tested}
 use Rattle.network_machine.specs.Answers.{outcomeOf}
 use Rattle.network_moves.proofs.Stepping.{known-below, known-few, inactive, urgency, past-urgency}

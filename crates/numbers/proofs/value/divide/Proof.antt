@@ -1,9 +1,8 @@
 use borrow.Author.Needs.{needs}
 use mathlib.Core.Path.{_∙_, ap}
-use lib.IntN.{ℤ}
-use Rattle.numbers.specs.Integer.{floorDiv, floorMod}
-use Rattle.numbers.specs.declared.value.Value.the-variants as Va
-use Rattle.lists.proofs.Bools.{cond-yes}
+use mathlib.Core.Bool.{cond}
+use lib.IntN.{ℤ, pos}
+use Rattle.numbers.specs.Integer.{isDivisor, floorDiv, floorMod}
 use Rattle.numbers.proofs.Integers.{read-back}
 use Rattle.numbers.proofs.Values.{divided-none, divided-quotient, divided-remainder}
 use Rattle.numbers.proofs.value.divide.Statement.{statement}
@@ -16,7 +15,7 @@ enum-told : tie.Need-enum-told
 enum-told c = search needs
 
 returns : tie.Need-returns
-returns c h = divided-none _ _ (c .enum-told .given .1)
+returns c = let start = c .before .before in divided-none (start .args .code) (start .args .d) (c .enum-told .given .1)
 
 quotient-requires : tie.Need-quotient-requires
 quotient-requires c κs = search needs
@@ -25,18 +24,18 @@ remainder-requires : tie.Need-remainder-requires
 remainder-requires c κs = search needs
 
 returns-2 : tie.Need-returns-2
-returns-2 c h =
+returns-2 c =
     let p = c .before .before in
-    let start = p .before .before .before in
-    ap Va.Number (read-back _ (c .quotient .ok) ∙ c .quotient .ensures ∙ cond-yes _ _ h ∙ ap (λ (z : ℤ). floorDiv z (start .args .d)) (read-back _ (p .known-told .given .0 .1)))
-    ∙ divided-quotient _ _ (p .before .x .given .1) (c .before .if1 .taken)
+    let a = p .before .before .before .args in
+    divided-quotient (a .code) (a .d) (p .before .x .given .1) (c .before .if1 .taken)
+    (read-back _ (c .quotient .ok) ∙ c .quotient .ensures ∙ ap (λ (z : ℤ). cond (isDivisor (a .d)) (floorDiv z (a .d)) (pos 0)) (read-back (p .before .x .given .0 .0) (p .known-told .given .0 .1)))
 
 returns-3 : tie.Need-returns-3
-returns-3 c h =
+returns-3 c =
     let p = c .before .before in
-    let start = p .before .before .before in
-    ap Va.Number (read-back _ (c .remainder .ok) ∙ c .remainder .ensures ∙ cond-yes _ _ h ∙ ap (λ (z : ℤ). floorMod z (start .args .d)) (read-back _ (p .known-told .given .0 .1)))
-    ∙ divided-remainder _ _ (p .before .x .given .1) (c .before .if1 .left)
+    let a = p .before .before .before .args in
+    divided-remainder (a .code) (a .d) (p .before .x .given .1) (c .before .if1 .left)
+    (read-back _ (c .remainder .ok) ∙ c .remainder .ensures ∙ ap (λ (z : ℤ). cond (isDivisor (a .d)) (floorMod z (a .d)) (pos 0)) (read-back (p .before .x .given .0 .0) (p .known-told .given .0 .1)))
 
 pub divide-spec : {M : Type 1} → statement M
 divide-spec =

@@ -2,7 +2,7 @@
 use borrow.Author.Needs.{needs}
 use native.Mathlib.Omega.{arith}
 use Prim.Native.Nat.{_<_, _^_}
-use mathlib.Core.Path.{_≡_, _∙_, ap}
+use mathlib.Core.Path.{_≡_, _∙_, sym, ap}
 use lib.IntN.{ℤ, pos, _+ℤ_}
 use lib.Signed.{mag}
 use mir.Syntax.{w64}
@@ -10,12 +10,14 @@ use mir.Val.{toZ, ofZ}
 use mir.ValLaws.{toZ-ofZ}
 use Rattle.numbers.specs.Integer.{floorDiv}
 use Rattle.numbers.specs.Value.{exactly}
+use borrow.Author.Tests.{lt-leb, le-leb}
+use Rattle.lists.proofs.Bools.{cond-yes, cond-no}
 use Rattle.numbers.proofs.Integers.{read-back, read-wide, cast-fits, step-fits}
 use Rattle.numbers.proofs.value.steps_after.Statement.{statement}
 use Rattle.numbers.proofs.value.steps_after.Tie as tie
 
 returns : tie.Need-returns
-returns c h = absurd (omega (arith, c .if1 .taken, h))
+returns c = sym (cond-no _ _ (lt-leb 1 (c .before .args .denominator) (omega (arith, c .if1 .taken))))
 
 cast-exactly : tie.Need-cast-exactly
 cast-exactly c = cast-fits _ (c .before .fits .steps)
@@ -53,12 +55,13 @@ exactly-requires : tie.Need-exactly-requires
 exactly-requires c κs = search needs
 
 returns-2 : tie.Need-returns-2
-returns-2 c h =
+returns-2 c =
     let f = c .before in
     let start = f .before .before .before in
     c .exactly .ensures
     ∙ rw (read-wide (start .args .steps) (start .fits .steps))
     (ap exactly (toZ-ofZ w64 _ (step-fits _ _ (start .fits .steps) (small f)) ∙ ap (λ (z : ℤ). start .args .steps +ℤ z) (whole f)))
+    ∙ sym (cond-yes _ _ (le-leb 1 (start .args .denominator) (omega arith)))
 
 pub steps-after-spec : {M : Type 1} → statement M
 steps-after-spec =

@@ -24,7 +24,8 @@ stepped c h =
     let a = c .before .before .before .args in
     let x = c .before .before .variable-value in
     let y = c .before .variable-value2 in
-    c .steps-after .ensures h
+    c .steps-after .ensures
+    ∙ cond-yes _ _ (le-leb 1 (a .a .denominator) h)
     ∙ ap₂ (λ (x y : ℤ). exactly (x +ℤ floorDiv (y +ℤ pos (a .a .numerator)) (a .a .denominator)))
     (read-back _ (x .ok) ∙ x .ensures) (read-back _ (y .ok) ∙ y .ensures)
 
