@@ -101,7 +101,8 @@ ready-of {rest} {n} {offsets} {t} {c} {d} L T h =
     let seven = unless-at 7 _ _ (six .1) in
     let eight = unless-at 8 _ _ (seven .1) in
     let ten = unless-at 10 _ _ (u .1) in
-    subst (Ready rest n offsets t) (done-injective (u .2)) (record { laid = L; tabled = T; parents = five .0; entry-marks = eight .0; siblings = ten .0 })
+    let eleventh = unless-at 11 _ _ (ten .1) in
+    subst (Ready rest n offsets t) (done-injective (u .2)) (record { laid = L; tabled = T; parents = five .0; entry-marks = eight .0; siblings = ten .0; exits = eleventh .0 })
 
 -- the chart of the records, or the number of their fault
 module _ (n : Counts) (s : List ℕ) where

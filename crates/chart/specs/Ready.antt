@@ -8,7 +8,7 @@ use Rattle.reading.specs.Answer.{Answer, _>>=_}
 use Rattle.reading.specs.declared.field.Fault.{Fault}
 use Rattle.reading.specs.declared.field.Fault.the-variants as Fl
 use Rattle.chart_records.specs.Chart.{Chart, records, numbered}
-use Rattle.chart_records.specs.Rules.{parents, entryMarks, siblings, keepsRules}
+use Rattle.chart_records.specs.Rules.{parents, entryMarks, siblings, exits, keepsRules}
 use Rattle.chart_records.specs.Laid.{Laid}
 use Rattle.chart_tree.specs.Table.{Tabled}
 use Rattle.chart_records.specs.declared.header.Counts.{Counts}
@@ -36,3 +36,4 @@ pub record Ready (rest : List ℕ) (n : Counts) (offsets : List ℕ) (t : Tree) 
   pub parents : parents c ≡ true
   pub entry-marks : entryMarks c ≡ true
   pub siblings : all (siblings c) (c .transitions) ≡ true
+  pub exits : all (exits c) (c .transitions) ≡ true

@@ -16,6 +16,7 @@ use chart::check::checked;
 use chart_moves::activity::is_tree;
 use chart_moves::allowed::all_active;
 use chart_moves::allowed::is_allowed;
+use chart_moves::completion::complete_exits;
 use chart_moves::configuration::Configuration;
 use chart_moves::taken;
 use chart_records::header::Counts;
@@ -144,10 +145,11 @@ fn step_checked(
     if !steps::step::known(list, counts.transitions as usize) {
         return refuse(18, given);
     }
-    if !all_active(rest, counts, offsets, tree, given, list) {
+    let complete = complete_exits(tree, given.active);
+    if !all_active(rest, counts, offsets, given, &complete, list) {
         return refuse(19, given);
     }
-    let allowed = is_allowed(rest, counts, offsets, tree, given, list);
+    let allowed = is_allowed(rest, counts, offsets, given, &complete, list);
     let after = taken::after(rest, counts, offsets, tree, given, list);
     let within = after.within;
     let next = after.configuration;

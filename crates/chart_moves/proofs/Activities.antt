@@ -1,4 +1,4 @@
--- The active states by the tables: a tree, completion, and what a step makes of them.
+-- The active states by the tables: a tree, and what a step makes of them.
 use mathlib.Core.Path.{_≡_, refl, sym, ap, _∙_, fun-ext}
 use mathlib.Core.Bool.{Bool, true, false, not, _&&_, _||_, and-false, or-false}
 use mathlib.Core.Logic.{_≢_}
@@ -15,9 +15,9 @@ use Rattle.lists.proofs.Lists.{all-map, all-both, keep-keep}
 use Rattle.lists.proofs.Below.{below-next, below-end}
 use Rattle.chart_records.specs.Chart.{Chart, Transition, stateAt, states, parentOf, basic, sequential, parallel}
 use Rattle.chart_records.specs.Tree.{under, children}
-use Rattle.chart_moves.specs.Machine.{isActive, isTree, completed, activeAfter}
+use Rattle.chart_moves.specs.Machine.{isActive, isTree, activeAfter}
 use Rattle.chart_tree.specs.Table.{Rooted, adding, passing, Tabled}
-use Rattle.chart_moves.specs.Active.{Shown, Moved, linked, single, exitsBelow, belowNone}
+use Rattle.chart_moves.specs.Active.{Shown, Moved, linked, single, belowNone}
 use Rattle.chart_moves.specs.declared.configuration.Configuration.{Configuration}
 use Rattle.chart_moves.specs.declared.moves.Moves.{Moves}
 use Rattle.chart_records.proofs.Tree.{size, parents-at, parent-known}
@@ -74,23 +74,6 @@ module _ (c : Chart) (σ : Configuration) (above kinds : List ℕ) (active : Lis
   unfolding implies sequential
   single-is q h k z a t e = rw (kind-is q h k, eq-eqb _ 1 z, active-is q (sym t ∙ a), e)
 
-  -- completion
-  module _ (m e s : ℕ) (h : s < size c) where
-    pub exits-idle : {a : Bool} → a ≡ getD active s false → a ≡ false → true ≡ exitsBelow c σ m e s
-    unfolding implies
-    exits-idle a t = rw (active-is s (sym t ∙ a))
-
-    pub exits-composite : {k : ℕ} → k ≡ getD kinds s 0 → k ≢ 0 → true ≡ exitsBelow c σ m e s
-    unfolding basic
-    exits-composite k z = rw (kind-is s h k, ne-eqb _ 0 z) (sym (implies-never (isActive σ s) _))
-
-    pub exits-elsewhere : under c m s ≡ false → true ≡ exitsBelow c σ m e s
-    exits-elsewhere u = rw (u, and-false (basic c s)) (sym (implies-never (isActive σ s) _))
-
-    pub exits-marked : {a : Bool} {k x : ℕ} → a ≡ getD active s false → a ≡ true → k ≡ getD kinds s 0 → k ≡ 0 → under c m s ≡ true → x ≡ stateAt c s .exits → has x e ≡ exitsBelow c σ m e s
-    unfolding implies basic
-    exits-marked a t k z u x = rw (active-is s (sym t ∙ a), kind-is s h k, eq-eqb _ 0 z, u, x)
-
 -- an active child of q
 unfoldable pub activeChild : Chart → Configuration → ℕ → ℕ → Bool
 activeChild c σ q s = (not (eqb s 0) && eqb (parentOf c s) q) && isActive σ s
@@ -130,10 +113,6 @@ module _ (c : Chart) (σ : Configuration) (active : List Bool) (n : ℕ) (a : σ
 
   pub tree-rest : {b d : Bool} → getD active 0 false ≡ true → b ≡ all (λ s. linked c σ s && single c σ s) (below n) → b ≡ true → d ≡ all not (drop n active) → d ≡ isTree c σ
   tree-rest h q k r = sym (tree-is ∙ rw (h, sym q, k) (sym r))
-
-pub completed-is : (c : Chart) (σ : Configuration) (m e n : ℕ) → n ≡ size c → completed c σ m e ≡ all (exitsBelow c σ m e) (below n)
-unfolding completed states
-completed-is c σ m e n q = ap (λ (k : ℕ). all (exitsBelow c σ m e) (below k)) (sym q)
 
 -- what is left of the active states
 module _ (c : Chart) (s n : ℕ) (q : n ≡ size c) where

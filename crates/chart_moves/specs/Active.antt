@@ -29,10 +29,6 @@ linked c σ s = eqb s 0 || (implies (isActive σ s) (isActive σ (parentOf c s))
 abbrev pub single : Chart → Configuration → ℕ → Bool
 single c σ q = implies (sequential c q && isActive σ q) (eqb (length (keep (isActive σ) (children c q))) 1)
 
--- a state is marked with the exit, if it is active, basic and at or below m
-abbrev pub exitsBelow : Chart → Configuration → ℕ → ℕ → ℕ → Bool
-exitsBelow c σ m e s = implies (isActive σ s && (basic c s && under c m s)) (has (stateAt c s .exits) e)
-
 -- a state lies below none of these
 abbrev pub belowNone : Chart → List ℕ → ℕ → Bool
 belowNone c sources s = all (λ m. not (under c m s)) sources

@@ -1,4 +1,4 @@
-// The active states: whether they are a tree, completion, and what a step makes of them.
+// The active states: whether they are a tree, and what a step makes of them.
 ghost use mathlib.Core.Path.{_≡_};
 ghost use mathlib.Core.Bool.{true, false, not, _&&_};
 ghost use mathlib.Core.List.{List, map};
@@ -9,9 +9,9 @@ ghost use Rattle.lists.specs.Lists.{all, below, keep};
 ghost use Rattle.chart_records.specs.Chart.{Chart, Transition};
 ghost use Rattle.chart_records.specs.Tree.{children};
 ghost use Rattle.chart_records.specs.Rules.{parents, entryMarks};
-ghost use Rattle.chart_moves.specs.Machine.{isActive, isTree, completed, activeAfter};
-ghost use Rattle.chart_tree.specs.Table.{Column, Tabled, Rooted, passing};
-ghost use Rattle.chart_moves.specs.Active.{Shown, Moved, linked, single, exitsBelow, belowNone};
+ghost use Rattle.chart_moves.specs.Machine.{isActive, isTree, activeAfter};
+ghost use Rattle.chart_tree.specs.Table.{Tabled, Rooted, passing};
+ghost use Rattle.chart_moves.specs.Active.{Shown, Moved, linked, single, belowNone};
 ghost use Rattle.chart_moves.specs.declared.configuration.Configuration.{Configuration};
 use crate::moves::Moves;
 use crate::moves::enter_all;
@@ -19,7 +19,6 @@ use chart_tree::table::Tree;
 use chart_tree::table::is_child;
 use chart_tree::table::is_in;
 use chart_tree::table::under;
-use lists::mark::has;
 use lists::number::least;
 use reading::field::byte_at;
 
@@ -120,48 +119,6 @@ pub fn is_tree(t: Tree, active: [bool; 48]) -> bool
         return false;
     }
     none_from(&active, states)
-}
-
-// Whether the state is marked with the exit, if it is active, basic and at or below m.
-fn exits_below(
-    parents: &[u8],
-    kinds: &[u8],
-    exits: &[u8],
-    active: &[bool],
-    m: usize,
-    exit: u8,
-    s: usize,
-) -> bool
-    ensures { λ r. ⌜ ((c : Chart) (σ : Configuration) → Shown c σ (now (parents .entry)) (now (kinds .entry)) (now (active .entry)) → Column (λ x. x .exits) c (now (exits .entry)) → s < length (c .states) → r ≡ exitsBelow c σ m exit s) ⌝ }
-{
-    if !is_in(active, s) {
-        return true;
-    }
-    if byte_at(kinds, s) != 0 {
-        return true;
-    }
-    if !under(parents, m, s) {
-        return true;
-    }
-    has(byte_at(exits, s) as u32, exit as u32)
-}
-
-// Whether every active basic state at or below m is marked with the exit.
-pub fn completed(t: Tree, active: [bool; 48], m: u8, exit: u8) -> bool
-    ensures { λ r. ⌜ ((c : Chart) (σ : Configuration) → Tabled c t → parents c ≡ true → σ .active ≡ active → r ≡ completed c σ m exit) ⌝ }
-{
-    let parents = t.parents;
-    let kinds = t.kinds;
-    let exits = t.exits;
-    let states = t.states as usize;
-    let mut s = 0;
-    while s < states {
-        if !exits_below(&parents, &kinds, &exits, &active, m as usize, exit, s) {
-            return false;
-        }
-        s += 1;
-    }
-    true
 }
 
 // Whether the state lies below none of the sources.

@@ -12,8 +12,8 @@ ghost use Rattle.chart_records.specs.Chart.{Chart, transitionAt, home};
 ghost use Rattle.chart_moves.specs.Machine.{activeTransition};
 ghost use Rattle.chart_moves.specs.Active.{receivingHome, isMaximal, isAllowed};
 ghost use Rattle.chart_records.specs.Laid.{Laid};
-ghost use Rattle.chart.specs.Ready.{Ready};
-use crate::activity::completed;
+ghost use Rattle.chart_moves.specs.Completion.{Prepared};
+use crate::completion::is_complete;
 use crate::configuration::Configuration;
 use chart_records::header::Counts;
 use chart_records::state::kind_of;
@@ -23,7 +23,6 @@ use chart_records::transition::exit_of;
 use chart_records::transition::home_of;
 use chart_records::transition::signal_of;
 use chart_records::transition::source_of;
-use chart_tree::table::Tree;
 use chart_tree::table::is_in;
 use lists::number::least;
 use steps::step::Case;
@@ -67,11 +66,11 @@ fn is_active(
     rest: &[u8],
     counts: Counts,
     offsets: &[u32],
-    tree: Tree,
     given: Configuration,
+    complete: &[u8],
     t: u8,
 ) -> bool
-    ensures { λ r. ⌜ ((c : Chart) → Ready (now (rest .entry)) counts (now (offsets .entry)) tree c → t < counts .transitions → r ≡ activeTransition c given (transitionAt c t)) ⌝ }
+    ensures { λ r. ⌜ ((c : Chart) → Prepared (now (rest .entry)) counts (now (offsets .entry)) given (now (complete .entry)) c → t < counts .transitions → r ≡ activeTransition c given (transitionAt c t)) ⌝ }
 {
     let active = given.active;
     let variables = given.variables;
@@ -86,7 +85,7 @@ fn is_active(
     if kind_of(rest, counts, source) == 0 {
         return true;
     }
-    completed(tree, active, source, exit_of(rest, offsets, t))
+    is_complete(complete, source, exit_of(rest, offsets, t))
 }
 
 // Whether each transition of a list is active.
@@ -94,16 +93,16 @@ pub fn all_active(
     rest: &[u8],
     counts: Counts,
     offsets: &[u32],
-    tree: Tree,
     given: Configuration,
+    complete: &[u8],
     list: &[u16],
 ) -> bool
-    ensures { λ r. ⌜ ((c : Chart) → Ready (now (rest .entry)) counts (now (offsets .entry)) tree c → known (counts .transitions) (now (list .entry)) ≡ true → r ≡ all (activeTransition c given) (map (transitionAt c) (now (list .entry)))) ⌝ }
+    ensures { λ r. ⌜ ((c : Chart) → Prepared (now (rest .entry)) counts (now (offsets .entry)) given (now (complete .entry)) c → known (counts .transitions) (now (list .entry)) ≡ true → r ≡ all (activeTransition c given) (map (transitionAt c) (now (list .entry)))) ⌝ }
 {
     let mut i = 0;
     while i < list.len() {
         let t = chosen(list, i);
-        if !is_active(rest, counts, offsets, tree, given, t) {
+        if !is_active(rest, counts, offsets, given, complete, t) {
             return false;
         }
         i += 1;
@@ -162,12 +161,12 @@ fn receiver_home(
     rest: &[u8],
     counts: Counts,
     offsets: &[u32],
-    tree: Tree,
     given: Configuration,
+    complete: &[u8],
     channel: u8,
     t: u8,
 ) -> u8
-    ensures { λ r. ⌜ ((c : Chart) → Ready (now (rest .entry)) counts (now (offsets .entry)) tree c → t < counts .transitions → r ≡ receivingHome c given channel t) ⌝ }
+    ensures { λ r. ⌜ ((c : Chart) → Prepared (now (rest .entry)) counts (now (offsets .entry)) given (now (complete .entry)) c → t < counts .transitions → r ≡ receivingHome c given channel t) ⌝ }
 {
     if signal_of(rest, offsets, t) != 2 {
         return 255;
@@ -175,7 +174,7 @@ fn receiver_home(
     if channel_of(rest, offsets, t) != channel {
         return 255;
     }
-    if !is_active(rest, counts, offsets, tree, given, t) {
+    if !is_active(rest, counts, offsets, given, complete, t) {
         return 255;
     }
     home_of(rest, counts, offsets, t)
@@ -186,11 +185,11 @@ fn receiver_homes(
     rest: &[u8],
     counts: Counts,
     offsets: &[u32],
-    tree: Tree,
     given: Configuration,
+    complete: &[u8],
     channel: u8,
 ) -> [u8; 64]
-    ensures { λ r. ⌜ ((c : Chart) → Ready (now (rest .entry)) counts (now (offsets .entry)) tree c → take (counts .transitions) r ≡ map (receivingHome c given channel) (below (counts .transitions))) ⌝ }
+    ensures { λ r. ⌜ ((c : Chart) → Prepared (now (rest .entry)) counts (now (offsets .entry)) given (now (complete .entry)) c → take (counts .transitions) r ≡ map (receivingHome c given channel) (below (counts .transitions))) ⌝ }
 {
     let mut homes = [0; 64];
     let mut t = 0;
@@ -199,7 +198,7 @@ fn receiver_homes(
         if i >= 64 {
             return homes;
         }
-        homes[i] = receiver_home(rest, counts, offsets, tree, given, channel, t);
+        homes[i] = receiver_home(rest, counts, offsets, given, complete, channel, t);
         t += 1;
     }
     homes
@@ -210,14 +209,14 @@ fn is_maximal(
     rest: &[u8],
     counts: Counts,
     offsets: &[u32],
-    tree: Tree,
     given: Configuration,
+    complete: &[u8],
     channel: u8,
     list: &[u16],
 ) -> bool
-    ensures { λ r. ⌜ ((c : Chart) → Ready (now (rest .entry)) counts (now (offsets .entry)) tree c → known (counts .transitions) (now (list .entry)) ≡ true → r ≡ isMaximal c given channel (now (list .entry))) ⌝ }
+    ensures { λ r. ⌜ ((c : Chart) → Prepared (now (rest .entry)) counts (now (offsets .entry)) given (now (complete .entry)) c → known (counts .transitions) (now (list .entry)) ≡ true → r ≡ isMaximal c given channel (now (list .entry))) ⌝ }
 {
-    let receivers = receiver_homes(rest, counts, offsets, tree, given, channel);
+    let receivers = receiver_homes(rest, counts, offsets, given, complete, channel);
     let homes = homes_of(rest, counts, offsets, list);
     let transitions = least(counts.transitions as usize, 64);
     let count = least(list.len(), 16);
@@ -229,11 +228,11 @@ pub fn is_allowed(
     rest: &[u8],
     counts: Counts,
     offsets: &[u32],
-    tree: Tree,
     given: Configuration,
+    complete: &[u8],
     list: &[u16],
 ) -> bool
-    ensures { λ r. ⌜ ((c : Chart) → Ready (now (rest .entry)) counts (now (offsets .entry)) tree c → known (counts .transitions) (now (list .entry)) ≡ true → r ≡ isAllowed c given (now (list .entry))) ⌝ }
+    ensures { λ r. ⌜ ((c : Chart) → Prepared (now (rest .entry)) counts (now (offsets .entry)) given (now (complete .entry)) c → known (counts .transitions) (now (list .entry)) ≡ true → r ≡ isAllowed c given (now (list .entry))) ⌝ }
 {
     let members = members_of(rest, counts, offsets, list);
     let case = steps::step::case_of(members, list.len(), counts.rendezvous);
@@ -241,7 +240,7 @@ pub fn is_allowed(
         Case::Refused => false,
         Case::Allowed => true,
         Case::Broadcast(channel) => {
-            is_maximal(rest, counts, offsets, tree, given, channel, list)
+            is_maximal(rest, counts, offsets, given, complete, channel, list)
         }
     }
 }

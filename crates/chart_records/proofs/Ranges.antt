@@ -59,7 +59,7 @@ pub record TransitionRange (states entries exits : ℕ) (l : Limits) (channels l
 one-of : (n m k : ℕ) → (ltb n m || eqb n k) ≡ true → (n < m) ⊎ (n ≡ k)
 one-of n m k h = ⊎-elim (λ e. inl (ltb-true n m e)) (λ e. inr (eqb-true n k e)) (or-cases (ltb n m) (eqb n k) h)
 
-transition-range : (states entries exits : ℕ) (l : Limits) (channels : ℕ) (s : List ℕ) {x : Transition} → transition states entries exits l channels s ≡ got x [] → TransitionRange states entries exits l channels (length s) x
+pub transition-range : (states entries exits : ℕ) (l : Limits) (channels : ℕ) (s : List ℕ) {x : Transition} → transition states entries exits l channels s ≡ got x [] → TransitionRange states entries exits l channels (length s) x
 unfolding transition
 transition-range states entries exits l channels s {x} h =
     let a = bind-at _ _ s h in

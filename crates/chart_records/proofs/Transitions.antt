@@ -1,6 +1,7 @@
 -- Transition records in a checked file: where each stands, and where its fields do.
 use mathlib.Core.Path.{_≡_, refl, sym, ap, ap₂, _∙_, subst}
 use mathlib.Core.Bool.{Bool, true, _&&_}
+use mathlib.Core.Logic.{_⊎_}
 use mathlib.Core.List.{List, [], _∷_, _++_}
 use Prim.Native.Nat.{ℕ, _+_, _≤_, _<_}
 use native.Mathlib.Omega.{arith}
@@ -12,6 +13,7 @@ use Rattle.reading.specs.Reading.{Fault, got, fault, Reader, byte2, many, recor
 use Rattle.labels.specs.Label.{Limits, limits, body, label}
 use Rattle.reading.specs.Places.{onward}
 use Rattle.reading.proofs.Reading.{got-value, bind-at, yield-at, mapped-got, mapped-at, fault-at}
+use Rattle.reading.proofs.Lengths.{byte2-consumes, recorded-all}
 use Rattle.reading.proofs.Places.{onward-onward}
 use Rattle.labels.proofs.Labels.{label-parts}
 use Rattle.reading.proofs.Sizes.{byte2-takes, recorded-part, byte-here}
@@ -21,6 +23,7 @@ use Rattle.chart_records.specs.Chart.{Chart, Transition, transition, tra
 use Rattle.chart_records.specs.Layout.{transitionBy}
 use Rattle.chart_records.specs.Laid.{Laid}
 use Rattle.chart_records.specs.declared.header.Counts.{Counts}
+use Rattle.chart_records.proofs.Ranges.{transition-range}
 
 -- the fields of a transition whose record stands at a place
 pub record Parts (l : Limits) (s : List ℕ) (at : ℕ) (x : Transition) : Type 0 where
@@ -62,6 +65,13 @@ parts n s at h =
 pub laid-parts : {rest : List ℕ} {n : Counts} {offsets : List ℕ} {c : Chart} → Laid rest n offsets c → (t : ℕ) → t < n .transitions → Parts (limits (n .version) (n .clocks) (n .variables)) rest (getD offsets t 0) (transitionAt c t)
 unfolding transitionAt
 laid-parts {rest} {n} {offsets} L t h = parts n rest (getD offsets t 0) (L .placed t h .1)
+
+-- its exit is one that the header declares, or none
+pub laid-exit : {rest : List ℕ} {n : Counts} {offsets : List ℕ} {c : Chart} → Laid rest n offsets c → (t : ℕ) → t < n .transitions → (transitionAt c t .exit < n .exits) ⊎ (transitionAt c t .exit ≡ 255)
+unfolding transitionAt
+laid-exit {rest} {n} {offsets} L t h =
+    let u = recorded-all 2 byte2 byte2-consumes _ (onward rest (getD offsets t 0)) (L .placed t h .1) in
+    transition-range (n .states) (n .entries) (n .exits) (limits (n .version) (n .clocks) (n .variables)) (n .rendezvous + n .broadcasts) (u .0) (u .1) .exit-known
 
 -- a loop that reads so many elements, tests each, and keeps where each stands
 pub record Kept {A : Type 0} (r : Reader A) (d : A) (p : A → Bool) (n : ℕ) (rest b left : List ℕ) (i : ℕ) (passed : Bool) (offsets : List ℕ) : Type 0 where

@@ -11,10 +11,10 @@ use lib.Bits as Words
 use lib.Dec.{eqb}
 use lib.ListN.{length, getD, set, length-set}
 use lib.Seq.{getD-set-same, getD-set-other}
-use Rattle.lists.specs.Lists.{has, any, bitsFrom, bitsOf}
+use Rattle.lists.specs.Lists.{has, any}
 use Rattle.lists.proofs.Bools.{clash, decided, fails, and-l, and-r, both, not-yes, same, cond-yes, cond-no}
 use Rattle.lists.proofs.Lists.{any-at, any-by, any-same}
-use Rattle.lists.proofs.Bits.{has-low, has-zero, has-bitsOf, has-xor}
+use Rattle.lists.proofs.Bits.{has-low, has-zero, has-byte, has-xor}
 use Rattle.chart_records.specs.Chart.{Chart, stateAt, states, basic, sequential}
 use Rattle.chart_records.specs.Tree.{under, fixed, shares}
 use Rattle.chart_tree.specs.Table.{Column}
@@ -25,14 +25,10 @@ use Rattle.flatten_places.specs.Tables.{FixedKinds, FixedIn}
 use Rattle.flatten_places.specs.Filling.{barsBy}
 use Rattle.flatten_places.specs.Walking.{Gathered}
 
--- all eight exits, and those that are not in a set
-all-exits : (e : ℕ) → e < 8 → has 255 e ≡ true
-unfolding bitsOf bitsFrom
-all-exits e h = has-bitsOf (λ i. true) 8 e h
-
+-- the exits that are not in a set
 pub has-not : (x e : ℕ) → e < 8 → has (Words.bitXor x 255) e ≡ not (has x e)
 unfolding xor
-has-not x e h = has-xor x 255 e ∙ ap (xor (has x e)) (all-exits e h) ∙ go (has x e)
+has-not x e h = has-xor x 255 e ∙ ap (xor (has x e)) (has-byte e h) ∙ go (has x e)
   where
     go : (b : Bool) → xor b true ≡ not b
     go true = refl
@@ -44,7 +40,7 @@ module _ (kind exits e : ℕ) where
   bars-basic z h = has-not exits e h ∙ sym (cond-yes _ _ (eq-eqb kind 0 z))
 
   pub bars-sequential : kind ≡ 1 → e < 8 → has 255 e ≡ barsBy kind exits e
-  bars-sequential z h = all-exits e h ∙ sym (cond-no _ _ (ne-eqb kind 0 (λ y. omega arith)) ∙ eq-eqb kind 1 z)
+  bars-sequential z h = has-byte e h ∙ sym (cond-no _ _ (ne-eqb kind 0 (λ y. omega arith)) ∙ eq-eqb kind 1 z)
 
   pub bars-parallel : kind ≢ 0 → kind ≢ 1 → has 0 e ≡ barsBy kind exits e
   bars-parallel y z = has-zero e ∙ sym (cond-no _ _ (ne-eqb kind 0 y) ∙ ne-eqb kind 1 z)

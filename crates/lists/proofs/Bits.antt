@@ -74,6 +74,11 @@ module _ (p : ℕ → Bool) where
   pub has-bitsOf : (n i : ℕ) → i < n → has (bitsOf p n) i ≡ p i
   has-bitsOf n i h = has-bits n i ∙ ap (λ (b : Bool). b && p i) (lt-ltb i n h)
 
+-- a full byte has each of eight
+pub has-byte : (i : ℕ) → i < 8 → has 255 i ≡ true
+unfolding bitsOf bitsFrom
+has-byte i h = has-bitsOf (λ i. true) 8 i h
+
 digit-and : (x y : ℕ) → x < 2 → y < 2 → eqb (Words.bitAnd x y) 1 ≡ (eqb x 1 && eqb y 1)
 digit-and zero zero h k = refl
 digit-and zero (suc zero) h k = refl

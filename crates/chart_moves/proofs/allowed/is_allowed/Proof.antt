@@ -23,13 +23,13 @@ is-maximal-requires : tie.Need-is-maximal-requires
 is-maximal-requires c κs = search needs
 
 returns : tie.Need-returns
-returns c = λ k R h. sym (allowed-by R _ _ h (c .before .before .case-of .ensures) (c .before .before .before .members-of .ensures k (R .laid) h) (c .enum-told .given .1))
+returns c = λ k R h. sym (allowed-by _ R _ h (c .before .before .case-of .ensures) (c .before .before .before .members-of .ensures k (R .ready .laid) h) (c .enum-told .given .1))
 
 returns-2 : tie.Need-returns-2
-returns-2 c = λ k R h. sym (allowed-by R _ _ h (c .before .before .case-of .ensures) (c .before .before .before .members-of .ensures k (R .laid) h) (c .enum-told2 .given .1))
+returns-2 c = λ k R h. sym (allowed-by _ R _ h (c .before .before .case-of .ensures) (c .before .before .before .members-of .ensures k (R .ready .laid) h) (c .enum-told2 .given .1))
 
 returns-3 : tie.Need-returns-3
-returns-3 c = λ k R h. c .is-maximal .ensures k R h ∙ sym (allowed-by R _ _ h (c .before .before .before .before .case-of .ensures) (c .before .before .before .before .before .members-of .ensures k (R .laid) h) (c .before .before .case .given .1))
+returns-3 c = λ k R h. c .is-maximal .ensures k R h ∙ sym (allowed-by _ R _ h (c .before .before .before .before .case-of .ensures) (c .before .before .before .before .before .members-of .ensures k (R .ready .laid) h) (c .before .before .case .given .1))
 
 pub is-allowed-spec : {M : Type 1} → statement M
 is-allowed-spec =

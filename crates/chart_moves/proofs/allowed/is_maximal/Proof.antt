@@ -48,8 +48,8 @@ returns c =
     let place-2 = place-1 .before .before .before in
     let homes-of = place-2 .homes-of in
     let receiver-homes = place-2 .before .receiver-homes in
-    λ k R h. c .maximal .ensures ∙ maximal-by R _ _ h _ _ _ (least .ensures) (least2 .ensures) (receiver-homes .ensures k R)
-    (homes-of .ensures k (R .laid) h)
+    λ k R h. c .maximal .ensures ∙ maximal-by _ R _ h _ _ _ (least .ensures) (least2 .ensures) (receiver-homes .ensures k R)
+    (homes-of .ensures k (R .ready .laid) h)
 
 pub is-maximal-spec : {M : Type 1} → statement M
 is-maximal-spec =

@@ -8,13 +8,13 @@ signal-of-requires : tie.Need-signal-of-requires
 signal-of-requires c κs = search needs
 
 returns : tie.Need-returns
-returns c = λ k R h. owner-unheard _ _ _ _ (c .before .signal-of .ensures k _ (R .laid) h) (c .if1 .taken)
+returns c = λ k R h. owner-unheard _ _ _ _ (c .before .signal-of .ensures k _ (R .ready .laid) h) (c .if1 .taken)
 
 channel-of-requires : tie.Need-channel-of-requires
 channel-of-requires c κs = search needs
 
 returns-2 : tie.Need-returns-2
-returns-2 c = λ k R h. owner-elsewhere _ _ _ _ (c .before .before .before .signal-of .ensures k _ (R .laid) h) (c .before .before .if1 .left) (c .before .channel-of .ensures k _ (R .laid) h) (c .if2 .taken)
+returns-2 c = λ k R h. owner-elsewhere _ _ _ _ (c .before .before .before .signal-of .ensures k _ (R .ready .laid) h) (c .before .before .if1 .left) (c .before .channel-of .ensures k _ (R .ready .laid) h) (c .if2 .taken)
 
 is-active-requires : tie.Need-is-active-requires
 is-active-requires c κs = search needs
@@ -25,7 +25,7 @@ returns-3 c =
     let channel-of = place-1 .channel-of in
     let if1 = place-1 .before .if1 in
     let signal-of = place-1 .before .before .signal-of in
-    λ k R h. owner-idle _ _ _ _ (signal-of .ensures k _ (R .laid) h) (if1 .left) (channel-of .ensures k _ (R .laid) h) (c .before .before .if2 .left)
+    λ k R h. owner-idle _ _ _ _ (signal-of .ensures k _ (R .ready .laid) h) (if1 .left) (channel-of .ensures k _ (R .ready .laid) h) (c .before .before .if2 .left)
     (c .before .is-active .ensures k R h) (not-true _ (c .if3 .taken))
 
 home-of-requires : tie.Need-home-of-requires
@@ -38,8 +38,8 @@ returns-4 c =
     let channel-of = place-1 .before .channel-of in
     let if1 = place-1 .before .before .if1 in
     let signal-of = place-1 .before .before .before .signal-of in
-    λ k R h. owner-hears _ _ _ _ (signal-of .ensures k _ (R .laid) h) (if1 .left) (channel-of .ensures k _ (R .laid) h) (if2 .left)
-    (c .before .before .is-active .ensures k R h) (not-false _ (c .before .if3 .left)) (c .home-of .ensures k (R .laid) h)
+    λ k R h. owner-hears _ _ _ _ (signal-of .ensures k _ (R .ready .laid) h) (if1 .left) (channel-of .ensures k _ (R .ready .laid) h) (if2 .left)
+    (c .before .before .is-active .ensures k R h) (not-false _ (c .before .if3 .left)) (c .home-of .ensures k (R .ready .laid) h)
 
 pub receiver-home-spec : {M : Type 1} → statement M
 receiver-home-spec =

@@ -1,0 +1,21 @@
+use mathlib.Core.Path.{ap, _∙_}
+use Prim.Native.Nat.{ℕ}
+use Rattle.lists.specs.Lists.{has}
+use borrow.Author.Needs.{needs}
+use Rattle.chart_moves.proofs.completion.is_complete.Statement.{statement}
+use Rattle.chart_moves.proofs.completion.is_complete.Tie as tie
+
+byte-at-requires : tie.Need-byte-at-requires
+byte-at-requires c κs = search needs
+
+cast-has : tie.Need-cast-has
+cast-has c = search needs
+
+has-requires : tie.Need-has-requires
+has-requires c κs = search needs
+
+returns : tie.Need-returns
+returns c = c .has .ensures ∙ ap (λ (x : ℕ). has x (c .before .before .before .args .exit)) (c .before .byte-at .ensures)
+
+pub is-complete-spec : {M : Type 1} → statement M
+is-complete-spec = tie.close (tie.spec byte-at-requires cast-has has-requires returns)
