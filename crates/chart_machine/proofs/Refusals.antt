@@ -14,6 +14,7 @@ use Rattle.reading.specs.Answer.{done, refused, unless}
 use Rattle.reading.proofs.Answer.{unless-by}
 use Rattle.chart_records.specs.Chart.{Chart, Transition, transitionAt, states, home}
 use Rattle.chart_moves.specs.Machine.{isTree, boundsKept, isConfiguration, activeTransition, after, tested, step, wait, ticksUnder, longest}
+use Rattle.chart_moves.specs.Completion.{CompleteIn, Prepared}
 use Rattle.chart.specs.Ready.{Ready}
 use Rattle.chart_machine.specs.Outcomes.{stands, Grown}
 use Rattle.chart_records.specs.declared.header.Counts.{Counts}
@@ -22,6 +23,9 @@ use Rattle.chart_moves.specs.declared.configuration.Configuration.{Configuratio
 
 pub grown-of : {rest : List ℕ} {n : Counts} {offsets : List ℕ} {tree : Tree} {c : Chart} → Ready rest n offsets tree c → Grown rest n tree c
 grown-of R = record { stated = R .laid .stated; tabled = R .tabled; parents = R .parents }
+
+pub prepared : {rest : List ℕ} {n : Counts} {offsets rows : List ℕ} {tree : Tree} {σ : Configuration} (c : Chart) → Ready rest n offsets tree c → CompleteIn c σ rows → Prepared rest n offsets σ rows c
+prepared {tree = tree} c R C = record { tree = tree; ready = R; complete = C }
 
 -- 17: what stands in the chart and keeps its bounds
 last : (a b c d k : Bool) → ((a && (b && (c && d))) && k) ≡ (a && (b && (c && (d && k))))

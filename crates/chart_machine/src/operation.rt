@@ -145,7 +145,8 @@ fn step_checked(
     if !steps::step::known(list, counts.transitions as usize) {
         return refuse(18, given);
     }
-    let complete = complete_exits(tree, given.active);
+    let before = given.active;
+    let complete = complete_exits(tree, before);
     if !all_active(rest, counts, offsets, given, &complete, list) {
         return refuse(19, given);
     }
