@@ -11,6 +11,7 @@ use crate::expression::Expression;
 use crate::faulty::{self, all_faulty, Faulty};
 use crate::flatten::network_of;
 use crate::generate::{chart_from_wish, Wish};
+use crate::generate_completion::few_completion_requests;
 use crate::generate_longest::{chart_longest_requests, network_longest_requests};
 use crate::generate_range::{chart_end_requests, network_end_requests};
 use crate::guard::{Guard, Relation};
@@ -151,6 +152,7 @@ pub fn vector_file() -> VectorFile {
             choose("network", starts, candidates.network),
             choose("side by side", Vec::new(), candidates.runs),
             choose("range", Vec::new(), candidates.range),
+            choose("completion", few_completion_requests(), Vec::new()),
         ],
     }
 }

@@ -5,10 +5,12 @@
 mod committed;
 
 use reference::compare::Agreed;
+use reference::generate_completion::completion_requests;
 use reference::random::Random;
 use reference::refusal::Refusal;
 use reference::request::Request;
 use reference::special;
+use reference::special_completion::completion_charts;
 use reference::special_sensors;
 
 use committed::vectors;
@@ -56,4 +58,20 @@ fn charts_at_the_limits_agree() {
     agreed.compare(&Request::Flatten(refused.clone(), 1_000));
     agreed.compare(&Request::ChartStart(refused));
     println!("{agreed}");
+}
+
+/// Every basic state of the deep and of the wide chart lacks exits in turn.
+#[test]
+fn completion_agrees() {
+    let mut agreed = Agreed::default();
+    let mut random = Random::new(1);
+    for (_, chart) in completion_charts() {
+        for request in completion_requests(&chart) {
+            agreed.compare(&request);
+        }
+        agreed.compare_chart(&chart, 40, &mut random);
+    }
+    println!("{agreed}");
+    assert!(agreed.refused_with(Refusal::Inactive) > 10_000);
+    assert!(agreed.refused_with(Refusal::NotAllowed) > 10_000);
 }

@@ -22,6 +22,7 @@ use reference::refusal::Refusal;
 use reference::sensors::{has_sensors, plain_states, with_marked_choices};
 use reference::side_by_side::{run_both_lists, Failure, Machines, Tally};
 use reference::special;
+use reference::special_completion;
 use reference::special_sensors;
 use reference::update::{Advance, Update};
 use reference::values::Bounds;
@@ -137,6 +138,8 @@ fn every_clause_holds_on_special_charts() {
         special::most_advances(),
         special::most_levels(),
         special_sensors::most_sensors(),
+        special_completion::deep(),
+        special_completion::wide(),
     ];
     let mut most_owed = 0;
     for chart in charts.into_iter().chain(special_sensors::with_sensors()) {

@@ -1,7 +1,8 @@
 //! The vector file for programs: what is in the repository is what is written, and it covers every
 //! refusal, every kind of guard, relation, signal and place, both versions with every kind of
 //! advance and every fault of one, sensors and plain parallel states at every place, longest waits
-//! decided by everything that can decide one, and results that leave the range at every place.
+//! decided by everything that can decide one, results that leave the range at every place, and steps that
+//! ask whether deep and wide composite states are completed.
 
 use std::fs;
 use std::path::Path;
@@ -12,6 +13,7 @@ use reference::binary_form::{
 };
 use reference::coverage::Counts;
 use reference::faulty::{all_faulty, Faulty};
+use reference::generate_completion::few_completion_requests;
 use reference::longest_reason::Reason;
 use reference::refusal::Refusal;
 use reference::vector_files::{
@@ -382,4 +384,21 @@ fn the_requests_near_the_ends_of_the_range_cover_everything() {
         let wanted = range_parts().into_iter().map(|part| format!("{operation}: {part}"));
         assert_covered(counts, wanted);
     }
+}
+
+/// `tests/completion.rs` has wrong completions that these requests notice.
+#[test]
+fn the_requests_for_completion_cover_everything() {
+    let part = part("completion");
+    assert_eq!(part.requests, few_completion_requests().len());
+    assert_covered(&part.counts, refusals("chart step", [19, 20]));
+    let sets = [
+        "set without signal",
+        "set on a broadcast channel, 0 receivers",
+        "set on a broadcast channel, 1 receivers",
+        "set on a broadcast channel, 3 or more receivers",
+    ];
+    assert_covered(&part.counts, parts("chart step", &sets));
+    let sources = ["from Parallel", "from plain", "exit shut by a sensor"];
+    assert_covered(&part.counts, parts("chart step", &sources));
 }

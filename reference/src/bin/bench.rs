@@ -1,6 +1,8 @@
 //! Times every operation on a small, an ordinary and the largest input, on one with many advances, on one
-//! with many sensors and on one with expressions of the most levels, and flattening on more, and prints
-//! two tables.
+//! with many sensors and on one with expressions of the most levels, flattening on more, and steps that
+//! ask most often whether a composite state is completed, and prints three tables.
+//!
+//! `bench [operations] [flattening] [completion]`: the tables that are named, or all of them.
 //!
 //! Each operation reads its file anew, as its description says. Implementations are compared in
 //! one run over the same inputs: the first of the list is this one; with the feature `proved` the
@@ -8,7 +10,10 @@
 //! chart one of them refuses, as a library from before there were sensors does, is left out, and so is
 //! an operation that they answer differently, as one from before there were longest waits does.
 
+use std::cell::LazyCell;
+use std::env;
 use std::hint::black_box;
+use std::process::ExitCode;
 use std::time::{Duration, Instant};
 
 use reference::chart::Chart;
@@ -20,6 +25,7 @@ use reference::random::Random;
 use reference::refusal::Refusal;
 use reference::request::{Request, Success};
 use reference::special;
+use reference::special_completion::{broadcast_step, completion_charts, plain_step};
 use reference::special_sensors;
 use reference::walk::{chart_requests, network_requests};
 
@@ -45,7 +51,33 @@ const IMPLEMENTATIONS: &[Implementation] = &[
 const LEAST_TIME: Duration = Duration::from_millis(1);
 const ROUNDS: usize = 200;
 
-fn main() {
+/// The names of the tables, in the order in which they are printed.
+const TABLES: [&str; 3] = ["operations", "flattening", "completion"];
+
+fn main() -> ExitCode {
+    let asked: Vec<String> = env::args().skip(1).collect();
+    if asked.iter().any(|name| !TABLES.contains(&name.as_str())) {
+        eprintln!("usage: bench [operations] [flattening] [completion]");
+        return ExitCode::from(2);
+    }
+    let is_asked = |table: &&str| asked.is_empty() || asked.iter().any(|name| name == table);
+    // Made where a table needs them, and once for both.
+    let sizes = LazyCell::new(sizes);
+    for (number, table) in TABLES.into_iter().filter(is_asked).enumerate() {
+        if number > 0 {
+            println!();
+        }
+        match table {
+            "operations" => time_operations(&sizes),
+            "flattening" => time_flattening(&sizes),
+            _ => time_completion(),
+        }
+    }
+    ExitCode::SUCCESS
+}
+
+/// The charts of the first two tables.
+fn sizes() -> Vec<(&'static str, Chart)> {
     let mut charts = vec![
         ("small", special::sample_3()),
         ("ordinary", ordinary()),
@@ -55,13 +87,7 @@ fn main() {
         ("levels", special::most_levels()),
     ];
     charts.retain(|(size, chart)| passes_everywhere(size, chart));
-    time_operations(&charts);
-    println!();
-    time_flattening(charts.into_iter().chain([
-        ("1,024 edges", special::chart_with_edges(1024)),
-        ("refused", special::most_alternatives()),
-        ("longest", special::longest_network()),
-    ]));
+    charts
 }
 
 /// Whether every implementation accepts a chart. If not, it is said which one refuses it.
@@ -78,32 +104,60 @@ fn passes_everywhere(size: &str, chart: &Chart) -> bool {
 
 /// Every operation but flattening.
 fn time_operations(charts: &[(&str, Chart)]) {
-    println!("{:<22}{:<10}{:>8}{}", "operation", "size", "bytes", heading());
+    print_heading("operation");
     let sizes: Vec<(&str, Vec<Request>)> =
         charts.iter().map(|(size, chart)| (*size, inputs(chart))).collect();
     for operation in 0..sizes[0].1.len() {
         for (size, requests) in &sizes {
             let request = &requests[operation];
-            print!("{:<22}{size:<10}{:>8}", operation_name(request), request.file().len());
-            if IMPLEMENTATIONS.iter().any(|one| (one.answer)(request) != request.answer()) {
-                println!("  left out: the answers differ");
-                continue;
-            }
-            print_times(&times(IMPLEMENTATIONS.len(), |number| {
-                let _ = black_box((IMPLEMENTATIONS[number].answer)(black_box(request)));
-            }));
-            println!();
+            time_request(operation_name(request), size, request);
         }
     }
 }
 
+/// Steps of charts whose transitions all have composite sources, beside the check, which every step
+/// makes first.
+fn time_completion() {
+    let mut charts = completion_charts().to_vec();
+    charts.retain(|(size, chart)| passes_everywhere(size, chart));
+    print_heading("completion");
+    for (size, chart) in &charts {
+        time_request("check", size, &Request::Check(chart.write()));
+        time_request("step", size, &plain_step(chart));
+        time_request("broadcast", size, &broadcast_step(chart));
+    }
+}
+
+/// The heading of a table with a request in each row.
+fn print_heading(name: &str) {
+    println!("{name:<22}{:<10}{:>8}{}", "size", "bytes", heading());
+}
+
+/// A row: the times of one request, if all give the same answer.
+fn time_request(name: &str, size: &str, request: &Request) {
+    print!("{name:<22}{size:<10}{:>8}", request.file().len());
+    if IMPLEMENTATIONS.iter().any(|one| (one.answer)(request) != request.answer()) {
+        println!("  left out: the answers differ");
+        return;
+    }
+    print_times(&times(IMPLEMENTATIONS.len(), |number| {
+        let _ = black_box((IMPLEMENTATIONS[number].answer)(black_box(request)));
+    }));
+    println!();
+}
+
 /// Flattening into a buffer that just fits, beside a copy of as many bytes.
-fn time_flattening<'a>(charts: impl Iterator<Item = (&'a str, Chart)>) {
+fn time_flattening(sizes: &[(&str, Chart)]) {
+    let more = [
+        ("1,024 edges", special::chart_with_edges(1024)),
+        ("refused", special::most_alternatives()),
+        ("longest", special::longest_network()),
+    ];
     let columns = format!("{:<22}{:>8}{:>10}", "flatten", "bytes", "network");
     println!("{columns}{}{:>15}{:>8}", heading(), "copy ns", "ratio");
-    for (size, chart) in charts {
+    for (size, chart) in sizes.iter().chain(&more) {
         let file = chart.write();
-        let network = network_of(&chart).map_or(Vec::new(), |network| network.write());
+        let network = network_of(chart).map_or(Vec::new(), |network| network.write());
         let mut buffer = vec![0; network.len()];
         print!("{size:<22}{:>8}{:>10}", file.len(), network.len());
         let all = times(IMPLEMENTATIONS.len() + 1, |number| match IMPLEMENTATIONS.get(number) {
