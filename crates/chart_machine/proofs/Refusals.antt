@@ -14,7 +14,8 @@ use Rattle.reading.specs.Answer.{done, refused, unless}
 use Rattle.reading.proofs.Answer.{unless-by}
 use Rattle.chart_records.specs.Chart.{Chart, Transition, transitionAt, states, home}
 use Rattle.chart_moves.specs.Machine.{isTree, boundsKept, isConfiguration, activeTransition, after, tested, step, wait, ticksUnder, longest}
-use Rattle.chart_moves.specs.Completion.{CompleteIn, Prepared}
+use Rattle.chart_moves.specs.Completion.{CompleteIn}
+use Rattle.chart_steps.specs.Asked.{Prepared}
 use Rattle.chart.specs.Ready.{Ready}
 use Rattle.chart_machine.specs.Outcomes.{stands, Grown}
 use Rattle.chart_records.specs.declared.header.Counts.{Counts}

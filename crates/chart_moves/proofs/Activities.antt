@@ -1,6 +1,6 @@
 -- The active states by the tables: a tree, and what a step makes of them.
 use mathlib.Core.Path.{_≡_, refl, sym, ap, _∙_, fun-ext}
-use mathlib.Core.Bool.{Bool, true, false, not, _&&_, _||_, and-false, or-false}
+use mathlib.Core.Bool.{Bool, true, false, not, _&&_, _||_, or-false}
 use mathlib.Core.Logic.{_≢_}
 use mathlib.Core.List.{List, map}
 use Prim.Native.Nat.{ℕ, _+_, _≤_, _<_}
@@ -9,11 +9,11 @@ use native.Mathlib.Decide.{decLt}
 use borrow.Author.Tests.{eq-eqb, ne-eqb, lt-ltb, le-ltb}
 use lib.Dec.{ltb, eqb}
 use lib.ListN.{length, getD, set, take, drop}
-use Rattle.lists.specs.Lists.{has, all, below, keep, implies}
+use Rattle.lists.specs.Lists.{all, below, keep, implies}
 use Rattle.lists.proofs.Bools.{or-l, implies-never}
 use Rattle.lists.proofs.Lists.{all-map, all-both, keep-keep}
 use Rattle.lists.proofs.Below.{below-next, below-end}
-use Rattle.chart_records.specs.Chart.{Chart, Transition, stateAt, states, parentOf, basic, sequential, parallel}
+use Rattle.chart_records.specs.Chart.{Chart, Transition, stateAt, states, parentOf, sequential, parallel}
 use Rattle.chart_records.specs.Tree.{under, children}
 use Rattle.chart_moves.specs.Machine.{isActive, isTree, activeAfter}
 use Rattle.chart_tree.specs.Table.{Rooted, adding, passing, Tabled}

@@ -2,9 +2,9 @@
 pub mod Active
 pub mod Activities
 pub mod After
-pub mod Choices
 pub mod CompleteSets
 pub mod Destinations
 pub mod Longest
 pub mod Moved
+pub mod Passing
 pub mod Step

@@ -1,14 +1,13 @@
 -- Tests of the active states, state by state, and the tables of a step's moves.
 use Prim.Native.Nat.{ℕ, _≤_}
 use mathlib.Core.Path.{_≡_}
-use mathlib.Core.Bool.{Bool, cond, not, _&&_, _||_}
+use mathlib.Core.Bool.{Bool, not, _&&_, _||_}
 use mathlib.Core.List.{List, map}
 use lib.Dec.{eqb}
 use lib.ListN.{length, take}
-use Rattle.lists.specs.Lists.{has, all, keep, implies}
-use Rattle.labels.specs.Label.{receives}
-use Rattle.steps.specs.Moves.{maximal, allowed}
-use Rattle.chart_records.specs.Chart.{Chart, Transition, stateAt, transitionAt, home, parentOf, basic, sequential, parallel}
+use Rattle.lists.specs.Lists.{all, keep, implies}
+use Rattle.steps.specs.Moves.{allowed}
+use Rattle.chart_records.specs.Chart.{Chart, Transition, transitionAt, home, parentOf, sequential, parallel}
 use Rattle.chart_records.specs.Tree.{under, children}
 use Rattle.chart_moves.specs.Machine.{isActive, activeTransition}
 use Rattle.chart_moves.specs.declared.configuration.Configuration.{Configuration}
@@ -32,15 +31,6 @@ single c σ q = implies (sequential c q && isActive σ q) (eqb (length (keep (is
 -- a state lies below none of these
 abbrev pub belowNone : Chart → List ℕ → ℕ → Bool
 belowNone c sources s = all (λ m. not (under c m s)) sources
-
--- the home of a transition that is active and receives on the channel, and 255 of any other
-abbrev pub receivingHome : Chart → Configuration → ℕ → ℕ → ℕ
-receivingHome c σ channel m = cond (receives (transitionAt c m .label) channel && activeTransition c σ (transitionAt c m)) (home c m) 255
-
--- no further active receiver of the channel fits
-abbrev pub isMaximal : Chart → Configuration → ℕ → List ℕ → Bool
-isMaximal c σ channel ms =
-    maximal (λ m. transitionAt c m .label) (home c) (λ m. activeTransition c σ (transitionAt c m)) (length (c .transitions)) channel ms
 
 -- a set of transitions is allowed
 abbrev pub isAllowed : Chart → Configuration → List ℕ → Bool

@@ -6,9 +6,6 @@ use mathlib.Core.List.{List}
 use lib.ListN.{getD}
 use Rattle.lists.specs.Lists.{has, keep}
 use Rattle.chart_records.specs.Chart.{Chart, states, basic}
-use Rattle.chart_records.specs.declared.header.Counts.{Counts}
-use Rattle.chart_tree.specs.declared.table.Tree.{Tree}
-use Rattle.chart.specs.Ready.{Ready}
 use Rattle.chart_moves.specs.Machine.{isActive, completed}
 use Rattle.chart_moves.specs.declared.configuration.Configuration.{Configuration}
 
@@ -20,9 +17,3 @@ completeSet c σ e = keep (λ m. isActive σ m && (not (basic c m) && completed 
 -- has it
 abbrev pub CompleteIn : Chart → Configuration → List ℕ → Type 0
 CompleteIn c σ rows = (e : ℕ) → e < 8 → keep (λ m. has (getD rows m 0) e) (states c) ≡ completeSet c σ e
-
--- what a step asks of the transitions of a chart that keeps the rules: its records, and the sets in a configuration
-pub record Prepared (rest : List ℕ) (n : Counts) (offsets : List ℕ) (σ : Configuration) (rows : List ℕ) (c : Chart) : Type 0 where
-  pub tree : Tree
-  pub ready : Ready rest n offsets tree c
-  pub complete : CompleteIn c σ rows

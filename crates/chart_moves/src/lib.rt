@@ -1,7 +1,5 @@
-// Configurations of a chart: which transitions are active, which sets are allowed, and what becomes of a configuration.
+// Configurations of a chart: the active states, which of them are complete, and what the moves of a step make of them.
 pub mod activity;
-pub mod allowed;
 pub mod completion;
 pub mod configuration;
 pub mod moves;
-pub mod taken;

@@ -107,4 +107,5 @@ ready-as c {rest} {offsets} R e f T = record {
   parents = R .parents;
   entry-marks = R .entry-marks;
   siblings = R .siblings;
+  exits = R .exits;
 }

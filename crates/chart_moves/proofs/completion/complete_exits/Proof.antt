@@ -11,7 +11,7 @@ use Rattle.chart_tree.specs.Table.{Column}
 use Rattle.chart_moves.specs.Active.{Shown}
 use Rattle.chart_moves.specs.declared.configuration.Configuration.{Configuration}
 use Rattle.chart_moves.proofs.Activities.{shown-of}
-use Rattle.chart_moves.proofs.CompleteSets.{PassedTo, Narrowed, passed-none, passed-next, passed-all, narrowed-long}
+use Rattle.chart_moves.proofs.Passing.{PassedTo, Narrowed, passed-none, passed-next, passed-all, narrowed-long}
 use Rattle.chart_moves.proofs.completion.complete_exits.Statement.{statement}
 use Rattle.chart_moves.proofs.completion.complete_exits.Tie as tie
 
@@ -100,7 +100,7 @@ loop-again c =
       omega (arith, i .1),
       i .2,
       λ d σ S X e.
-          passed-next d σ _ _ (tables .exits) _ S X (l .before .loop .rows) (l .before .loop .s) (l .before .loop .s - 1) (i .3 d σ S X e) (omega (arith, l .loop-test .taken)) (omega (arith, e, i .1, l .loop-test .taken)) (i .0)
+          passed-next d σ _ _ (tables .exits) _ S X (l .before .loop .rows) (l .before .loop .s) (l .before .loop .s - 1) (i .3 d σ S X e) (omega (arith, l .loop-test .taken)) (omega (arith, e, i .1, l .loop-test .taken)) (omega (arith, i .0, i .1, i .2, l .loop-test .taken))
           (own .unbarred-by .result) (own .unbarred-by .ensures) (parent .byte-at .ensures) (c .complete-by .ensures) narrowed,
     )
 

@@ -1,4 +1,4 @@
-use Rattle.chart_moves.proofs.CompleteSets.{unbarred-idle, unbarred-basic, unbarred-composite}
+use Rattle.chart_moves.proofs.Passing.{unbarred-idle, unbarred-basic, unbarred-composite}
 use borrow.Author.Tests.{not-true, not-false}
 use Rattle.chart_moves.proofs.completion.unbarred_by.Statement.{statement}
 use Rattle.chart_moves.proofs.completion.unbarred_by.Tie as tie

@@ -1,0 +1,2 @@
+-- Laws of the definitions of this crate.
+pub mod Choices
