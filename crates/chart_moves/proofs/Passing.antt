@@ -93,7 +93,7 @@ module _ (active : Bool) (kind exits e : ℕ) (h : e < 8) where
   unfolding implies
   unbarred-composite a z = has-byte e h ∙ sym (rw (a, ne-eqb kind 0 z))
 
--- the row of the parent, if there is one, has then what the state does not bar; the root's parent has no smaller number
+-- a state narrows the row of its parent, if it has one: 255, the parent of the root, is no smaller number
 abbrev pub Narrowed : List ℕ → ℕ → ℕ → ℕ → List ℕ → Type 0
 Narrowed rows s up unbarred below = ((up < s) × (below ≡ set rows up (Words.bitAnd (getD rows up 0) unbarred))) ⊎ ((s ≤ up) × (below ≡ rows))
 
@@ -133,16 +133,29 @@ module _ (c : Chart) (σ : Configuration) (above kinds exits : List ℕ) (active
       parent-is : parentOf c s ≡ up
       parent-is = sym (parent ∙ parent-at c above (S .rooted) s in-table)
 
+      -- a parent's row loses what the state bars
+      lowered : List ℕ
+      lowered = set rows up (Words.bitAnd (getD rows up 0) (Words.bitAnd (getD rows s 0) own))
+
+      at-parent : up < s → (x e : ℕ) → x < s → e < 8 → has (getD lowered x 0) e ≡ (has (getD rows x 0) e && implies (eqb (parentOf c s) x) (completed c σ s e))
+      unfolding lowered implies
+      at-parent h x e l k = elim (ℕ-discrete x up) [
+        | yes z ↦ subst (λ (y : ℕ). has (getD lowered y 0) e ≡ (has (getD rows y 0) e && implies (eqb (parentOf c s) y) (completed c σ s e))) (sym z)
+            (ap (λ (y : ℕ). has y e) (getD-set-same rows up _ 0 (omega arith)) ∙ has-and (getD rows up 0) _ e ∙ ap (λ (b : Bool). has (getD rows up 0) e && b) (completes e k ∙ sym (ap (λ (b : Bool). implies b (completed c σ s e)) (eq-eqb (parentOf c s) up parent-is))))
+        | no z ↦ ap (λ (y : ℕ). has y e) (getD-set-other rows up x _ 0 z) ∙ sym (ap (λ (b : Bool). has (getD rows x 0) e && implies b (completed c σ s e)) (ne-eqb (parentOf c s) x (λ q. z (sym q ∙ parent-is))) ∙ and-true (has (getD rows x 0) e))
+      ]
+
+      passed-child : up < s → PassedTo c σ s (set lowered s row)
+      unfolding lowered
+      passed-child h = passed-more c tree σ rows i s P next known lowered row (at-parent h) (λ x l. getD-set-other rows up x _ 0 (λ z. omega arith)) row-is (simp length-set (omega arith))
+
+      -- the root has no parent
+      passed-root : s ≤ up → PassedTo c σ s (set rows s row)
+      passed-root h = passed-more c tree σ rows i s P next known rows row (λ x e l k. absurd (omega (arith, parent-is, tree .smaller s known (λ z. omega arith)))) (λ x l. refl) row-is (omega arith)
+
       pub passed-next : {below : List ℕ} → Narrowed rows s up (Words.bitAnd (getD rows s 0) own) below → PassedTo c σ s (set below s row)
-      unfolding implies
-      passed-next {below} N = ⊎-elim
-          (λ w. subst (λ (l : List ℕ). PassedTo c σ s (set l s row)) (sym (w .1)) (passed-more c tree σ rows i s P next known (set rows up (Words.bitAnd (getD rows up 0) (Words.bitAnd (getD rows s 0) own))) row
-          (λ x e l k. elim (ℕ-discrete x up) [
-            | yes z ↦ subst (λ (y : ℕ). has (getD (set rows up (Words.bitAnd (getD rows up 0) (Words.bitAnd (getD rows s 0) own))) y 0) e ≡ (has (getD rows y 0) e && implies (eqb (parentOf c s) y) (completed c σ s e))) (sym z)
-                (ap (λ (y : ℕ). has y e) (getD-set-same rows up _ 0 (omega (arith, w .0))) ∙ has-and (getD rows up 0) _ e ∙ ap (λ (b : Bool). has (getD rows up 0) e && b) (completes e k ∙ sym (ap (λ (b : Bool). implies b (completed c σ s e)) (eq-eqb (parentOf c s) up parent-is))))
-            | no z ↦ ap (λ (y : ℕ). has y e) (getD-set-other rows up x _ 0 z) ∙ sym (ap (λ (b : Bool). has (getD rows x 0) e && implies b (completed c σ s e)) (ne-eqb (parentOf c s) x (λ q. z (sym q ∙ parent-is))) ∙ and-true (has (getD rows x 0) e))
-          ])
-          (λ x l. getD-set-other rows up x _ 0 (λ z. omega (arith, w .0))) row-is (simp length-set (omega arith))))
-          (λ w. subst (λ (l : List ℕ). PassedTo c σ s (set l s row)) (sym (w .1)) (passed-more c tree σ rows i s P next known rows row
-          (λ x e l k. absurd (omega (arith, w .0, parent-is, tree .smaller s known (λ z. omega arith)))) (λ x l. refl) row-is (omega arith)))
+      unfolding lowered
+      passed-next N = ⊎-elim
+          (λ w. subst (λ (l : List ℕ). PassedTo c σ s (set l s row)) (sym (w .1)) (passed-child (w .0)))
+          (λ w. subst (λ (l : List ℕ). PassedTo c σ s (set l s row)) (sym (w .1)) (passed-root (w .0)))
           N
