@@ -21,12 +21,15 @@ use Rattle.chart_machine.specs.Outcomes.{stands, Grown}
 use Rattle.chart_records.specs.declared.header.Counts.{Counts}
 use Rattle.chart_tree.specs.declared.table.Tree.{Tree}
 use Rattle.chart_moves.specs.declared.configuration.Configuration.{Configuration}
+use Rattle.chart_moves.proofs.Step.{configuration-tree}
 
 pub grown-of : {rest : List ℕ} {n : Counts} {offsets : List ℕ} {tree : Tree} {c : Chart} → Ready rest n offsets tree c → Grown rest n tree c
 grown-of R = record { stated = R .laid .stated; tabled = R .tabled; parents = R .parents }
 
-pub prepared : {rest : List ℕ} {n : Counts} {offsets rows : List ℕ} {tree : Tree} {σ : Configuration} (c : Chart) → Ready rest n offsets tree c → CompleteIn c σ rows → Prepared rest n offsets σ rows c
-prepared {tree = tree} c R C = record { tree = tree; ready = R; complete = C }
+-- in a configuration of the chart the active states are a tree
+pub prepared : {rest : List ℕ} {n : Counts} {offsets rows : List ℕ} {tree : Tree} {σ : Configuration} (c : Chart) → Ready rest n offsets tree c → isConfiguration c σ ≡ true → (isTree c σ ≡ true → CompleteIn c σ rows)
+    → Prepared rest n offsets σ rows c
+prepared {tree = tree} {σ} c R h f = record { tree = tree; ready = R; complete = f (configuration-tree c σ h) }
 
 -- 17: what stands in the chart and keeps its bounds
 last : (a b c d k : Bool) → ((a && (b && (c && d))) && k) ≡ (a && (b && (c && (d && k))))

@@ -1,14 +1,14 @@
 -- Laws of the sets of completion: what they have, that the test of a transition can be read from them, and completion by the
 -- children of a state.
 use mathlib.Core.Path.{_≡_, refl, sym, ap, _∙_, subst}
-use mathlib.Core.Bool.{Bool, true, false, not, _&&_, _||_}
+use mathlib.Core.Bool.{Bool, true, false, not, _&&_, _||_, and-true}
 use mathlib.Core.List.{List, [], List·Memᴰ as Mem}
 use Prim.Native.Nat.{ℕ, _≤_, _<_}
 use native.Mathlib.Omega.{arith}
 use native.Mathlib.Decide.{ℕ-discrete}
 use lib.ListN.{getD}
 use Rattle.lists.specs.Lists.{has, all, elem, implies}
-use Rattle.lists.proofs.Bools.{clash, fails, and-l, and-r, both, implies-at, implies-by, same}
+use Rattle.lists.proofs.Bools.{clash, fails, and-l, and-r, both, implies-at, implies-by, implies-never, same}
 use Rattle.lists.proofs.Lists.{all-at, all-by, keep-at, keep-by, keep-none, elem-at, elem-by}
 use Rattle.lists.proofs.Bits.{has-high}
 use Rattle.labels.specs.Label.{guardsHold}
@@ -21,7 +21,7 @@ use Rattle.chart_records.proofs.Tree.{size, states-at, states-by, children-at, 
 use Rattle.chart_records.proofs.Fixed.{shares-at, shares-by}
 use Rattle.chart_records.proofs.Rules.{Passed, kinds-left}
 use Rattle.chart_records.proofs.Ranges.{Ranges, kinds-of}
-use Rattle.chart_moves.proofs.Active.{completed-at, completed-by, tree-at, active-basic, active-fixed}
+use Rattle.chart_moves.proofs.Active.{IsTree, completed-at, completed-by, tree-at, active-above, active-basic, active-fixed}
 
 module _ (c : Chart) (σ : Configuration) where
   -- a state is in the set of an exit if it is active, composite and completed
@@ -70,6 +70,20 @@ module _ (c : Chart) (tree : Parents c) (σ : Configuration) (e : ℕ) where
         | no d ↦ let w = child-towards c tree m s l u d in
             completed-at c σ (w .0) e (all-at _ _ (and-l (all (λ r. completed c σ r e) (children c m)) _ k) (children-by c (w .1))) s l a b (w .2)
       ])
+
+  -- of a composite state all children have to be, of an active basic one it is a matter of its own marks
+  pub completed-composite : (m : ℕ) → m < size c → basic c m ≡ false → completed c σ m e ≡ all (λ r. completed c σ r e) (children c m)
+  unfolding implies
+  completed-composite m h b = completed-step m h ∙ ap (λ (x : Bool). all (λ r. completed c σ r e) (children c m) && implies (isActive σ m && x) (has (stateAt c m .exits) e)) b
+      ∙ ap (λ (x : Bool). all (λ r. completed c σ r e) (children c m) && x) (implies-never (isActive σ m) _) ∙ and-true _
+
+  pub completed-basic : (m : ℕ) → m < size c → isActive σ m ≡ true → basic c m ≡ true → completed c σ m e ≡ has (stateAt c m .exits) e
+  unfolding implies
+  completed-basic m h a b = completed-step m h ∙ rw (a, b, all-by (λ r. completed c σ r e) (children c m) (λ r n. let k = children-at c m n in clash b (ap (basic c) (sym (k .parent-is)) ∙ tree .composite r (k .known) (k .below-root))))
+
+  -- below a state that is not active nothing is
+  pub completed-idle : IsTree c (isActive σ) → (m : ℕ) → isActive σ m ≡ false → completed c σ m e ≡ true
+  completed-idle T m i = completed-by c σ m e (λ s l a b u. clash (active-above c tree (isActive σ) T m s l u a) i)
 
 -- in a configuration of a chart that passes the check
 module _ (c : Chart) (passed : Passed c) (ranges : Ranges c) (σ : Configuration) (given : isTree c σ ≡ true) (e : ℕ) where

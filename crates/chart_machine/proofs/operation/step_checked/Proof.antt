@@ -62,7 +62,7 @@ returns-3 c =
     λ k R. c .refuse3 .ensures ∙ ap (outcomeOf _) (sym
     (step-inactive k _ _ (R .laid .transitions) (sym (is-configuration .ensures k (grown-of R)) ∙ not-false _ (if1 .left))
     (sym (known .ensures) ∙ not-false _ (if2 .left)) (sym
-    (c .before .before .all-active .ensures k (prepared k R (sets .complete-exits .ensures k (args .given) (R .tabled) (R .parents) refl)) (sym (known .ensures) ∙ not-false _ (if2 .left))) ∙ not-true _ (c .before .if3 .taken))))
+    (c .before .before .all-active .ensures k (prepared k R (sym (is-configuration .ensures k (grown-of R)) ∙ not-false _ (if1 .left)) (sets .complete-exits .ensures k (args .given) (R .tabled) (R .parents) refl)) (sym (known .ensures) ∙ not-false _ (if2 .left))) ∙ not-true _ (c .before .if3 .taken))))
 
 slice-aggregate-is-allowed : tie.Need-slice-aggregate-is-allowed
 slice-aggregate-is-allowed c = search needs
@@ -100,12 +100,13 @@ returns-4 c = λ k R.
     let is-configuration = place-2 .before .before .before .is-configuration in
     let args = place-2 .before .before .before .before .before .before .before .args in
     let few = sym (known .ensures) ∙ not-false _ (if2 .left) in
-    let P = prepared k R (sets .complete-exits .ensures k (args .given) (R .tabled) (R .parents) refl) in
+    let stands = sym (is-configuration .ensures k (grown-of R)) ∙ not-false _ (if1 .left) in
+    let P = prepared k R stands (sets .complete-exits .ensures k (args .given) (R .tabled) (R .parents) refl) in
     let next = after .after .ensures .1 k R few in
     c .outcome-by .ensures ∙ ap (outcomeOf (args .given)) (ap (λ (v : Verdict). answerBy v (after .after .result .configuration)) (t .last-tests .ensures)
     ∙ last-tests-are (allowed .is-allowed .ensures k P few) (after .after .ensures .0 k R few)
     (b .bounds-kept .ensures k (after .after .result .configuration) (R .laid .stated) refl refl ∙ ap (boundsKept k) next) next
-    ∙ sym (step-last k _ _ (R .laid .transitions) (sym (is-configuration .ensures k (grown-of R)) ∙ not-false _ (if1 .left)) few
+    ∙ sym (step-last k _ _ (R .laid .transitions) stands few
     (sym (all-active .ensures k P few) ∙ not-false _ (if3 .left)) refl))
 
 pub step-checked-spec : {M : Type 1} → statement M

@@ -1,26 +1,29 @@
-use mathlib.Core.Path.{_≡_, refl}
-use mathlib.Core.Logic.{inl, inr, ⊎-elim}
+use mathlib.Core.Path.{_≡_, _∙_}
 use Prim.Native.Nat.{_-_, _≤_}
 use native.Mathlib.Omega.{arith}
 use borrow.Author.Needs.{needs}
-use lib.Bits.{bitAnd}
-use lib.ListN.{length, getD, getD-replicate}
+use lib.ListN.{length, length-set}
 use Rattle.chart_records.specs.Chart.{Chart}
 use Rattle.chart_records.proofs.Tree.{parents-at}
 use Rattle.chart_tree.specs.Table.{Column}
+use Rattle.chart_moves.specs.Machine.{isActive}
 use Rattle.chart_moves.specs.Active.{Shown}
 use Rattle.chart_moves.specs.declared.configuration.Configuration.{Configuration}
+use Rattle.chart_moves.proofs.Active.{IsTree, tree-at}
 use Rattle.chart_moves.proofs.Activities.{shown-of}
-use Rattle.chart_moves.proofs.Passing.{PassedTo, Narrowed, passed-none, passed-next, passed-all, narrowed-long}
+use Rattle.chart_moves.proofs.Passing.{PassedTo, passed-first, passed-idle, passed-child, passed-root, passed-all}
 use Rattle.chart_moves.proofs.completion.complete_exits.Statement.{statement}
 use Rattle.chart_moves.proofs.completion.complete_exits.Tie as tie
 
 abbrev Inv-loop : tie.InvT-loop
 Inv-loop active parents kinds exits rows₀ s₀ rows s =
-    (length rows ≡ 48) × (s ≤ s₀) × (s₀ ≤ 48) × ((c : Chart) (σ : Configuration) → Shown c σ parents kinds active → Column (λ x. x .exits) c exits → s₀ ≡ length (c .states) → PassedTo c σ s rows)
+    (length rows ≡ 48) × (s ≤ s₀) × (s₀ ≤ 48) × ((c : Chart) (σ : Configuration) → IsTree c (isActive σ) → Shown c σ parents kinds active → Column (λ x. x .exits) c exits → s₀ ≡ length (c .states) → PassedTo c σ s rows)
 
 abbrev μ-loop : tie.MeasureT-loop
 μ-loop active parents kinds exits rows₀ s₀ rows s = s
+
+rows-before-requires : tie.Need-rows-before-requires Inv-loop μ-loop
+rows-before-requires c κs = search needs
 
 cast-least : tie.Need-cast-least Inv-loop μ-loop
 cast-least c = search needs
@@ -30,18 +33,18 @@ least-requires c κs = search needs
 
 loop-holds : tie.Need-loop-holds Inv-loop μ-loop
 loop-holds c = (
-  refl,
+  search needs,
   omega arith,
   omega (arith, c .least .ensures),
-  λ d σ S X e.
-      passed-none d (parents-at d (S .rooted .rule)) σ _ (c .least .result) (omega (arith, e)) (λ x l. getD-replicate 48 x 255 0 (omega (arith, c .least .ensures))),
+  λ d σ T S X e.
+      passed-first d σ _ _ _ S (c .before .before .rows-before .result) (c .least .result) (omega (arith, e)) (c .before .before .rows-before .ensures),
 )
 
 sub-s : tie.Need-sub-s Inv-loop μ-loop
 sub-s c = omega arith
 
-array-read-unbarred : tie.Need-array-read-unbarred Inv-loop μ-loop
-array-read-unbarred c = omega arith
+array-read-if1 : tie.Need-array-read-if1 Inv-loop μ-loop
+array-read-if1 c = omega arith
 
 array-read-unbarred-by : tie.Need-array-read-unbarred-by Inv-loop μ-loop
 array-read-unbarred-by c = omega arith
@@ -70,44 +73,57 @@ array-read-rows c = omega arith
 array-write-rows : tie.Need-array-write-rows Inv-loop μ-loop
 array-write-rows c = omega arith
 
-array-read-complete-by : tie.Need-array-read-complete-by Inv-loop μ-loop
-array-read-complete-by c = omega arith
-
-array-read-complete-by-2 : tie.Need-array-read-complete-by-2 Inv-loop μ-loop
-array-read-complete-by-2 c = omega arith
-
-complete-by-requires : tie.Need-complete-by-requires Inv-loop μ-loop
-complete-by-requires c κs = search needs
-
-array-write-rows-2 : tie.Need-array-write-rows-2 Inv-loop μ-loop
-array-write-rows-2 c = omega arith
-
 loop-less : tie.Need-loop-less Inv-loop μ-loop
 loop-less c = omega arith
 
 loop-again : tie.Need-loop-again Inv-loop μ-loop
 loop-again c =
-    let joined = c .before in
-    let parent = joined .before in
-    let own = parent .before .before in
-    let l = own .before in
+    let own = c .before .before .before in
+    let l = own .before .before in
     let i = l .before .loop .inv in
-    let tables = l .before .before .before .before .before .before .before .args .t in
-    let row = c .complete-by .result in
-    let narrowed : Narrowed (l .before .loop .rows) (l .before .loop .s - 1) (parent .byte-at .result) (bitAnd (getD (l .before .loop .rows) (l .before .loop .s - 1) 0) (own .unbarred-by .result)) (joined .if1 .rows) =
-    ⊎-elim (λ w. inl (w .0 .taken, w .1)) (λ w. inr (w .0 .left, w .1)) (joined .if1 .came) in (
-      narrowed-long (l .before .loop .rows) (l .before .loop .s - 1) (parent .byte-at .result) (bitAnd (getD (l .before .loop .rows) (l .before .loop .s - 1) 0) (own .unbarred-by .result)) row narrowed (i .0),
+    let tables = l .before .before .before .before .before .before .before .before .args .t in (
+      length-set (l .before .loop .rows) _ _ ∙ i .0,
       omega (arith, i .1),
       i .2,
-      λ d σ S X e.
-          passed-next d σ _ _ (tables .exits) _ S X (l .before .loop .rows) (l .before .loop .s) (l .before .loop .s - 1) (i .3 d σ S X e) (omega (arith, l .loop-test .taken)) (omega (arith, e, i .1, l .loop-test .taken)) (omega (arith, i .0, i .1, i .2, l .loop-test .taken))
-          (own .unbarred-by .result) (own .unbarred-by .ensures) (parent .byte-at .ensures) (c .complete-by .ensures) narrowed,
+      λ d σ T S X e.
+          passed-child d σ T _ _ _ S (l .before .loop .rows) (l .before .loop .s) (l .before .loop .s - 1) (i .3 d σ T S X e) (omega (arith, l .loop-test .taken)) (omega (arith, e, i .1, l .loop-test .taken)) (omega (arith, i .0, i .1, i .2, l .loop-test .taken))
+          (tables .exits) X (own .before .if1 .taken) (c .before .byte-at .ensures) (own .unbarred-by .ensures) (c .if2 .taken),
+    )
+
+loop-less-2 : tie.Need-loop-less-2 Inv-loop μ-loop
+loop-less-2 c = omega arith
+
+loop-again-2 : tie.Need-loop-again-2 Inv-loop μ-loop
+loop-again-2 c =
+    let own = c .before .before .before in
+    let l = own .before .before in
+    let i = l .before .loop .inv in
+    let tables = l .before .before .before .before .before .before .before .before .args .t in (
+      i .0,
+      omega (arith, i .1),
+      i .2,
+      λ d σ T S X e.
+          passed-root d σ T _ _ _ S (l .before .loop .rows) (l .before .loop .s) (l .before .loop .s - 1) (i .3 d σ T S X e) (omega (arith, l .loop-test .taken)) (omega (arith, e, i .1, l .loop-test .taken)) (omega (arith, i .0, i .1, i .2, l .loop-test .taken))
+          (tables .exits) X (own .before .if1 .taken) (c .before .byte-at .ensures) (own .unbarred-by .ensures) (c .if2 .left),
+    )
+
+loop-less-3 : tie.Need-loop-less-3 Inv-loop μ-loop
+loop-less-3 c = omega arith
+
+loop-again-3 : tie.Need-loop-again-3 Inv-loop μ-loop
+loop-again-3 c =
+    let l = c .before in
+    let i = l .before .loop .inv in (
+      i .0,
+      omega (arith, i .1),
+      i .2,
+      λ d σ T S X e.
+          passed-idle d σ T _ _ _ S (l .before .loop .rows) (l .before .loop .s) (l .before .loop .s - 1) (i .3 d σ T S X e) (omega (arith, l .loop-test .taken)) (omega (arith, e, i .1, l .loop-test .taken)) (omega (arith, i .0, i .1, i .2, l .loop-test .taken)) (c .if1 .left),
     )
 
 returns : tie.Need-returns Inv-loop μ-loop
-returns c = λ d σ T r a.
-    let S = shown-of d σ _ _ T r a in
-    passed-all d (parents-at d r) σ _ (c .before .loop .s) (c .before .loop .inv .3 d σ S (T .exits) (omega (arith, c .before .before .least .ensures, T .count, T .few))) (c .loop-test .left)
+returns c = λ d σ T r a q.
+    passed-all d (parents-at d r) σ (c .before .loop .rows) (c .before .loop .s) (c .before .loop .inv .3 d σ (tree-at d σ q) (shown-of d σ _ _ T r a) (T .exits) (omega (arith, c .before .before .least .ensures, T .count, T .few))) (c .loop-test .left)
 
 pub complete-exits-spec : {M : Type 1} → statement M
 complete-exits-spec =
@@ -115,11 +131,12 @@ complete-exits-spec =
     (tie.spec
     Inv-loop
     μ-loop
+    rows-before-requires
     cast-least
     least-requires
     loop-holds
     sub-s
-    array-read-unbarred
+    array-read-if1
     array-read-unbarred-by
     array-read-unbarred-by-2
     array-read-unbarred-by-3
@@ -129,10 +146,10 @@ complete-exits-spec =
     cast-above
     array-read-rows
     array-write-rows
-    array-read-complete-by
-    array-read-complete-by-2
-    complete-by-requires
-    array-write-rows-2
     loop-less
     loop-again
+    loop-less-2
+    loop-again-2
+    loop-less-3
+    loop-again-3
     returns)
