@@ -1,0 +1,162 @@
+-- Windows: what `mostBreaks` and `firstWith` say. No window has more breaks, wherever it begins; the windows that begin at a break
+-- suffice; and in a list that climbs the breaks of a window stand one after the other.
+use mathlib.Core.Path.{_≡_, refl, sym, ap, _∙_, subst}
+use mathlib.Core.Bool.{Bool, true, false, cond, _&&_}
+use mathlib.Core.Logic.{_⊎_, inl, inr, ⊎-elim}
+use mathlib.Core.List.{List, [], _∷_, map, List·Memᴰ as Mem, List·Memᴰ·head as here, List·Memᴰ·tail as there}
+use Prim.Native.Nat.{ℕ, zero, suc, _+_, _-_, _≤_, _<_, max}
+use native.Mathlib.Omega.{arith}
+use native.Mathlib.Decide.{ℕ-discrete}
+use borrow.Author.Tests.{le-leb, leb-true, leb-false, lt-leb, lt-ltb, le-ltb, ltb-true, ltb-false}
+use lib.Dec.{leb, ltb, eqb}
+use lib.ListN.{length, getD}
+use Rattle.lists.specs.Lists.{keep, elem}
+use Rattle.lists.proofs.Bools.{and-l, and-r, both, clash, decided, cond-yes, cond-no, fails, same}
+use Rattle.lists.proofs.Lists.{keep-none, elem-at, elem-by}
+use Rattle.breaks.specs.Breaks.{inWindow, within, greatest, greatestOf, mostBreaks, mostAtBreaks, firstOf, answered, busiestOf, busiestAtBreaks, climbs}
+use Rattle.breaks.specs.Passes.{at}
+use Rattle.breaks.proofs.Climbing.{rank}
+
+-- the greatest value of a function below a number, and of a list
+pub greatest-above : (f : ℕ → ℕ) (n i : ℕ) → i < n → f i ≤ greatest f n
+unfolding greatest
+greatest-above f zero i h = absurd (omega arith)
+greatest-above f (suc n) i h = elim (ℕ-discrete i n) [
+  | yes e ↦ let q : f i ≡ f n = ap f e in omega (arith, q)
+  | no d ↦ omega (arith, greatest-above f n i (omega arith))
+]
+
+pub greatest-most : (f : ℕ → ℕ) (n m : ℕ) → ((i : ℕ) → f i ≤ m) → greatest f n ≤ m
+unfolding greatest
+greatest-most f zero m h = omega arith
+greatest-most f (suc n) m h = omega (arith, h n, greatest-most f n m h)
+
+greatestOf-above : (xs : List ℕ) {x : ℕ} → Mem x xs → x ≤ greatestOf xs
+unfolding greatestOf
+greatestOf-above (y ∷ ys) (here e) = omega arith
+greatestOf-above (y ∷ ys) (there m) = omega (arith, greatestOf-above ys m)
+
+greatestOf-image : (f : ℕ → ℕ) (xs : List ℕ) {x : ℕ} → Mem x xs → f x ≤ greatestOf (map f xs)
+unfolding greatestOf
+greatestOf-image f (y ∷ ys) {x} (here e) = let q : f x ≡ f y = ap f e in omega (arith, q)
+greatestOf-image f (y ∷ ys) (there m) = omega (arith, greatestOf-image f ys m)
+
+greatestOf-most : (f : ℕ → ℕ) (xs : List ℕ) (m : ℕ) → ((i : ℕ) → f i ≤ m) → greatestOf (map f xs) ≤ m
+unfolding greatestOf
+greatestOf-most f [] m h = omega arith
+greatestOf-most f (x ∷ xs) m h = omega (arith, h x, greatestOf-most f xs m h)
+
+-- a tick is in a window
+pub in-window : (w s t : ℕ) → s ≤ t → t < s + w → inWindow w s t ≡ true
+unfolding inWindow
+in-window w s t h k = both (le-leb s t h) (lt-ltb t (s + w) k)
+
+pub window-in : (w s t : ℕ) → inWindow w s t ≡ true → (s ≤ t) × (t < s + w)
+unfolding inWindow
+window-in w s t h = (leb-true s t (and-l (leb s t) _ h), ltb-true t (s + w) (and-r (leb s t) _ h))
+
+-- a window is told by the tick's distance from its begin
+pub window-below : (w s t : ℕ) → t < s → inWindow w s t ≡ false
+unfolding inWindow
+window-below w s t h = ap (λ (b : Bool). b && ltb t (s + w)) (lt-leb s t h)
+
+pub window-by : (w s t : ℕ) → s ≤ t → inWindow w s t ≡ ltb (t - s) w
+unfolding inWindow
+window-by w s t h = ap (λ (b : Bool). b && ltb t (s + w)) (le-leb s t h)
+  ∙ same (ltb t (s + w)) (ltb (t - s) w) (λ e. lt-ltb (t - s) w (omega (arith, ltb-true t (s + w) e))) (λ e. lt-ltb t (s + w) (omega (arith, ltb-true (t - s) w e)))
+
+pub window-far : (w s t : ℕ) → inWindow w s t ≡ false → s ≤ t → s + w ≤ t
+window-far w s t e h = omega (arith, ltb-false (t - s) w (sym (window-by w s t h) ∙ e))
+
+-- a window that begins after the last tick has no break
+past-none : (w : ℕ) (ts : List ℕ) (s : ℕ) → greatestOf ts < s → within w ts s ≡ 0
+unfolding within inWindow
+past-none w ts s h = ap length (keep-none (inWindow w s) ts (λ t m. ap (λ (b : Bool). b && ltb t (s + w)) (lt-leb s t (omega (arith, greatestOf-above ts m)))))
+
+-- no window has more breaks, wherever it begins
+pub anywhere : (w : ℕ) (ts : List ℕ) (s : ℕ) → within w ts s ≤ mostBreaks w ts
+unfolding mostBreaks
+anywhere w ts s = ⊎-elim
+  (λ e. omega (arith, past-none w ts s (ltb-true _ s e)))
+  (λ e. greatest-above (within w ts) (suc (greatestOf ts)) s (omega (arith, ltb-false _ s e)))
+  (decided (ltb (greatestOf ts) s))
+
+-- a list of which a test keeps no fewer
+keep-more : (p q : ℕ → Bool) (xs : List ℕ) → ((x : ℕ) → Mem x xs → p x ≡ true → q x ≡ true) → length (keep p xs) ≤ length (keep q xs)
+unfolding keep
+keep-more p q [] f = omega arith
+keep-more p q (x ∷ xs) f = go (p x) (q x) refl refl (f x (here refl)) (keep-more p q xs (λ y m. f y (there m)))
+  where
+    go :
+      (a b : Bool) → p x ≡ a → q x ≡ b → (p x ≡ true → q x ≡ true) → length (keep p xs) ≤ length (keep q xs) →
+      length (cond a (x ∷ keep p xs) (keep p xs)) ≤ length (cond b (x ∷ keep q xs) (keep q xs))
+    go true true d e g h = omega arith
+    go true false d e g h = clash (g d) e
+    go false true d e g h = omega arith
+    go false false d e g h = h
+
+-- a window that begins at no break has no more breaks than the next
+next-more : (w : ℕ) (ts : List ℕ) (s : ℕ) → elem s ts ≡ false → within w ts s ≤ within w ts (suc s)
+unfolding within
+next-more w ts s h = keep-more (inWindow w s) (inWindow w (suc s)) ts (λ t m e. let r = window-in w s t e in in-window w (suc s) t (above t m (r .0)) (omega arith))
+  where
+    above : (t : ℕ) → Mem t ts → s ≤ t → suc s ≤ t
+    above t m l = elim (ℕ-discrete s t) [
+      | yes e ↦ clash (elem-by s (subst (λ (x : ℕ). Mem x ts) (sym e) m)) h
+      | no d ↦ omega arith
+    ]
+
+-- so some window that begins at a break has no fewer, within k ticks
+from-break : (w : ℕ) (ts : List ℕ) (k s : ℕ) → greatestOf ts < s + k → within w ts s ≤ mostAtBreaks w ts
+unfolding mostAtBreaks
+from-break w ts zero s h = omega (arith, past-none w ts s (omega arith))
+from-break w ts (suc k) s h = ⊎-elim
+  (λ e. greatestOf-image (within w ts) ts (elem-at s ts e))
+  (λ e. omega (arith, next-more w ts s e, from-break w ts k (suc s) (omega arith)))
+  (decided (elem s ts))
+
+-- windows that begin at a break suffice
+pub breaks-suffice : (w : ℕ) (ts : List ℕ) → mostBreaks w ts ≡ mostAtBreaks w ts
+unfolding mostBreaks mostAtBreaks
+breaks-suffice w ts =
+    let up : mostBreaks w ts ≤ mostAtBreaks w ts = greatest-most (within w ts) (suc (greatestOf ts)) (mostAtBreaks w ts) (λ s. from-break w ts (suc (greatestOf ts)) s (omega arith)) in
+    let down : mostAtBreaks w ts ≤ mostBreaks w ts = greatestOf-most (within w ts) ts (mostBreaks w ts) (anywhere w ts) in
+    omega (arith, up, down)
+
+pub at-breaks : (w : ℕ) (ts : List ℕ) → busiestOf w ts ≡ busiestAtBreaks w ts
+unfolding busiestOf busiestAtBreaks
+at-breaks w ts = ap (λ (m : ℕ). answered m w ts) (breaks-suffice w ts)
+
+-- one number more or none more is kept
+kept : (p : ℕ → Bool) (t : ℕ) (ts : List ℕ) → p t ≡ true → length (keep p (t ∷ ts)) ≡ suc (length (keep p ts))
+unfolding keep
+kept p t ts h = ap length (cond-yes (t ∷ keep p ts) (keep p ts) h)
+
+left : (p : ℕ → Bool) (t : ℕ) (ts : List ℕ) → p t ≡ false → length (keep p (t ∷ ts)) ≡ length (keep p ts)
+unfolding keep
+left p t ts h = ap length (cond-no (t ∷ keep p ts) (keep p ts) h)
+
+pub window-out : (w s t : ℕ) → (t < s) ⊎ (s + w ≤ t) → inWindow w s t ≡ false
+window-out w s t h = fails (inWindow w s t) (λ e. let r = window-in w s t e in ⊎-elim (λ k. omega arith) (λ k. omega arith) h)
+
+-- the breaks of a window are those below its end that are not below its begin
+pub within-ranks : (w : ℕ) (ts : List ℕ) (s : ℕ) → rank s ts + within w ts s ≡ rank (s + w) ts
+unfolding within rank keep
+within-ranks w [] s = refl
+within-ranks w (t ∷ ts) s =
+    let h = within-ranks w ts s in
+    ⊎-elim
+    (λ a. omega (arith, h, kept (λ x. ltb x s) t ts a, left (inWindow w s) t ts (window-out w s t (inl (ltb-true t s a))), kept (λ x. ltb x (s + w)) t ts (lt-ltb t (s + w) (omega (arith, ltb-true t s a)))))
+    (λ a. ⊎-elim
+      (λ b. omega (arith, h, left (λ x. ltb x s) t ts a, kept (inWindow w s) t ts (in-window w s t (ltb-false t s a) (ltb-true t (s + w) b)), kept (λ x. ltb x (s + w)) t ts b))
+      (λ b. omega (arith, h, left (λ x. ltb x s) t ts a, left (inWindow w s) t ts (window-out w s t (inr (ltb-false t (s + w) b))), left (λ x. ltb x (s + w)) t ts b))
+      (decided (ltb t (s + w))))
+    (decided (ltb t s))
+
+-- the first number that passes a test
+pub first-at :
+    (p : ℕ → Bool) (ts : List ℕ) (i : ℕ) → i < length ts → p (at ts i) ≡ true → ((k : ℕ) → k < i → p (at ts k) ≡ false) → firstOf p ts ≡ at ts i
+unfolding firstOf
+first-at p [] i h e f = absurd (omega arith)
+first-at p (t ∷ ts) zero h e f = cond-yes t (firstOf p ts) e
+first-at p (t ∷ ts) (suc i) h e f = cond-no t (firstOf p ts) (f 0 (omega arith)) ∙ first-at p ts i (omega arith) e (λ k l. f (suc k) (omega arith))

@@ -1,0 +1,53 @@
+use mathlib.Core.Path.{_≡_}
+use Prim.Native.Nat.{_-_, _+_, _≤_}
+use native.Mathlib.Omega.{arith}
+use Rattle.lists.specs.Lists.{all, below}
+use Rattle.breaks.specs.Passes.{quietAt, blockQuiet}
+use Rattle.breaks.proofs.Blocks.{tested-none, tested-more, tested-all}
+use Rattle.breaks.proofs.block.block_quiet.Statement.{statement}
+use Rattle.breaks.proofs.block.block_quiet.Tie as tie
+use Rattle.breaks.proofs.block.block_quiet.Reads as reads
+use Rattle.breaks.proofs.block.block_quiet.Lts as lts
+use Rattle.breaks.proofs.block.quiet_at.Reads as quiet-at-reads
+
+abbrev Inv-loop : tie.InvT-loop
+Inv-loop ticks from window count quiet₀ k₀ quiet k = (k ≤ 32) × (quiet ≡ all (λ j. quietAt window count ticks (from + j)) (below k))
+
+abbrev μ-loop : tie.MeasureT-loop
+μ-loop ticks from window count quiet₀ k₀ quiet k = 32 - k
+
+loop-holds : tie.Need-loop-holds Inv-loop μ-loop
+loop-holds c = (omega arith, tested-none _)
+
+add-quiet-at : tie.Need-add-quiet-at Inv-loop μ-loop
+add-quiet-at c = omega arith
+
+quiet-at-requires : tie.Need-quiet-at-requires Inv-loop μ-loop
+quiet-at-requires c κs = (omega arith, omega arith, omega arith)
+
+add-k : tie.Need-add-k Inv-loop μ-loop
+add-k c = omega arith
+
+loop-less : tie.Need-loop-less Inv-loop μ-loop
+loop-less c = omega arith
+
+loop-again : tie.Need-loop-again Inv-loop μ-loop
+loop-again c = (omega arith, tested-more _ _ (c .before .before .loop .inv .1) (c .quiet-at .ensures))
+
+returns : tie.Need-returns Inv-loop μ-loop
+unfolding blockQuiet
+returns c = tested-all _ 32 (c .before .loop .inv .1) (omega arith) (omega arith)
+
+pub block-quiet-spec : {M : Type 1} → statement M
+block-quiet-spec =
+    tie.close
+    (tie.spec
+    Inv-loop
+    μ-loop
+    loop-holds
+    add-quiet-at
+    quiet-at-requires
+    add-k
+    loop-less
+    loop-again
+    returns)

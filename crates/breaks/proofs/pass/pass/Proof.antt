@@ -1,0 +1,99 @@
+use mathlib.Core.Path.{_≡_, refl, sym, ap, _∙_}
+use mathlib.Core.Logic.{_⊎_, ⊎-elim}
+use Prim.Native.Nat.{_-_, _+_, _≤_, _<_}
+use native.Mathlib.Omega.{arith}
+use lib.ListN.{length}
+use borrow.Author.Needs.{needs}
+use Rattle.breaks.specs.Passes.{Found}
+use Rattle.breaks.proofs.Climbing.{climbs-falls}
+use Rattle.breaks.proofs.Passing.{found-grown, found-same, found-is}
+use Rattle.breaks.proofs.pass.pass.Statement.{statement}
+use Rattle.breaks.proofs.pass.pass.Tie as tie
+use Rattle.breaks.proofs.pass.pass.Reads as reads
+use Rattle.breaks.proofs.pass.pass.Lts as lts
+use Rattle.breaks.proofs.pass.in_window.Reads as in-window-reads
+
+abbrev Inv-loop : tie.InvT-loop
+Inv-loop ticks from to window count₀ first₀ end₀ count first end = (1 ≤ end) × (end ≤ to) × (to ≤ length ticks) × Found window ticks end count first
+
+abbrev μ-loop : tie.MeasureT-loop
+μ-loop ticks from to window count₀ first₀ end₀ count first end = to - end
+
+loop-holds : tie.Need-loop-holds Inv-loop μ-loop
+loop-holds c = c .before .pre
+
+mul-tick : tie.Need-mul-tick Inv-loop μ-loop
+mul-tick c = search needs
+
+shared-slice-read-tick : tie.Need-shared-slice-read-tick Inv-loop μ-loop
+shared-slice-read-tick c = search needs
+
+sub-if1 : tie.Need-sub-if1 Inv-loop μ-loop
+sub-if1 c = search needs
+
+mul-if1 : tie.Need-mul-if1 Inv-loop μ-loop
+mul-if1 c = search needs
+
+shared-slice-read-if1 : tie.Need-shared-slice-read-if1 Inv-loop μ-loop
+shared-slice-read-if1 c = search needs
+
+returns : tie.Need-returns Inv-loop μ-loop
+returns c = let i = c .before .before .before .before .loop .inv in climbs-falls _ _ (i .0) (omega arith) (c .if1 .taken)
+
+sub-start : tie.Need-sub-start Inv-loop μ-loop
+sub-start c = omega (arith, c .before .before .before .before .loop .inv .3 .passed)
+
+mul-start : tie.Need-mul-start Inv-loop μ-loop
+mul-start c = search needs
+
+shared-slice-read-start : tie.Need-shared-slice-read-start Inv-loop μ-loop
+shared-slice-read-start c = search needs
+
+in-window-requires : tie.Need-in-window-requires Inv-loop μ-loop
+in-window-requires c κs = search needs
+
+add-count : tie.Need-add-count Inv-loop μ-loop
+add-count c = omega (arith, c .before .before .before .before .before .before .before .loop .inv .3 .passed)
+
+add-end : tie.Need-add-end Inv-loop μ-loop
+add-end c = search needs
+
+loop-less : tie.Need-loop-less Inv-loop μ-loop
+loop-less c = omega arith
+
+loop-again : tie.Need-loop-again Inv-loop μ-loop
+loop-again c =
+    let l = c .before .before .before .before .before .before .before in
+    let i = l .loop .inv in
+    let h = c .before .before .before .if1 .left in
+    let e = sym (c .before .in-window .ensures) in
+    (omega arith, omega arith, i .2, ⊎-elim
+      (λ w. rw (w .1, w .2) (found-grown _ _ _ _ _ (i .3) h (e ∙ w .0 .taken)))
+      (λ w. rw (w .1, w .2) (found-same _ _ _ _ _ (i .3) h (e ∙ w .0 .left)))
+      (c .if2 .came))
+
+returns-2 : tie.Need-returns-2 Inv-loop μ-loop
+returns-2 c = found-is (c .before .loop .inv .3) (omega arith) refl refl
+
+pub pass-spec : {M : Type 1} → statement M
+pass-spec =
+    tie.close
+    (tie.spec
+    Inv-loop
+    μ-loop
+    loop-holds
+    mul-tick
+    shared-slice-read-tick
+    sub-if1
+    mul-if1
+    shared-slice-read-if1
+    returns
+    sub-start
+    mul-start
+    shared-slice-read-start
+    in-window-requires
+    add-count
+    add-end
+    loop-less
+    loop-again
+    returns-2)

@@ -1,0 +1,54 @@
+// The operation: the most breaks within so many consecutive ticks, and the first tick of the earliest window that has them and
+// begins at a break.
+ghost use mathlib.Core.Path.{_≡_};
+ghost use Prim.Native.Nat.{_≤_};
+ghost use lib.ListN.{length};
+ghost use Rattle.breaks.specs.Breaks.{busiestOf, told};
+ghost use Rattle.breaks.specs.Passes.{PassedTo};
+use crate::block::pass_block;
+use crate::pass::Best;
+use crate::pass::Passed;
+use crate::pass::pass;
+
+pub enum Counted {
+    Breaks(Best),
+    Refused(u8),
+}
+
+// The pass over all ticks, of which there is at least one: 32 at a time, then those that are left.
+fn pass_all(ticks: &[u32], window: u32) -> Passed
+    requires { ⌜ (1 ≤ length (now ticks)) × (1 ≤ window) ⌝ }
+    ensures { λ r. ⌜ PassedTo window (now (ticks .entry)) (length (now (ticks .entry))) r ⌝ }
+{
+    let mut best = Best {
+        count: 1,
+        first: ticks[0],
+    };
+    let mut end = 1;
+    while ticks.len() - end >= 32 {
+        let p = pass_block(ticks, end, window, best);
+        let Passed::To(next) = p else {
+            return Passed::Falls;
+        };
+        best = next;
+        end += 32;
+    }
+    pass(ticks, end, ticks.len(), window, best)
+}
+
+// The breaks of a list of any length within a window of so many ticks.
+pub fn busiest(ticks: &[u32], window: u32) -> Counted
+    ensures { λ r. ⌜ r ≡ told (busiestOf window (now (ticks .entry))) ⌝ }
+{
+    if window == 0 {
+        return Counted::Refused(29);
+    }
+    if ticks.len() == 0 {
+        return Counted::Breaks(Best { count: 0, first: 0 });
+    }
+    let p = pass_all(ticks, window);
+    match p {
+        Passed::To(best) => Counted::Breaks(best),
+        Passed::Falls => Counted::Refused(29),
+    }
+}

@@ -1,0 +1,54 @@
+// The pass over the ticks, tick by tick. It has two places in the list: that of the tick that is looked at, and that of the
+// tick so many places before it as the busiest window so far has breaks. A window that begins there and reaches the tick has
+// one more.
+ghost use mathlib.Core.Path.{_≡_};
+ghost use Prim.Native.Nat.{_≤_};
+ghost use lib.ListN.{length};
+ghost use Rattle.breaks.specs.Breaks.{inWindow};
+ghost use Rattle.breaks.specs.Passes.{Found, PassedTo};
+
+// The most breaks in a window, and the first tick of the earliest window that has so many and begins at a break.
+pub struct Best {
+    pub count: usize,
+    pub first: u32,
+}
+
+// What a pass found, or that a tick is smaller than the one before it.
+pub enum Passed {
+    To(Best),
+    Falls,
+}
+
+// Whether a tick is in the window that begins at another. The difference is taken, since the window's end may have more than
+// 32 bits.
+pub fn in_window(window: u32, start: u32, tick: u32) -> bool
+    ensures { λ r. ⌜ r ≡ inWindow window start tick ⌝ }
+{
+    if tick < start {
+        return false;
+    }
+    tick - start < window
+}
+
+// The pass over the ticks from one place up to another.
+pub fn pass(ticks: &[u32], from: usize, to: usize, window: u32, best: Best) -> Passed
+    requires { ⌜ (1 ≤ from) × (from ≤ to) × (to ≤ length (now ticks)) × Found window (now ticks) from (best .count) (best .first) ⌝ }
+    ensures { λ r. ⌜ PassedTo window (now (ticks .entry)) to r ⌝ }
+{
+    let mut count = best.count;
+    let mut first = best.first;
+    let mut end = from;
+    while end < to {
+        let tick = ticks[end];
+        if tick < ticks[end - 1] {
+            return Passed::Falls;
+        }
+        let start = ticks[end - count];
+        if in_window(window, start, tick) {
+            count += 1;
+            first = start;
+        }
+        end += 1;
+    }
+    Passed::To(Best { count, first })
+}
