@@ -61,10 +61,10 @@ module _ (w : ℕ) (ts : List ℕ) where
   module _ (n m f : ℕ) (F : Found w ts n m f) where
     climb-to : (k : ℕ) → Each (climbsAt ts) n k → Climbs ts (n + k)
     climb-to k g i l = ⊎-elim
-      (λ e. F .climb i (ltb-true (suc i) n e))
-      (λ e. let a : at ts (suc i - 1) ≡ at ts i = ap (at ts) (let z : suc i - 1 ≡ i = omega arith in z) in
+        (λ e. F .climb i (ltb-true (suc i) n e))
+        (λ e. let a : at ts (suc i - 1) ≡ at ts i = ap (at ts) (let z : suc i - 1 ≡ i = omega arith in z) in
         omega (arith, a, leb-true (at ts (suc i - 1)) (at ts (suc i)) (g (suc i) (ltb-false (suc i) n e) l)))
-      (decided (ltb (suc i) n))
+        (decided (ltb (suc i) n))
 
     -- ticks that climb, of which the last is in the window that begins m breaks before them: each grows it
     pub found-block : (k : ℕ) → Each (climbsAt ts) n (suc k) → inWindow w (at ts (n - m)) (at ts (n + k)) ≡ true → Found w ts (n + suc k) (m + suc k) (at ts (n - m))
@@ -79,10 +79,11 @@ module _ (w : ℕ) (ts : List ℕ) where
       where
         c : Climbs ts (n + suc k)
         c = climb-to (suc k) g
+
         inside : Each (λ i. inWindow w (at ts (n - m)) (at ts i)) n (suc k)
         inside i h l = in-window w (at ts (n - m)) (at ts i)
-          (climbs-places ts (n + suc k) c (n - m) i (omega arith) l)
-          (omega (arith, window-in w (at ts (n - m)) (at ts (n + k)) e .1, climbs-places ts (n + suc k) c i (n + k) (omega arith) (omega arith)))
+            (climbs-places ts (n + suc k) c (n - m) i (omega arith) l)
+            (omega (arith, window-in w (at ts (n - m)) (at ts (n + k)) e .1, climbs-places ts (n + suc k) c i (n + k) (omega arith) (omega arith)))
 
   -- a tick that is quiet is not in the window that begins m breaks before it
   quiet-out : (n m f : ℕ) → Found w ts n m f → quietAt w m ts n ≡ true → inWindow w (at ts (n - m)) (at ts n) ≡ false
@@ -118,9 +119,9 @@ pub block-passed :
     (w : ℕ) (ts : List ℕ) (n m f : ℕ) {r : Passed} → Found w ts n m f → 1 ≤ n → n + 32 ≤ length ts →
     inWindow w (at ts (n - m)) (at ts (n + 31)) ≡ true → r ≡ grownWhere (blockClimbs ts n) m (at ts (n - m)) → PassedTo w ts (n + 32) r
 block-passed w ts n m f F h l e g = rw g (⊎-elim
-  (λ b. rw b (block-grown w ts n m f F b e))
-  (λ b. rw b (block-falls ts n h l b))
-  (decided (blockClimbs ts n)))
+    (λ b. rw b (block-grown w ts n m f F b e))
+    (λ b. rw b (block-falls ts n h l b))
+    (decided (blockClimbs ts n)))
 
 pub block-quiet : (w : ℕ) (ts : List ℕ) (n m f : ℕ) → Found w ts n m f → blockQuiet w m ts n ≡ true → Found w ts (n + 32) m f
 unfolding blockQuiet

@@ -17,12 +17,12 @@ use Rattle.breaks.specs.Breaks.{climbs}
 use Rattle.breaks.specs.Passes.{at, Climbs}
 
 -- the front of a list that climbs, and the rest of it
-climbs-tail : (x : ℕ) (xs : List ℕ) → climbs (x ∷ xs) ≡ true → climbs xs ≡ true
+pub climbs-tail : (x : ℕ) (xs : List ℕ) → climbs (x ∷ xs) ≡ true → climbs xs ≡ true
 unfolding climbs
 climbs-tail x [] h = refl
 climbs-tail x (y ∷ ys) h = and-r (leb x y) _ h
 
-climbs-above : (x : ℕ) (xs : List ℕ) → climbs (x ∷ xs) ≡ true → {z : ℕ} → Mem z xs → x ≤ z
+pub climbs-above : (x : ℕ) (xs : List ℕ) → climbs (x ∷ xs) ≡ true → {z : ℕ} → Mem z xs → x ≤ z
 unfolding climbs
 climbs-above x (y ∷ ys) h (here e) = omega (arith, leb-true x y (and-l (leb x y) _ h))
 climbs-above x (y ∷ ys) h (there m) = omega (arith, leb-true x y (and-l (leb x y) _ h), climbs-above y ys (and-r (leb x y) _ h) m)
@@ -79,9 +79,9 @@ pub rank-below : (x : ℕ) (ts : List ℕ) → climbs ts ≡ true → (i : ℕ) 
 unfolding rank keep
 rank-below x [] h i k = absurd (omega arith)
 rank-below x (y ∷ ts) h i k = ⊎-elim
-  (λ e. front-below x y ts (ltb-true y x e) (rank-below x ts (climbs-tail y ts h)) i k)
-  (λ e. absurd (omega (arith, rank-none x y ts h (ltb-false y x e))))
-  (decided (ltb y x))
+    (λ e. front-below x y ts (ltb-true y x e) (rank-below x ts (climbs-tail y ts h)) i k)
+    (λ e. absurd (omega (arith, rank-none x y ts h (ltb-false y x e))))
+    (decided (ltb y x))
 
 front-above :
     (x y : ℕ) (ts : List ℕ) → y < x → ((i : ℕ) → rank x ts ≤ i → i < length ts → x ≤ at ts i) → (i : ℕ) → rank x (y ∷ ts) ≤ i → i < length (y ∷ ts) →
@@ -92,9 +92,9 @@ front-above x y ts h f (suc i) k l = f i (omega (arith, rank-more x y ts h)) (om
 pub rank-above : (x : ℕ) (ts : List ℕ) → climbs ts ≡ true → (i : ℕ) → rank x ts ≤ i → i < length ts → x ≤ at ts i
 rank-above x [] h i k l = absurd (omega arith)
 rank-above x (y ∷ ts) h i k l = ⊎-elim
-  (λ e. front-above x y ts (ltb-true y x e) (rank-above x ts (climbs-tail y ts h)) i k l)
-  (λ e. omega (arith, ltb-false y x e, climbs-places (y ∷ ts) (length (y ∷ ts)) (climbs-at (y ∷ ts) h) 0 i (omega arith) l))
-  (decided (ltb y x))
+    (λ e. front-above x y ts (ltb-true y x e) (rank-above x ts (climbs-tail y ts h)) i k l)
+    (λ e. omega (arith, ltb-false y x e, climbs-places (y ∷ ts) (length (y ∷ ts)) (climbs-at (y ∷ ts) h) 0 i (omega arith) l))
+    (decided (ltb y x))
 
 pub rank-within : (x : ℕ) (ts : List ℕ) → rank x ts ≤ length ts
 unfolding rank

@@ -38,8 +38,8 @@ module _ (w : ℕ) (ts : List ℕ) (n m f : ℕ) (F : Found w ts n m f) where
   climb-more : at ts (n - 1) ≤ at ts n → Climbs ts (n + 1)
   climb-more h i k = elim (ℕ-discrete (suc i) n) [
     | yes e ↦ let p : at ts i ≡ at ts (n - 1) = ap (at ts) (let z : i ≡ n - 1 = omega arith in z) in
-      let q : at ts (suc i) ≡ at ts n = ap (at ts) e in
-      omega (arith, p, q)
+        let q : at ts (suc i) ≡ at ts n = ap (at ts) e in
+        omega (arith, p, q)
     | no d ↦ F .climb i (omega arith)
   ]
 
@@ -73,8 +73,8 @@ module _ (w : ℕ) (ts : List ℕ) (n m f : ℕ) (F : Found w ts n m f) where
         fits = F .fits;
         fewer = λ i l. elim (ℕ-discrete (i + m) n) [
           | yes q ↦ let a : at ts i ≡ at ts (n - m) = ap (at ts) (let z : i ≡ n - m = omega arith in z) in
-            let b : at ts (i + m) ≡ at ts n = ap (at ts) q in
-            omega (arith, a, b)
+              let b : at ts (i + m) ≡ at ts n = ap (at ts) q in
+              omega (arith, a, b)
           | no d ↦ F .fewer i (omega arith)
         ];
         earliest = F .earliest;
@@ -102,19 +102,19 @@ module _ (w : ℕ) (ts : List ℕ) (m f : ℕ) (F : Found w ts (length ts) m f) 
     where
       more : m < within w ts s → ⊥
       more h =
-        let r = within-ranks w ts s in
-        let n = rank-within (s + w) ts in
-        let low = rank-above s ts climbing (rank s ts) (omega arith) (omega arith) in
-        let high = rank-below (s + w) ts climbing (rank s ts + m) (omega arith) in
-        let far = F .fewer (rank s ts) (omega arith) in
-        omega arith
+          let r = within-ranks w ts s in
+          let n = rank-within (s + w) ts in
+          let low = rank-above s ts climbing (rank s ts) (omega arith) (omega arith) in
+          let high = rank-below (s + w) ts climbing (rank s ts + m) (omega arith) in
+          let far = F .fewer (rank s ts) (omega arith) in
+          omega arith
 
   -- a break stands at or after the first that is not below it
   rank-first : (i : ℕ) → rank (at ts i) ts ≤ i
   rank-first i = ⊎-elim
-    (λ e. let l = rank-below (at ts i) ts climbing i (ltb-true _ _ e) in absurd (omega arith))
-    (λ e. ltb-false i (rank (at ts i) ts) e)
-    (decided (ltb i (rank (at ts i) ts)))
+      (λ e. let l = rank-below (at ts i) ts climbing i (ltb-true _ _ e) in absurd (omega arith))
+      (λ e. ltb-false i (rank (at ts i) ts) e)
+      (decided (ltb i (rank (at ts i) ts)))
 
   -- the window that was found has m breaks
   has-most : within w ts (at ts (F .start)) ≡ m
@@ -125,10 +125,10 @@ module _ (w : ℕ) (ts : List ℕ) (m f : ℕ) (F : Found w ts (length ts) m f) 
     where
       reaches : F .start + m ≤ rank (at ts (F .start) + w) ts
       reaches = ⊎-elim
-        (λ e. let l = rank-above (at ts (F .start) + w) ts climbing (F .start + (m - 1)) (omega (arith, ltb-true (rank (at ts (F .start) + w) ts) (F .start + m) e)) (omega (arith, F .some, F .passed)) in
+          (λ e. let l = rank-above (at ts (F .start) + w) ts climbing (F .start + (m - 1)) (omega (arith, ltb-true (rank (at ts (F .start) + w) ts) (F .start + m) e)) (omega (arith, F .some, F .passed)) in
           absurd (omega (arith, l, F .begins, F .fits)))
-        (λ e. ltb-false _ _ e)
-        (decided (ltb (rank (at ts (F .start) + w) ts) (F .start + m)))
+          (λ e. ltb-false _ _ e)
+          (decided (ltb (rank (at ts (F .start) + w) ts) (F .start + m)))
 
   most : mostBreaks w ts ≡ m
   unfolding mostBreaks
@@ -139,12 +139,12 @@ module _ (w : ℕ) (ts : List ℕ) (m f : ℕ) (F : Found w ts (length ts) m f) 
   -- no window that begins at an earlier break has
   none-earlier : (i : ℕ) → i < F .start → eqb (within w ts (at ts i)) m ≡ false
   none-earlier i h = ne-eqb (within w ts (at ts i)) m (λ e.
-    let r = within-ranks w ts (at ts i) in
-    let first = rank-first i in
-    let low = rank-above (at ts i) ts climbing (rank (at ts i) ts) (omega arith) (omega (arith, F .passed)) in
-    let high = rank-below (at ts i + w) ts climbing (rank (at ts i) ts + (m - 1)) (omega (arith, F .some)) in
-    let far = F .earliest (rank (at ts i) ts) (omega arith) in
-    omega arith)
+      let r = within-ranks w ts (at ts i) in
+      let first = rank-first i in
+      let low = rank-above (at ts i) ts climbing (rank (at ts i) ts) (omega arith) (omega (arith, F .passed)) in
+      let high = rank-below (at ts i + w) ts climbing (rank (at ts i) ts + (m - 1)) (omega (arith, F .some)) in
+      let far = F .earliest (rank (at ts i) ts) (omega arith) in
+      omega arith)
 
   -- so it is the answer
   pub found-all : 1 ≤ w → busiestOf w ts ≡ done (counted m f)

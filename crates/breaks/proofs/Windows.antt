@@ -3,19 +3,19 @@
 use mathlib.Core.Path.{_≡_, refl, sym, ap, _∙_, subst}
 use mathlib.Core.Bool.{Bool, true, false, cond, _&&_}
 use mathlib.Core.Logic.{_⊎_, inl, inr, ⊎-elim}
-use mathlib.Core.List.{List, [], _∷_, map, List·Memᴰ as Mem, List·Memᴰ·head as here, List·Memᴰ·tail as there}
+use mathlib.Core.List.{List, [], _∷_, map, List·Memᴰ as Mem, List·Memᴰ·head as here, List·Memᴰ·tail as there, List·Memᴰ·cases-cons as cases-cons}
 use Prim.Native.Nat.{ℕ, zero, suc, _+_, _-_, _≤_, _<_, max}
 use native.Mathlib.Omega.{arith}
 use native.Mathlib.Decide.{ℕ-discrete}
-use borrow.Author.Tests.{le-leb, leb-true, leb-false, lt-leb, lt-ltb, le-ltb, ltb-true, ltb-false}
+use borrow.Author.Tests.{le-leb, leb-true, leb-false, lt-leb, lt-ltb, le-ltb, ltb-true, ltb-false, eqb-true, eq-eqb}
 use lib.Dec.{leb, ltb, eqb}
 use lib.ListN.{length, getD}
 use Rattle.lists.specs.Lists.{keep, elem}
 use Rattle.lists.proofs.Bools.{and-l, and-r, both, clash, decided, cond-yes, cond-no, fails, same}
 use Rattle.lists.proofs.Lists.{keep-none, elem-at, elem-by}
-use Rattle.breaks.specs.Breaks.{inWindow, within, greatest, greatestOf, mostBreaks, mostAtBreaks, firstOf, answered, busiestOf, busiestAtBreaks, climbs}
+use Rattle.breaks.specs.Breaks.{inWindow, within, greatest, greatestOf, mostBreaks, mostAtBreaks, firstOf, firstWith, answered, busiestOf, busiestAtBreaks, climbs}
 use Rattle.breaks.specs.Passes.{at}
-use Rattle.breaks.proofs.Climbing.{rank}
+use Rattle.breaks.proofs.Climbing.{climbs-tail, climbs-above, rank}
 
 -- the greatest value of a function below a number, and of a list
 pub greatest-above : (f : ℕ → ℕ) (n i : ℕ) → i < n → f i ≤ greatest f n
@@ -46,6 +46,18 @@ unfolding greatestOf
 greatestOf-most f [] m h = omega arith
 greatestOf-most f (x ∷ xs) m h = omega (arith, h x, greatestOf-most f xs m h)
 
+greatestOf-at : (f : ℕ → ℕ) (xs : List ℕ) → 1 ≤ length xs → (x : ℕ) × Mem x xs × (f x ≡ greatestOf (map f xs))
+unfolding greatestOf
+greatestOf-at f [] h = absurd (omega arith)
+greatestOf-at f (x ∷ []) h = (x, here refl, omega arith)
+greatestOf-at f (x ∷ (y ∷ ys)) h =
+    let r = greatestOf-at f (y ∷ ys) (omega arith) in
+    let g = greatestOf (map f (y ∷ ys)) in
+    ⊎-elim
+    (λ e. (x, here refl, omega (arith, leb-true g (f x) e)))
+    (λ e. (r .0, there (r .1), omega (arith, r .2, leb-false g (f x) e)))
+    (decided (leb g (f x)))
+
 -- a tick is in a window
 pub in-window : (w s t : ℕ) → s ≤ t → t < s + w → inWindow w s t ≡ true
 unfolding inWindow
@@ -63,7 +75,7 @@ window-below w s t h = ap (λ (b : Bool). b && ltb t (s + w)) (lt-leb s t h)
 pub window-by : (w s t : ℕ) → s ≤ t → inWindow w s t ≡ ltb (t - s) w
 unfolding inWindow
 window-by w s t h = ap (λ (b : Bool). b && ltb t (s + w)) (le-leb s t h)
-  ∙ same (ltb t (s + w)) (ltb (t - s) w) (λ e. lt-ltb (t - s) w (omega (arith, ltb-true t (s + w) e))) (λ e. lt-ltb t (s + w) (omega (arith, ltb-true (t - s) w e)))
+    ∙ same (ltb t (s + w)) (ltb (t - s) w) (λ e. lt-ltb (t - s) w (omega (arith, ltb-true t (s + w) e))) (λ e. lt-ltb t (s + w) (omega (arith, ltb-true (t - s) w e)))
 
 pub window-far : (w s t : ℕ) → inWindow w s t ≡ false → s ≤ t → s + w ≤ t
 window-far w s t e h = omega (arith, ltb-false (t - s) w (sym (window-by w s t h) ∙ e))
@@ -77,9 +89,9 @@ past-none w ts s h = ap length (keep-none (inWindow w s) ts (λ t m. ap (λ (b :
 pub anywhere : (w : ℕ) (ts : List ℕ) (s : ℕ) → within w ts s ≤ mostBreaks w ts
 unfolding mostBreaks
 anywhere w ts s = ⊎-elim
-  (λ e. omega (arith, past-none w ts s (ltb-true _ s e)))
-  (λ e. greatest-above (within w ts) (suc (greatestOf ts)) s (omega (arith, ltb-false _ s e)))
-  (decided (ltb (greatestOf ts) s))
+    (λ e. omega (arith, past-none w ts s (ltb-true _ s e)))
+    (λ e. greatest-above (within w ts) (suc (greatestOf ts)) s (omega (arith, ltb-false _ s e)))
+    (decided (ltb (greatestOf ts) s))
 
 -- a list of which a test keeps no fewer
 keep-more : (p q : ℕ → Bool) (xs : List ℕ) → ((x : ℕ) → Mem x xs → p x ≡ true → q x ≡ true) → length (keep p xs) ≤ length (keep q xs)
@@ -88,8 +100,8 @@ keep-more p q [] f = omega arith
 keep-more p q (x ∷ xs) f = go (p x) (q x) refl refl (f x (here refl)) (keep-more p q xs (λ y m. f y (there m)))
   where
     go :
-      (a b : Bool) → p x ≡ a → q x ≡ b → (p x ≡ true → q x ≡ true) → length (keep p xs) ≤ length (keep q xs) →
-      length (cond a (x ∷ keep p xs) (keep p xs)) ≤ length (cond b (x ∷ keep q xs) (keep q xs))
+        (a b : Bool) → p x ≡ a → q x ≡ b → (p x ≡ true → q x ≡ true) → length (keep p xs) ≤ length (keep q xs) →
+        length (cond a (x ∷ keep p xs) (keep p xs)) ≤ length (cond b (x ∷ keep q xs) (keep q xs))
     go true true d e g h = omega arith
     go true false d e g h = clash (g d) e
     go false true d e g h = omega arith
@@ -111,9 +123,9 @@ from-break : (w : ℕ) (ts : List ℕ) (k s : ℕ) → greatestOf ts < s + k →
 unfolding mostAtBreaks
 from-break w ts zero s h = omega (arith, past-none w ts s (omega arith))
 from-break w ts (suc k) s h = ⊎-elim
-  (λ e. greatestOf-image (within w ts) ts (elem-at s ts e))
-  (λ e. omega (arith, next-more w ts s e, from-break w ts k (suc s) (omega arith)))
-  (decided (elem s ts))
+    (λ e. greatestOf-image (within w ts) ts (elem-at s ts e))
+    (λ e. omega (arith, next-more w ts s e, from-break w ts k (suc s) (omega arith)))
+    (decided (elem s ts))
 
 -- windows that begin at a break suffice
 pub breaks-suffice : (w : ℕ) (ts : List ℕ) → mostBreaks w ts ≡ mostAtBreaks w ts
@@ -148,9 +160,9 @@ within-ranks w (t ∷ ts) s =
     ⊎-elim
     (λ a. omega (arith, h, kept (λ x. ltb x s) t ts a, left (inWindow w s) t ts (window-out w s t (inl (ltb-true t s a))), kept (λ x. ltb x (s + w)) t ts (lt-ltb t (s + w) (omega (arith, ltb-true t s a)))))
     (λ a. ⊎-elim
-      (λ b. omega (arith, h, left (λ x. ltb x s) t ts a, kept (inWindow w s) t ts (in-window w s t (ltb-false t s a) (ltb-true t (s + w) b)), kept (λ x. ltb x (s + w)) t ts b))
-      (λ b. omega (arith, h, left (λ x. ltb x s) t ts a, left (inWindow w s) t ts (window-out w s t (inr (ltb-false t (s + w) b))), left (λ x. ltb x (s + w)) t ts b))
-      (decided (ltb t (s + w))))
+    (λ b. omega (arith, h, left (λ x. ltb x s) t ts a, kept (inWindow w s) t ts (in-window w s t (ltb-false t s a) (ltb-true t (s + w) b)), kept (λ x. ltb x (s + w)) t ts b))
+    (λ b. omega (arith, h, left (λ x. ltb x s) t ts a, left (inWindow w s) t ts (window-out w s t (inr (ltb-false t (s + w) b))), left (λ x. ltb x (s + w)) t ts b))
+    (decided (ltb t (s + w))))
     (decided (ltb t s))
 
 -- the first number that passes a test
@@ -160,3 +172,30 @@ unfolding firstOf
 first-at p [] i h e f = absurd (omega arith)
 first-at p (t ∷ ts) zero h e f = cond-yes t (firstOf p ts) e
 first-at p (t ∷ ts) (suc i) h e f = cond-no t (firstOf p ts) (f 0 (omega arith)) ∙ first-at p ts i (omega arith) e (λ k l. f (suc k) (omega arith))
+
+first-passes : (p : ℕ → Bool) (ts : List ℕ) {t : ℕ} → Mem t ts → p t ≡ true → Mem (firstOf p ts) ts × (p (firstOf p ts) ≡ true)
+unfolding firstOf
+first-passes p (x ∷ xs) {t} m h = ⊎-elim
+    (λ e. rw e (here refl, e))
+    (λ e. rw e (⊎-elim (λ q. clash (ap p (sym q) ∙ h) e) (λ n. let r = first-passes p xs n h in (there (r .0), r .1)) (cases-cons m)))
+    (decided (p x))
+
+first-least : (p : ℕ → Bool) (ts : List ℕ) → climbs ts ≡ true → {t : ℕ} → Mem t ts → p t ≡ true → firstOf p ts ≤ t
+unfolding firstOf
+first-least p (x ∷ xs) c {t} m h = ⊎-elim
+    (λ e. rw e (⊎-elim (λ q. omega arith) (λ n. climbs-above x xs c n) (cases-cons m)))
+    (λ e. rw e (⊎-elim (λ q. clash (ap p (sym q) ∙ h) e) (λ n. first-least p xs (climbs-tail x xs c) n h) (cases-cons m)))
+    (decided (p x))
+
+-- where there is a break, the window that is answered begins at one, and has the most breaks
+pub first-begins : (w : ℕ) (ts : List ℕ) → 1 ≤ length ts → Mem (firstWith (mostBreaks w ts) w ts) ts × (within w ts (firstWith (mostBreaks w ts) w ts) ≡ mostBreaks w ts)
+unfolding firstWith mostAtBreaks
+first-begins w ts h =
+    let t = greatestOf-at (within w ts) ts h in
+    let r = first-passes (λ s. eqb (within w ts s) (mostBreaks w ts)) ts (t .1) (eq-eqb _ _ (t .2 ∙ sym (breaks-suffice w ts))) in
+    (r .0, eqb-true _ _ (r .1))
+
+-- no window that has as many and begins at a break is earlier
+pub first-earliest : (w : ℕ) (ts : List ℕ) → climbs ts ≡ true → (s : ℕ) → Mem s ts → within w ts s ≡ mostBreaks w ts → firstWith (mostBreaks w ts) w ts ≤ s
+unfolding firstWith
+first-earliest w ts c s m e = first-least (λ t. eqb (within w ts t) (mostBreaks w ts)) ts c m (eq-eqb _ _ e)

@@ -66,11 +66,15 @@ loop-again c =
     let l = c .before .before .before .before .before .before .before in
     let i = l .loop .inv in
     let h = c .before .before .before .if1 .left in
-    let e = sym (c .before .in-window .ensures) in
-    (omega arith, omega arith, i .2, ⊎-elim
-      (λ w. rw (w .1, w .2) (found-grown _ _ _ _ _ (i .3) h (e ∙ w .0 .taken)))
-      (λ w. rw (w .1, w .2) (found-same _ _ _ _ _ (i .3) h (e ∙ w .0 .left)))
-      (c .if2 .came))
+    let e = sym (c .before .in-window .ensures) in (
+      omega arith,
+      omega arith,
+      i .2,
+      ⊎-elim
+          (λ w. rw (w .1, w .2) (found-grown _ _ _ _ _ (i .3) h (e ∙ w .0 .taken)))
+          (λ w. rw (w .1, w .2) (found-same _ _ _ _ _ (i .3) h (e ∙ w .0 .left)))
+          (c .if2 .came),
+    )
 
 returns-2 : tie.Need-returns-2 Inv-loop μ-loop
 returns-2 c = found-is (c .before .loop .inv .3) (omega arith) refl refl
