@@ -3,3 +3,5 @@ pub mod Climbing
 pub mod Windows
 pub mod Passing
 pub mod Blocks
+pub mod Appended
+pub mod Told

@@ -130,7 +130,7 @@ module _ (w : ℕ) (ts : List ℕ) (m f : ℕ) (F : Found w ts (length ts) m f) 
           (λ e. ltb-false _ _ e)
           (decided (ltb (rank (at ts (F .start) + w) ts) (F .start + m)))
 
-  most : mostBreaks w ts ≡ m
+  pub most : mostBreaks w ts ≡ m
   unfolding mostBreaks
   most =
       let up : mostBreaks w ts ≤ m = greatest-most (within w ts) _ m at-most in

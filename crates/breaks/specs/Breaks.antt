@@ -2,12 +2,14 @@
 -- are as many breaks. A window of w ticks that begins at s has the ticks s, s + 1, .., s + w - 1: whole numbers, which are
 -- not cut at 32 bits.
 use Prim.Native.Nat.{ℕ, zero, suc, _+_, max}
+use mathlib.Core.Path.{_≡_}
 use mathlib.Core.Bool.{Bool, true, cond, _&&_}
 use mathlib.Core.List.{List, [], _∷_, map}
 use lib.Dec.{leb, ltb, eqb}
 use lib.ListN.{length}
 use Rattle.lists.specs.Lists.{keep}
 use Rattle.reading.specs.Answer.{Answer, done, refused, unless}
+use Rattle.reading.specs.Verdict.{verdictOf, verdictNumber, orKept}
 use Rattle.breaks.specs.declared.pass.Best.{Best}
 use Rattle.breaks.specs.declared.busiest.Counted.{Counted}
 use Rattle.breaks.specs.declared.busiest.Counted.the-variants as Co
@@ -73,3 +75,7 @@ busiestAtBreaks w ts = answered (mostAtBreaks w ts) w ts
 abbrev pub told : Answer Best → Counted
 told (done b) = Co.Breaks b
 told (refused k) = Co.Refused k
+
+-- what becomes of the two numbers that are lent for the answer, and the number that the call answers with
+abbrev pub Tells : ℕ → ℕ → Answer Best → ℕ → ℕ → ℕ → Type 0
+Tells count first a count' first' number = (number ≡ verdictNumber (verdictOf a)) × (counted count' first' ≡ orKept (counted count first) a)

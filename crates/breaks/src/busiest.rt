@@ -3,7 +3,9 @@
 ghost use mathlib.Core.Path.{_≡_};
 ghost use Prim.Native.Nat.{_≤_};
 ghost use lib.ListN.{length};
-ghost use Rattle.breaks.specs.Breaks.{busiestOf, told};
+ghost use Rattle.breaks.specs.Breaks.{busiestOf, told, Tells};
+ghost use Rattle.reading.specs.Answer.{Answer};
+ghost use Rattle.breaks.specs.declared.pass.Best.{Best};
 ghost use Rattle.breaks.specs.Passes.{PassedTo};
 use crate::block::pass_block;
 use crate::pass::Best;
@@ -50,5 +52,20 @@ pub fn busiest(ticks: &[u32], window: u32) -> Counted
     match p {
         Passed::To(best) => Counted::Breaks(best),
         Passed::Falls => Counted::Refused(29),
+    }
+}
+
+// Tells an answer to a caller who lent two numbers: 0, the most breaks and the first tick, or the number of the refusal, which
+// leaves both as they were.
+pub fn tell(answer: Counted, count: &mut usize, first: &mut u32) -> u8
+    ensures { λ r. ⌜ ((a : Answer Best) → answer ≡ told a → Tells (now (count .entry)) (now (first .entry)) a (now (count .exit)) (now (first .exit)) r) ⌝ }
+{
+    match answer {
+        Counted::Breaks(best) => {
+            *count = best.count;
+            *first = best.first;
+            0
+        }
+        Counted::Refused(k) => k,
     }
 }

@@ -39,7 +39,7 @@ pub fn find(s: &[u8], at: usize, b: u8) -> usize
     i
 }
 
-fn is_space(b: u8) -> bool
+pub fn is_space(b: u8) -> bool
     ensures { λ r. ⌜ r ≡ isSpace b ⌝ }
 {
     b == b' ' || b == b'\t' || b == b'\r'
@@ -93,7 +93,7 @@ pub enum NumberRead {
 }
 
 // One digit more; past the largest number the answer stays there.
-fn with_digit(value: u64, digit: u8) -> u64
+pub fn with_digit(value: u64, digit: u8) -> u64
     ensures { λ r. ⌜ r ≡ withDigit value digit ⌝ }
 {
     if value > 4294967295 {
@@ -102,14 +102,14 @@ fn with_digit(value: u64, digit: u8) -> u64
     value * 10 + (digit as u64)
 }
 
-fn is_digit(b: u8) -> bool
+pub fn is_digit(b: u8) -> bool
     ensures { λ r. ⌜ r ≡ isDigit b ⌝ }
 {
     b >= b'0' && b <= b'9'
 }
 
 // The value of a digit.
-fn digit_value(b: u8) -> u8
+pub fn digit_value(b: u8) -> u8
     ensures { λ r. ⌜ r ≡ b - 48 ⌝ }
 {
     if b < b'0' {

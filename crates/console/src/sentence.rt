@@ -35,7 +35,7 @@ fn of_transitions(k: u8) {
     }
 }
 
-// Refusals 17 to 28: calls of the machines, and network files.
+// Refusals 17 to 28: calls of the machines, and network files; and 29, of weft breaks.
 fn of_calls(k: u8) {
     match k {
         17 => text(b"this is not a configuration of the chart, or bounds are broken"),
@@ -49,6 +49,7 @@ fn of_calls(k: u8) {
         26 => text(b"this is not a configuration of the network, or bounds are broken"),
         27 => text(b"an urgent location is occupied and has to be left first"),
         28 => text(b"an assignment or an advance has a result outside the range of signed 32 bits"),
+        29 => text(b"the window has no tick, or a tick is smaller than the one before it"),
         _ => {}
     }
 }

@@ -1,0 +1,4 @@
+-- Laws of the definitions of this crate.
+pub mod Rings
+pub mod Lines
+pub mod Inputs
