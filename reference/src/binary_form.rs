@@ -1,6 +1,8 @@
 //! Requests as bytes, for programs that read them one after the other, and the lines that such
 //! programs print. README.md describes the layout.
 
+use std::borrow::Cow;
+
 use crate::chart_machine::ChartConfiguration;
 use crate::limits::{AUTOMATA, CLOCKS, STATES, VARIABLES};
 use crate::network_machine::NetworkConfiguration;
@@ -9,11 +11,14 @@ use crate::refusal::Refusal;
 use crate::request::{Request, Success};
 use crate::run_request::{Read, RunAnswer, RunRequest, View};
 use crate::side_by_side::Call;
-use crate::text_form::{hexadecimal, with_commas};
+use crate::text_form::{breaks_to_text, hexadecimal, with_commas};
 use crate::values::Values;
 
 /// The operation that runs a chart and its network side by side.
 const RUN: u8 = 8;
+
+/// How many bytes a tick of weft breaks has.
+const TICK_BYTES: usize = 4;
 
 /// A request to one machine, or to run both.
 #[derive(Clone, PartialEq, Eq, Debug)]
@@ -40,7 +45,7 @@ pub fn answer_to_lines(request: &AnyRequest) -> String {
 
 /// The bytes of a request to one machine.
 fn request_to_bytes(request: &Request) -> Vec<u8> {
-    let mut bytes = head_to_bytes(operation(request), request.file());
+    let mut bytes = head_to_bytes(operation(request), &content(request));
     match request {
         Request::Check(_) | Request::ChartStart(_) | Request::NetworkStart(_) => {}
         Request::Flatten(_, room) => bytes.extend(room.to_be_bytes()),
@@ -66,8 +71,17 @@ fn request_to_bytes(request: &Request) -> Vec<u8> {
         Request::NetworkLongest(_, configuration) => {
             bytes.extend(network_configuration_to_bytes(configuration));
         }
+        Request::WeftBreaks(_, window) => bytes.extend(window.to_be_bytes()),
     }
     bytes
+}
+
+/// What the place of the file holds: the file, or the ticks of weft breaks.
+fn content(request: &Request) -> Cow<'_, [u8]> {
+    match request {
+        Request::WeftBreaks(ticks, _) => ticks.iter().flat_map(|tick| tick.to_be_bytes()).collect(),
+        _ => Cow::Borrowed(request.file().unwrap_or_default()),
+    }
 }
 
 /// The bytes of a request to run both machines.
@@ -89,11 +103,11 @@ fn run_request_to_bytes(request: &RunRequest) -> Vec<u8> {
     bytes
 }
 
-/// What every request starts with: the operation, and the file with its length.
-fn head_to_bytes(operation: u8, file: &[u8]) -> Vec<u8> {
+/// What every request starts with: the operation, and the content with its length.
+fn head_to_bytes(operation: u8, content: &[u8]) -> Vec<u8> {
     let mut bytes = vec![operation];
-    bytes.extend((file.len() as u32).to_be_bytes());
-    bytes.extend(file);
+    bytes.extend((content.len() as u32).to_be_bytes());
+    bytes.extend(content);
     bytes
 }
 
@@ -111,6 +125,7 @@ pub fn operation(request: &Request) -> u8 {
         // 8 is RUN.
         Request::ChartLongest(..) => 9,
         Request::NetworkLongest(..) => 10,
+        Request::WeftBreaks(..) => 11,
     }
 }
 
@@ -143,9 +158,16 @@ fn request_from_reader(reader: &mut Reader) -> Result<AnyRequest, Fault> {
         7 => Request::NetworkWait(file, network_configuration(reader)?, reader.four_bytes()?),
         9 => Request::ChartLongest(file, chart_configuration(reader)?),
         10 => Request::NetworkLongest(file, network_configuration(reader)?),
+        11 => Request::WeftBreaks(whole_ticks(&file), reader.four_bytes()?),
         RUN => return Ok(AnyRequest::Run(RunRequest { file, calls: calls_from_reader(reader)? })),
         _ => return Err(Fault::Field),
     }))
+}
+
+/// The ticks of weft breaks. Bytes after the last whole one are ignored.
+fn whole_ticks(bytes: &[u8]) -> Vec<u32> {
+    let (ticks, _) = bytes.as_chunks::<TICK_BYTES>();
+    ticks.iter().map(|&tick| u32::from_be_bytes(tick)).collect()
 }
 
 fn calls_from_reader(reader: &mut Reader) -> Result<Vec<Call>, Fault> {
@@ -175,6 +197,7 @@ fn answer_to_line(answer: &Result<Success, Refusal>) -> String {
             format!("ok {}", hexadecimal(&network_configuration_to_bytes(new)))
         }
         Ok(Success::Longest(ticks)) => format!("ok {ticks}"),
+        Ok(Success::Breaks(breaks)) => breaks_to_text(breaks),
         Err(refusal) => refusal.number().to_string(),
     }
 }

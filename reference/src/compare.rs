@@ -11,6 +11,7 @@ use crate::coverage::operation_name;
 use crate::damage::{damage_chart, damage_file, Form};
 use crate::flatten::network_of;
 use crate::generate::chart_from_seed;
+use crate::generate_breaks::breaks_requests;
 use crate::generate_longest::{chart_longest_requests, network_longest_requests};
 use crate::generate_range::{chart_end_requests, network_end_requests};
 use crate::network::Network;
@@ -113,9 +114,18 @@ impl Agreed {
         }
     }
 
-    /// The chart of a seed with what `compare_chart` makes of it.
+    /// So many random lists of weft breaks.
+    pub fn compare_breaks(&mut self, count: usize, random: &mut Random) {
+        for request in breaks_requests(count, random) {
+            self.compare(&request);
+        }
+    }
+
+    /// The chart of a seed with what `compare_chart` makes of it, and lists of weft breaks.
     pub fn compare_seed(&mut self, seed: u64, count: usize) {
-        self.compare_chart(&chart_from_seed(seed), count, &mut Random::new(seed));
+        let mut random = Random::new(seed);
+        self.compare_chart(&chart_from_seed(seed), count, &mut random);
+        self.compare_breaks(count, &mut random);
     }
 }
 

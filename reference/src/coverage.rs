@@ -5,6 +5,7 @@ use std::collections::{BTreeMap, BTreeSet};
 use crate::chart::{Chart, Transition};
 use crate::chart_machine;
 use crate::check::check;
+use crate::coverage_breaks;
 use crate::coverage_longest;
 use crate::coverage_sensors;
 use crate::expression::Expression;
@@ -42,6 +43,7 @@ pub fn operation_name(request: &Request) -> &'static str {
         Request::NetworkStep(..) => "network step",
         Request::NetworkWait(..) => "network wait",
         Request::NetworkLongest(..) => "network longest wait",
+        Request::WeftBreaks(..) => "weft breaks",
     }
 }
 
@@ -53,8 +55,8 @@ pub fn features(request: &Request, layout: Option<&Layout>) -> Features {
         Ok(_) => "ok".to_string(),
         Err(refusal) => format!("refusal {}", refusal.number()),
     });
-    if answer.is_ok() {
-        found.insert(format!("version {}", request.file()[0]));
+    if let (Ok(_), Some([version, ..])) = (&answer, request.file()) {
+        found.insert(format!("version {version}"));
     }
     match request {
         Request::Check(file) if answer.is_ok() => {
@@ -125,6 +127,7 @@ pub fn features(request: &Request, layout: Option<&Layout>) -> Features {
                 }
             }
         }
+        Request::WeftBreaks(ticks, window) => coverage_breaks::add(ticks, *window, &mut found),
         _ => {}
     }
     let name = operation_name(request);

@@ -58,7 +58,10 @@ pub fn range_features(request: &Request) -> Features {
         }
         _ => {}
     }
-    let (name, version) = (operation_name(request), request.file()[0]);
+    let Some([version, ..]) = request.file() else {
+        return found;
+    };
+    let name = operation_name(request);
     let of_version = |feature: &String| {
         let kind = ["28", "guard", "20"].into_iter().find(|kind| feature.starts_with(kind));
         kind.map(|kind| format!("{kind} in version {version}"))

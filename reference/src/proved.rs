@@ -12,6 +12,7 @@ use crate::network_machine::NetworkConfiguration;
 use crate::refusal::Refusal;
 use crate::request::{Request, Success};
 use crate::values::Values;
+use crate::weft_breaks::Breaks;
 
 extern "C" {
     fn figrummy_check_chart(file: *const u8, length: usize) -> u8;
@@ -113,6 +114,13 @@ extern "C" {
         length: usize,
         configuration: *const BoardConfiguration,
         ticks: &mut u32,
+    ) -> u8;
+    fn figrummy_weft_breaks(
+        ticks: *const u32,
+        count: usize,
+        window: u32,
+        most: &mut usize,
+        first: &mut u32,
     ) -> u8;
 }
 
@@ -220,6 +228,7 @@ pub fn answer(request: &Request) -> Result<Success, Refusal> {
             .map(|left| left == Success::Network(*given))
         }),
         Request::Flatten(file, room) => on_buffer(file, *room as usize),
+        Request::WeftBreaks(ticks, window) => on_ticks(ticks, *window),
     }
 }
 
@@ -284,7 +293,38 @@ fn on_buffer(file: &[u8], room: usize) -> Result<Success, Refusal> {
     Ok(Success::Flattened(buffer))
 }
 
-/// The ticks that are lent to a longest wait: more than any clock leaves, and not what none leaves.
+/// The count that is lent to a count of weft breaks: that of no list.
+const LENT_COUNT: usize = usize::MAX;
+
+/// The most weft breaks in a window.
+pub fn weft_breaks(ticks: &[u32], window: u32) -> Result<Breaks, Refusal> {
+    unsafe { breaks_at(ticks.as_ptr(), ticks.len(), window) }
+}
+
+/// Of a list that is given as the function takes it. So many ticks must be there.
+unsafe fn breaks_at(ticks: *const u32, length: usize, window: u32) -> Result<Breaks, Refusal> {
+    let (mut count, mut first) = (LENT_COUNT, LENT_TICKS);
+    let number = unsafe { figrummy_weft_breaks(ticks, length, window, &mut count, &mut first) };
+    match refusal(number) {
+        None => Ok(Breaks { count, first }),
+        Some(refusal) => {
+            assert_eq!(count, LENT_COUNT, "a refused call changed the count");
+            assert_eq!(first, LENT_TICKS, "a refused call changed the tick");
+            Err(refusal)
+        }
+    }
+}
+
+/// A count of weft breaks in a copy of the list, which must stay as it is.
+fn on_ticks(ticks: &[u32], window: u32) -> Result<Success, Refusal> {
+    let mut lent = ticks.to_vec();
+    let answer = unsafe { breaks_at(lent.as_mut_ptr(), lent.len(), window) };
+    assert!(lent == ticks, "a count of weft breaks changed the list");
+    answer.map(Success::Breaks)
+}
+
+/// The ticks that are lent to a longest wait, more than any clock leaves and not what none leaves, and the
+/// tick that is lent to a count of weft breaks.
 const LENT_TICKS: u32 = 0xA5A5_A5A5;
 
 /// A call for a longest wait. It is lent where the ticks go, and tells whether it left the configuration

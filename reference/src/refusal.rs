@@ -58,11 +58,13 @@ pub enum Refusal {
     Urgency = 27,
     /// An assignment or advance of the list has a result that leaves signed 32 bits.
     RangeLeft = 28,
+    /// A window of no tick, or a tick that is smaller than the one before it.
+    WeftBreaks = 29,
 }
 
 impl Refusal {
     /// Every refusal, in the order of the numbers.
-    pub const ALL: [Refusal; 27] = [
+    pub const ALL: [Refusal; 28] = [
         Refusal::ChartHeader,
         Refusal::ChartCount,
         Refusal::ChartLength,
@@ -90,6 +92,7 @@ impl Refusal {
         Refusal::NetworkConfiguration,
         Refusal::Urgency,
         Refusal::RangeLeft,
+        Refusal::WeftBreaks,
     ];
 
     /// The paper's number.

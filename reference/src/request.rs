@@ -6,8 +6,9 @@ use crate::flatten::network_of;
 use crate::network::Network;
 use crate::network_machine::{self, NetworkConfiguration};
 use crate::refusal::Refusal;
+use crate::weft_breaks::{weft_breaks, Breaks};
 
-/// One operation. Files come first, then what the operation takes besides.
+/// One operation. Files come first, or the ticks of weft breaks, then what the operation takes besides.
 #[derive(Clone, PartialEq, Eq, Debug)]
 pub enum Request {
     Check(Vec<u8>),
@@ -21,6 +22,8 @@ pub enum Request {
     NetworkStep(Vec<u8>, NetworkConfiguration, Vec<u16>),
     NetworkWait(Vec<u8>, NetworkConfiguration, u32),
     NetworkLongest(Vec<u8>, NetworkConfiguration),
+    /// With the window.
+    WeftBreaks(Vec<u32>, u32),
 }
 
 /// What an accepted request gives.
@@ -34,6 +37,8 @@ pub enum Success {
     Network(NetworkConfiguration),
     /// The ticks of the longest wait.
     Longest(u32),
+    /// The most weft breaks in a window, and the first tick of one with so many.
+    Breaks(Breaks),
 }
 
 impl Request {
@@ -73,6 +78,7 @@ impl Request {
                 let network = Network::read(file)?;
                 network_machine::longest_wait(&network, configuration).map(Success::Longest)
             }
+            Request::WeftBreaks(ticks, window) => weft_breaks(ticks, *window).map(Success::Breaks),
         }
     }
 
@@ -92,7 +98,8 @@ impl Request {
         }
     }
 
-    pub fn file(&self) -> &[u8] {
+    /// The file of a chart or a network; weft breaks have none.
+    pub fn file(&self) -> Option<&[u8]> {
         match self {
             Request::Check(file)
             | Request::Flatten(file, _)
@@ -103,7 +110,8 @@ impl Request {
             | Request::NetworkStart(file)
             | Request::NetworkStep(file, _, _)
             | Request::NetworkWait(file, _, _)
-            | Request::NetworkLongest(file, _) => file,
+            | Request::NetworkLongest(file, _) => Some(file),
+            Request::WeftBreaks(..) => None,
         }
     }
 }

@@ -6,6 +6,7 @@ use crate::network_machine::NetworkConfiguration;
 use crate::refusal::Refusal;
 use crate::request::{Request, Success};
 use crate::values::Values;
+use crate::weft_breaks::Breaks;
 
 /// What is answered to a line that is no request.
 pub const MALFORMED: &str = "malformed";
@@ -57,12 +58,15 @@ pub fn request_from_text(line: &str) -> Option<Request> {
             file_from_text(file)?,
             network_configuration_from_text(configuration)?,
         ),
+        ["window", window, ticks] => {
+            Request::WeftBreaks(ticks_from_text(ticks)?, window.parse().ok()?)
+        }
         _ => return None,
     })
 }
 
 pub fn request_to_text(request: &Request) -> String {
-    let file = file_to_text(request.file());
+    let file = file_to_text(request.file().unwrap_or_default());
     match request {
         Request::Check(_) => format!("check {file}"),
         Request::Flatten(_, room) => format!("flatten {file} {room}"),
@@ -88,6 +92,7 @@ pub fn request_to_text(request: &Request) -> String {
         Request::NetworkLongest(_, configuration) => {
             format!("nmax {file} {}", network_configuration_to_text(configuration))
         }
+        Request::WeftBreaks(ticks, window) => format!("window {window} {}", list_to_text(ticks)),
     }
 }
 
@@ -98,8 +103,14 @@ pub fn answer_to_text(answer: &Result<Success, Refusal>) -> String {
         Ok(Success::Chart(new)) => format!("ok {}", chart_configuration_to_text(new)),
         Ok(Success::Network(new)) => format!("ok {}", network_configuration_to_text(new)),
         Ok(Success::Longest(ticks)) => format!("ok {ticks}"),
+        Ok(Success::Breaks(breaks)) => breaks_to_text(breaks),
         Err(refusal) => refusal.number().to_string(),
     }
+}
+
+/// As both forms have it.
+pub fn breaks_to_text(breaks: &Breaks) -> String {
+    format!("ok {} {}", breaks.count, breaks.first)
 }
 
 /// Bytes in hexadecimal; `-` stands for no byte.
@@ -125,7 +136,7 @@ fn file_from_text(text: &str) -> Option<Vec<u8>> {
 }
 
 /// Numbers with commas; `-` stands for no number.
-fn list_to_text(list: &[u16]) -> String {
+fn list_to_text<T: std::fmt::Display>(list: &[T]) -> String {
     if list.is_empty() {
         return "-".to_string();
     }
@@ -142,6 +153,14 @@ fn list_from_text(text: &str) -> Option<Vec<u16>> {
         Some(number.min(u64::from(u16::MAX)) as u16)
     };
     text.split(',').map(number).collect()
+}
+
+/// A number past 32 bits is no tick, and its line no request.
+fn ticks_from_text(text: &str) -> Option<Vec<u32>> {
+    if text == "-" {
+        return Some(Vec::new());
+    }
+    text.split(',').map(|tick| tick.parse().ok()).collect()
 }
 
 fn chart_configuration_to_text(configuration: &ChartConfiguration) -> String {

@@ -11,6 +11,7 @@ use crate::expression::Expression;
 use crate::faulty::{self, all_faulty, Faulty};
 use crate::flatten::network_of;
 use crate::generate::{chart_from_wish, Wish};
+use crate::generate_breaks::breaks_requests;
 use crate::generate_completion::few_completion_requests;
 use crate::generate_longest::{chart_longest_requests, network_longest_requests};
 use crate::generate_range::{chart_end_requests, network_end_requests};
@@ -23,6 +24,7 @@ use crate::request::Request;
 use crate::run_request::RunRequest;
 use crate::side_by_side::{random_network_list, Call, Machines};
 use crate::special;
+use crate::special_breaks::{self, at_both_ends, denser};
 use crate::special_range::{self, Example};
 use crate::special_sensors;
 use crate::update::{Advance, Update};
@@ -49,6 +51,13 @@ const MOST_NETWORK_BYTES: usize = 4_000;
 
 /// How many charts the requests are chosen from.
 const CHARTS: u64 = 400;
+
+/// How many requests to count weft breaks are taken as they come, and how many more are chosen from.
+const BREAKS_AS_THEY_COME: usize = 100;
+const BREAKS: usize = 20_000;
+
+/// Most ticks of one of them.
+pub const MOST_TICKS: usize = 4_096;
 
 /// The input of the program and the output that is right, part by part.
 pub struct VectorFile {
@@ -128,6 +137,7 @@ struct Candidates {
     network: Vec<Candidate>,
     runs: Vec<Candidate>,
     range: Vec<Candidate>,
+    breaks: Vec<Candidate>,
 }
 
 /// The vector file. It is the same at every call.
@@ -153,6 +163,7 @@ pub fn vector_file() -> VectorFile {
             choose("side by side", Vec::new(), candidates.runs),
             choose("range", Vec::new(), candidates.range),
             choose("completion", few_completion_requests(), Vec::new()),
+            choose("breaks", fixed_breaks(), candidates.breaks),
         ],
     }
 }
@@ -178,6 +189,8 @@ fn all_candidates(random: &mut Random) -> Candidates {
     for one in special_range::examples() {
         add_example_candidates(&one, &mut all.range);
     }
+    let mut breaks_random = Random::new(0x4252_4541);
+    all.breaks.extend(breaks_requests(BREAKS, &mut breaks_random).into_iter().map(Candidate::new));
     for guard in all_guards() {
         add_guard_candidates(guard, &mut all.chart, &mut all.network);
     }
@@ -368,6 +381,21 @@ fn add_example_candidates(example: &Example, list: &mut Vec<Candidate>) {
     let given = NetworkConfiguration { values, ..network_machine::start(&network) };
     let request = Request::NetworkStep(network.write(), given, numbers.clone());
     list.push(Candidate::of_range(request));
+}
+
+/// Requests to count weft breaks that are not chosen: those made by hand, some as they come, and long
+/// lists, accepted and with a fall at the very end.
+fn fixed_breaks() -> Vec<Request> {
+    let examples = special_breaks::examples().into_iter();
+    let mut requests: Vec<Request> =
+        examples.map(|one| Request::WeftBreaks(one.ticks, one.window)).collect();
+    requests.extend(breaks_requests(BREAKS_AS_THEY_COME, &mut Random::new(0x5745_4654)));
+    requests.push(Request::WeftBreaks(denser(MOST_TICKS), 1_000));
+    let mut falling = at_both_ends(MOST_TICKS as u32 / 2);
+    requests.push(Request::WeftBreaks(falling.clone(), 1_500));
+    falling[MOST_TICKS - 1] -= 2;
+    requests.push(Request::WeftBreaks(falling, 1_500));
+    requests
 }
 
 /// Every kind of guard with every relation, each against 2.

@@ -18,7 +18,9 @@ fn every_file_of_the_vectors_that_reads_comes_back() {
     let (mut charts, mut networks) = (0, 0);
     for line in REQUESTS.lines() {
         let request = request_from_text(line).expect("a request");
-        let file = request.file();
+        let Some(file) = request.file() else {
+            continue;
+        };
         charts += usize::from(Chart::read(file).is_ok());
         networks += usize::from(Network::read(file).is_ok());
         if let Some(text) = disassemble(file) {

@@ -1,15 +1,18 @@
 //! The proved implementation gives the same answers, on networks by both sets of its functions. A
-//! refused call changes nothing that was lent, flattening nothing after the network, and a longest
-//! wait nothing but the ticks, which `proved` tests.
+//! refused call changes nothing that was lent, flattening nothing after the network, a longest wait
+//! nothing but the ticks, and a count of weft breaks not the list, which `proved` tests.
 
 mod committed;
 
 use reference::compare::Agreed;
+use reference::generate_breaks::all_short_requests;
 use reference::generate_completion::completion_requests;
+use reference::proved;
 use reference::random::Random;
 use reference::refusal::Refusal;
 use reference::request::Request;
 use reference::special;
+use reference::special_breaks::{at_both_ends, long_lists, MILLION};
 use reference::special_completion::completion_charts;
 use reference::special_sensors;
 
@@ -74,4 +77,40 @@ fn completion_agrees() {
     println!("{agreed}");
     assert!(agreed.refused_with(Refusal::Inactive) > 10_000);
     assert!(agreed.refused_with(Refusal::NotAllowed) > 10_000);
+}
+
+#[test]
+fn weft_breaks_agree() {
+    let mut agreed = Agreed::default();
+    agreed.compare_breaks(50_000, &mut Random::new(1));
+    for request in all_short_requests(5, 5) {
+        agreed.compare(&request);
+    }
+    println!("{agreed}");
+    assert!(agreed.refused_with(Refusal::WeftBreaks) > 10_000);
+}
+
+/// Of lists of a million ticks, as they are and with a fall at the end.
+#[test]
+fn weft_breaks_of_long_lists_agree() {
+    let mut lists = long_lists();
+    lists.push(("both ends", at_both_ends(MILLION as u32 / 2)));
+    lists.push(("equal at the front", vec![0; MILLION]));
+    lists.push(("equal at the end", vec![u32::MAX; MILLION]));
+    for (name, mut ticks) in lists {
+        for window in [0, 1, 2, 1_000, 100_000, 10_000_000, u32::MAX] {
+            assert_agree(name, &ticks, window);
+        }
+        ticks[MILLION - 2] = ticks[MILLION - 1].max(1);
+        ticks[MILLION - 1] = ticks[MILLION - 2] - 1;
+        for window in [1, u32::MAX] {
+            assert_agree(name, &ticks, window);
+        }
+    }
+}
+
+/// Says which list it is: the request itself is too long to be printed.
+fn assert_agree(name: &str, ticks: &[u32], window: u32) {
+    let request = Request::WeftBreaks(ticks.to_vec(), window);
+    assert_eq!(proved::answer(&request), request.answer(), "{name}, window {window}");
 }

@@ -26,7 +26,7 @@ fn every_answer_agrees() {
 fn every_operation_and_refusal_is_there() {
     let operations: BTreeSet<&str> =
         REQUESTS.lines().filter_map(|line| line.split(' ').next()).collect();
-    assert_eq!(operations.len(), 10);
+    assert_eq!(operations.len(), 11);
     let answers: BTreeSet<&str> =
         ANSWERS.lines().filter_map(|line| line.split(' ').next()).collect();
     assert!(answers.contains("0") && answers.contains("ok"));
@@ -54,9 +54,9 @@ fn both_versions_and_every_fault_of_an_advance_are_there() {
         .filter(|(_, answer)| answer.starts_with("ok") || *answer == "0");
     let kinds: BTreeSet<(String, u8)> = accepted
         .map(|(line, _)| request_from_text(line).expect("a request"))
-        .map(|request| (operation_name(&request).to_string(), request.file()[0]))
+        .filter_map(|request| Some((operation_name(&request).to_string(), request.file()?[0])))
         .collect();
-    // Ten operations in two versions.
+    // Ten operations have a file, in two versions.
     assert_eq!(kinds.len(), 10 * 2, "{kinds:?}");
 }
 

@@ -1,8 +1,8 @@
 //! The vector file for programs: what is in the repository is what is written, and it covers every
 //! refusal, every kind of guard, relation, signal and place, both versions with every kind of
 //! advance and every fault of one, sensors and plain parallel states at every place, longest waits
-//! decided by everything that can decide one, results that leave the range at every place, and steps that
-//! ask whether deep and wide composite states are completed.
+//! decided by everything that can decide one, results that leave the range at every place, steps that ask
+//! whether deep and wide composite states are completed, and weft breaks.
 
 use std::fs;
 use std::path::Path;
@@ -16,8 +16,9 @@ use reference::faulty::{all_faulty, Faulty};
 use reference::generate_completion::few_completion_requests;
 use reference::longest_reason::Reason;
 use reference::refusal::Refusal;
+use reference::request::Request;
 use reference::vector_files::{
-    vector_file, Part, VectorFile, MOST_INPUT_BYTES, MOST_OUTPUT_BYTES, WINDOW,
+    vector_file, Part, VectorFile, MOST_INPUT_BYTES, MOST_OUTPUT_BYTES, MOST_TICKS, WINDOW,
 };
 
 /// The file, written once for all tests.
@@ -401,4 +402,19 @@ fn the_requests_for_completion_cover_everything() {
     assert_covered(&part.counts, parts("chart step", &sets));
     let sources = ["from Parallel", "from plain", "exit shut by a sensor"];
     assert_covered(&part.counts, parts("chart step", &sources));
+}
+
+/// `tests/weft_breaks.rs` names every kind of list and of window that has to be there, and has wrong
+/// readings that these requests notice.
+#[test]
+fn the_requests_to_count_weft_breaks_cover_everything() {
+    let part = part("breaks");
+    assert_covered(&part.counts, refusals("weft breaks", [29]));
+    assert_covered(&part.counts, parts("weft breaks", &["ok"]));
+    let requests = requests_from_bytes(&part.input).expect("whole requests");
+    let lengths = requests.iter().map(|request| match request {
+        AnyRequest::One(Request::WeftBreaks(ticks, _)) => ticks.len(),
+        other => panic!("{other:?}"),
+    });
+    assert_eq!(lengths.max(), Some(MOST_TICKS));
 }

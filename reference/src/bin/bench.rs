@@ -1,8 +1,8 @@
 //! Times every operation on a small, an ordinary and the largest input, on one with many advances, on one
-//! with many sensors and on one with expressions of the most levels, flattening on more, and steps that
-//! ask most often whether a composite state is completed, and prints three tables.
+//! with many sensors and on one with expressions of the most levels, flattening on more, steps that ask
+//! most often whether a composite state is completed, and counts of weft breaks, and prints four tables.
 //!
-//! `bench [operations] [flattening] [completion]`: the tables that are named, or all of them.
+//! `bench [operations] [flattening] [completion] [breaks]`: the tables that are named, or all of them.
 //!
 //! Each operation reads its file anew, as its description says. Implementations are compared in
 //! one run over the same inputs: the first of the list is this one; with the feature `proved` the
@@ -25,24 +25,28 @@ use reference::random::Random;
 use reference::refusal::Refusal;
 use reference::request::{Request, Success};
 use reference::special;
+use reference::special_breaks::{long_lists, MILLION};
 use reference::special_completion::{broadcast_step, completion_charts, plain_step};
 use reference::special_sensors;
 use reference::walk::{chart_requests, network_requests};
+use reference::weft_breaks::{weft_breaks, Breaks};
 
-/// Something that answers requests, and flattens into a buffer.
+/// Something that answers requests, flattens into a buffer, and counts weft breaks.
 struct Implementation {
     name: &'static str,
     answer: fn(&Request) -> Result<Success, Refusal>,
     flatten: fn(&[u8], &mut [u8]) -> Result<usize, Refusal>,
+    weft_breaks: fn(&[u32], u32) -> Result<Breaks, Refusal>,
 }
 
 const IMPLEMENTATIONS: &[Implementation] = &[
-    Implementation { name: "reference", answer: Request::answer, flatten },
+    Implementation { name: "reference", answer: Request::answer, flatten, weft_breaks },
     #[cfg(feature = "proved")]
     Implementation {
         name: "proved",
         answer: reference::proved::answer,
         flatten: reference::proved::flatten,
+        weft_breaks: reference::proved::weft_breaks,
     },
 ];
 
@@ -51,13 +55,19 @@ const IMPLEMENTATIONS: &[Implementation] = &[
 const LEAST_TIME: Duration = Duration::from_millis(1);
 const ROUNDS: usize = 200;
 
+/// How many rounds there are of a count of weft breaks, of which one takes milliseconds and more.
+const BREAKS_ROUNDS: usize = 25;
+
+/// The windows in which weft breaks are counted.
+const WINDOWS: [u32; 5] = [1, 1_000, 100_000, 10_000_000, u32::MAX];
+
 /// The names of the tables, in the order in which they are printed.
-const TABLES: [&str; 3] = ["operations", "flattening", "completion"];
+const TABLES: [&str; 4] = ["operations", "flattening", "completion", "breaks"];
 
 fn main() -> ExitCode {
     let asked: Vec<String> = env::args().skip(1).collect();
     if asked.iter().any(|name| !TABLES.contains(&name.as_str())) {
-        eprintln!("usage: bench [operations] [flattening] [completion]");
+        eprintln!("usage: bench [operations] [flattening] [completion] [breaks]");
         return ExitCode::from(2);
     }
     let is_asked = |table: &&str| asked.is_empty() || asked.iter().any(|name| name == table);
@@ -70,7 +80,8 @@ fn main() -> ExitCode {
         match table {
             "operations" => time_operations(&sizes),
             "flattening" => time_flattening(&sizes),
-            _ => time_completion(),
+            "completion" => time_completion(),
+            _ => time_breaks(),
         }
     }
     ExitCode::SUCCESS
@@ -135,12 +146,13 @@ fn print_heading(name: &str) {
 
 /// A row: the times of one request, if all give the same answer.
 fn time_request(name: &str, size: &str, request: &Request) {
-    print!("{name:<22}{size:<10}{:>8}", request.file().len());
+    let file = request.file().unwrap_or_default();
+    print!("{name:<22}{size:<10}{:>8}", file.len());
     if IMPLEMENTATIONS.iter().any(|one| (one.answer)(request) != request.answer()) {
         println!("  left out: the answers differ");
         return;
     }
-    print_times(&times(IMPLEMENTATIONS.len(), |number| {
+    print_times(&times(ROUNDS, IMPLEMENTATIONS.len(), |number| {
         let _ = black_box((IMPLEMENTATIONS[number].answer)(black_box(request)));
     }));
     println!();
@@ -160,7 +172,8 @@ fn time_flattening(sizes: &[(&str, Chart)]) {
         let network = network_of(chart).map_or(Vec::new(), |network| network.write());
         let mut buffer = vec![0; network.len()];
         print!("{size:<22}{:>8}{:>10}", file.len(), network.len());
-        let all = times(IMPLEMENTATIONS.len() + 1, |number| match IMPLEMENTATIONS.get(number) {
+        let count = IMPLEMENTATIONS.len() + 1;
+        let all = times(ROUNDS, count, |number| match IMPLEMENTATIONS.get(number) {
             Some(implementation) => {
                 let _ = (implementation.flatten)(black_box(&file), black_box(&mut buffer));
             }
@@ -174,6 +187,56 @@ fn time_flattening(sizes: &[(&str, Chart)]) {
             println!("{copy:>15.0}{:>8.1}", flatten_times[flatten_times.len() - 1] / copy);
         }
     }
+}
+
+/// Counts of weft breaks beside a plain sum of the same list, which reads every tick once: the last
+/// implementation's time is given as a multiple of the sum's.
+fn time_breaks() {
+    let (last, others) = IMPLEMENTATIONS.split_last().expect("there is one");
+    println!("breaks: a count of weft breaks in {MILLION} ticks, beside a plain sum of the ticks");
+    print!("{:<10}{:>12}{:>15}", "list", "window", "sum ns");
+    print!("{:>15}{:>15}", format!("{} ns", last.name), format!("{}/sum", last.name));
+    println_columns(others.iter().map(|one| format!("{} ns", one.name)));
+    for (name, ticks) in long_lists() {
+        for window in WINDOWS {
+            print!("{name:<10}{window:>12}");
+            time_breaks_of(&ticks, window);
+        }
+    }
+}
+
+/// The rest of a row, if all give the same answer.
+fn time_breaks_of(ticks: &[u32], window: u32) {
+    let expected = weft_breaks(ticks, window);
+    if IMPLEMENTATIONS.iter().any(|one| (one.weft_breaks)(ticks, window) != expected) {
+        println!("  left out: the answers differ");
+        return;
+    }
+    let count = IMPLEMENTATIONS.len() + 1;
+    let all = times(BREAKS_ROUNDS, count, |number| match IMPLEMENTATIONS.get(number) {
+        Some(one) => {
+            let _ = black_box((one.weft_breaks)(black_box(ticks), black_box(window)));
+        }
+        None => {
+            black_box(sum(black_box(ticks)));
+        }
+    });
+    let (sum, counts) = all.split_last().expect("there is the sum");
+    let (last, others) = counts.split_last().expect("there is an implementation");
+    print!("{sum:>15.0}{last:>15.0}{:>15.2}", last / sum);
+    println_columns(others.iter().map(|time| format!("{time:.0}")));
+}
+
+/// The rest of a line.
+fn println_columns(columns: impl Iterator<Item = String>) {
+    println!("{}", columns.map(|column| format!("{column:>15}")).collect::<String>());
+}
+
+/// Other than `+`, which is checked here in release too, this is compiled as an ordinary sum. It does not
+/// wrap: a list of fewer than 2 to the power of 32 ticks has a sum of 64 bits.
+#[inline(never)]
+fn sum(ticks: &[u32]) -> u64 {
+    ticks.iter().fold(0, |sum, &tick| sum.wrapping_add(u64::from(tick)))
 }
 
 /// The headings of the columns with the implementations' times.
@@ -193,9 +256,9 @@ fn print_times(times: &[f64]) {
     }
 }
 
-/// The shortest mean time of one call of each of some, in nanoseconds; `call` makes a call of the
-/// one with that number. They take turns, so that a machine whose speed changes favours none.
-fn times(count: usize, mut call: impl FnMut(usize)) -> Vec<f64> {
+/// The shortest mean time of one call of each of some in so many rounds, in nanoseconds; `call` makes a
+/// call of the one with that number. They take turns, so that a machine whose speed changes favours none.
+fn times(rounds: usize, count: usize, mut call: impl FnMut(usize)) -> Vec<f64> {
     let mut time_of = |number: usize, calls: u32| {
         let start = Instant::now();
         for _ in 0..calls {
@@ -209,7 +272,7 @@ fn times(count: usize, mut call: impl FnMut(usize)) -> Vec<f64> {
     };
     let calls: Vec<u32> = (0..count).map(&mut calls_within_least_time).collect();
     let mut shortest = vec![f64::INFINITY; count];
-    for _ in 0..ROUNDS {
+    for _ in 0..rounds {
         for (number, shortest) in shortest.iter_mut().enumerate() {
             let mean = time_of(number, calls[number]).as_nanos() as f64 / f64::from(calls[number]);
             *shortest = shortest.min(mean);

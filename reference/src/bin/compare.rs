@@ -1,14 +1,15 @@
 //! Compares the proved implementation with this one on random requests and prints how many agreed.
 //!
-//! `compare [--calls N] [--seed S]`: at least N calls (100,000 if it is left out), on the charts of
-//! the seeds from S (0) on. The first difference stops it with status 101 and prints the request.
+//! `compare [--calls N] [--seed S]`: at least N calls (100,000 if it is left out), on the charts and the
+//! lists of weft breaks of the seeds from S (0) on. The first difference stops it with status 101 and
+//! prints the request.
 
 use std::env;
 use std::process::ExitCode;
 
 use reference::compare::Agreed;
 
-/// Requests of each kind for one chart.
+/// Requests of each kind for one seed.
 const REQUESTS: usize = 20;
 
 fn main() -> ExitCode {
@@ -22,7 +23,7 @@ fn main() -> ExitCode {
         agreed.compare_seed(seed, REQUESTS);
         seed += 1;
     }
-    println!("{agreed} on the charts of the seeds {first_seed} to {}", seed - 1);
+    println!("{agreed} on the charts and lists of the seeds {first_seed} to {}", seed - 1);
     ExitCode::SUCCESS
 }
 
