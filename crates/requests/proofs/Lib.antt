@@ -1,4 +1,5 @@
 -- Laws of the parts of a request.
 pub mod Numbers
 pub mod Fills
+pub mod Fronts
 pub mod Requests

@@ -15,7 +15,7 @@ use Rattle.reading.proofs.Places.{bind-got, bind-fault, framed-got, framed-long
 use Rattle.reading.proofs.Lengths.{byte-consumes, such-consumes}
 use Rattle.reading.proofs.InFront.{InFront, yield-front, bind-front, such-front, byte-front, byte2-front, byte4-front, many-front}
 use Rattle.requests.specs.Calls.{Call, stepped, waited, body, call, calls}
-use Rattle.requests.specs.Requests.{Operation, Request, asked, run-both, longest, size, lent, block, called, run, longestFrom, operations, operation, request, callsOf}
+use Rattle.requests.specs.Requests.{Operation, Request, asked, run-both, longest, size, lent, block, called, run, longestFrom, windowed, operations, operation, request, callsOf}
 use Rattle.requests.specs.Requests as requests
 use Rattle.requests.specs.declared.request.Machine.{Machine}
 use Rattle.requests.specs.declared.request.Machine.the-variants as Mc
@@ -81,17 +81,17 @@ above n k h q = omega arith
 first : (k : ℕ) → 0 ≤ k
 first k = omega arith
 
-ten : (k : ℕ) → 9 < k → k < 11 → k ≡ 10
-ten k h l = omega arith
+eleven : (k : ℕ) → 10 < k → k < 12 → k ≡ 11
+eleven k h l = omega arith
 
-pub number-last : (k : ℕ) → k < 11 → (k ≡ 0 → ⊥) → (k ≡ 1 → ⊥) → (k ≡ 2 → ⊥) → (k ≡ 3 → ⊥) → (k ≡ 4 → ⊥)
-    → (k ≡ 5 → ⊥) → (k ≡ 6 → ⊥) → (k ≡ 7 → ⊥) → (k ≡ 8 → ⊥) → (k ≡ 9 → ⊥) → k ≡ 10
-number-last k h n0 n1 n2 n3 n4 n5 n6 n7 n8 n9 =
+pub number-last : (k : ℕ) → k < 12 → (k ≡ 0 → ⊥) → (k ≡ 1 → ⊥) → (k ≡ 2 → ⊥) → (k ≡ 3 → ⊥) → (k ≡ 4 → ⊥)
+    → (k ≡ 5 → ⊥) → (k ≡ 6 → ⊥) → (k ≡ 7 → ⊥) → (k ≡ 8 → ⊥) → (k ≡ 9 → ⊥) → (k ≡ 10 → ⊥) → k ≡ 11
+number-last k h n0 n1 n2 n3 n4 n5 n6 n7 n8 n9 n10 =
     let four : 4 < k = above 4 k (above 3 k (above 2 k (above 1 k (above 0 k (first k) n0) n1) n2) n3) n4 in
-    ten k (above 9 k (above 8 k (above 7 k (above 6 k (above 5 k four n5) n6) n7) n8) n9) h
+    eleven k (above 10 k (above 9 k (above 8 k (above 7 k (above 6 k (above 5 k four n5) n6) n7) n8) n9) n10) h
 
 -- a request whose number was read
-module _ (b : List ℕ) {k : ℕ} {t : List ℕ} (h : such byte (λ k. ltb k 11) b ≡ got k t) where
+module _ (b : List ℕ) {k : ℕ} {t : List ℕ} (h : such byte (λ k. ltb k 12) b ≡ got k t) where
   pub file-fault : {f : Fault} → framed byte4 t ≡ fault f → request b ≡ fault f
   unfolding request
   file-fault e = bind-got _ _ _ h ∙ bind-fault _ _ _ e
@@ -147,7 +147,7 @@ unfolding longestFrom block
 longest-front m = bind-front (block (size m)) _ (framed-front _ (yield-front _)) (λ given. yield-front _)
 
 operation-front : (k : ℕ) → InFront (operation k)
-unfolding operation operations lent
+unfolding operation operations lent windowed
 operation-front zero = yield-front _
 operation-front (suc zero) = bind-front (such byte4 _) _ (such-front byte4 _ byte4-front) (λ n. yield-front _)
 operation-front (suc (suc zero)) = yield-front _
@@ -159,7 +159,8 @@ operation-front (suc (suc (suc (suc (suc (suc (suc zero))))))) = called-front _ 
 operation-front (suc (suc (suc (suc (suc (suc (suc (suc zero)))))))) = run-front
 operation-front (suc (suc (suc (suc (suc (suc (suc (suc (suc zero))))))))) = longest-front _
 operation-front (suc (suc (suc (suc (suc (suc (suc (suc (suc (suc zero)))))))))) = longest-front _
-operation-front (suc (suc (suc (suc (suc (suc (suc (suc (suc (suc (suc k))))))))))) = run-front
+operation-front (suc (suc (suc (suc (suc (suc (suc (suc (suc (suc (suc zero))))))))))) = bind-front byte4 _ byte4-front (λ w. yield-front _)
+operation-front (suc (suc (suc (suc (suc (suc (suc (suc (suc (suc (suc (suc k)))))))))))) = run-front
 
 asked-front : (k : ℕ) → InFront (framed byte4 >>= λ file. operation k >>= λ o. yield (asked file o))
 asked-front k = bind-front (framed byte4) _ (framed-front byte4 byte4-front) (λ file. bind-front (operation k) _ (operation-front k) (λ o. yield-front _))

@@ -15,7 +15,8 @@ use Rattle.requests.specs.declared.request.OperationRead.the-variants as
 use Rattle.requests.specs.declared.request.RequestRead.{RequestRead}
 use Rattle.requests.specs.declared.request.RequestRead.the-variants as Rr
 
--- a call of a machine starts from a configuration, given as its bytes; of one the longest wait is asked too
+-- a call of a machine starts from a configuration, given as its bytes; of one the longest wait is asked too. Breaks are counted
+-- in a window of so many ticks; the file has the ticks of the breaks
 pub data Operation : Type 0 where
   check : Operation
   flatten : ℕ → Operation
@@ -23,6 +24,7 @@ pub data Operation : Type 0 where
   call : Machine → List ℕ → Call → Operation
   run-both : List Call → Operation
   longest : Machine → List ℕ → Operation
+  breaks : ℕ → Operation
 
 pub data Request : Type 0 where
   asked : List ℕ → Operation → Request
@@ -54,6 +56,10 @@ run = calls >>= λ cs. yield (run-both cs)
 unfoldable pub longestFrom : Machine → Reader Operation
 longestFrom m = block (size m) >>= λ given. yield (longest m given)
 
+-- how many ticks the window has in which breaks are counted
+unfoldable pub windowed : Reader Operation
+windowed = byte4 >>= λ w. yield (breaks w)
+
 -- what follows the file, by the number of the operation
 unfoldable pub operations : List (Reader Operation)
 operations =
@@ -68,6 +74,7 @@ operations =
     ∷ run
     ∷ longestFrom Mc.Chart
     ∷ longestFrom Mc.Network
+    ∷ windowed
     ∷ []
 
 unfoldable pub operation : ℕ → Reader Operation
@@ -75,7 +82,7 @@ operation k = getD operations k run
 
 unfoldable pub request : Reader Request
 request = do
-  k ← such byte (λ k. ltb k 11)
+  k ← such byte (λ k. ltb k 12)
   file ← framed byte4
   o ← operation k
   yield (asked file o)
@@ -92,6 +99,7 @@ wanted s (Op.Start m) = start m
 wanted s (Op.Call m at c) = call m (take (size m) (onward s at)) (meant s c)
 wanted s (Op.RunBoth at) = run-both (callsOf (calls (onward s at)))
 wanted s (Op.Longest m at) = longest m (take (size m) (onward s at))
+wanted s (Op.Breaks w) = breaks w
 
 abbrev pub operationOf : List ℕ → OperationRead → Read Operation
 operationOf s (Or.Value o n) = got (wanted s o) (onward s n)

@@ -2,3 +2,4 @@
 pub mod calls;
 pub mod input;
 pub mod request;
+pub mod ticks;

@@ -3,7 +3,7 @@ ghost use mathlib.Core.Path.{_≡_};
 ghost use Prim.Native.Nat.{_≤_, _<_};
 ghost use lib.ListN.{length};
 ghost use Rattle.reading.specs.Places.{onward};
-ghost use Rattle.requests.specs.Requests.{size, lent, called, run, longestFrom, operation, request, operationOf, operationEnd, requestOf, requestEnd, Beyond};
+ghost use Rattle.requests.specs.Requests.{size, lent, called, run, longestFrom, windowed, operation, request, operationOf, operationEnd, requestOf, requestEnd, Beyond};
 use crate::calls::Call;
 use crate::calls::CallRead;
 use crate::calls::read_body;
@@ -28,7 +28,7 @@ pub enum Machine {
 
 // What is asked of a file: flattening into a buffer of so many bytes; a call of a machine from the configuration that
 // stands at a place; calls that stand from a place on, with their number in front; the longest wait of the configuration
-// that stands at a place.
+// that stands at a place; the weft breaks within a window of so many ticks, the file being the ticks of the breaks.
 pub enum Operation {
     Check,
     Flatten(u32),
@@ -36,6 +36,7 @@ pub enum Operation {
     Call(Machine, usize, Call),
     RunBoth(usize),
     Longest(Machine, usize),
+    Breaks(u32),
 }
 
 pub enum OperationRead {
@@ -122,9 +123,21 @@ fn read_longest(s: &[u8], at: usize, m: Machine) -> OperationRead
     OperationRead::Value(Operation::Longest(m, at), at + taken)
 }
 
+// How many ticks a window has: any number of four bytes.
+fn read_window(s: &[u8], at: usize) -> OperationRead
+    ensures means { λ r. ⌜ operationOf (now (s .entry)) r ≡ windowed (onward (now (s .entry)) at) ⌝ }
+    ensures within { λ r. ⌜ operationEnd r ≤ length (now (s .entry)) ⌝ }
+{
+    let w = read_word(s, at);
+    match w {
+        WordRead::Value(window, next) => OperationRead::Value(Operation::Breaks(window), next),
+        WordRead::Fault(f) => OperationRead::Fault(f),
+    }
+}
+
 // What follows the file.
 fn read_operation(s: &[u8], at: usize, code: u8) -> OperationRead
-    requires { ⌜ (at ≤ length (now s)) × (code < 11) ⌝ }
+    requires { ⌜ (at ≤ length (now s)) × (code < 12) ⌝ }
     ensures means { λ r. ⌜ operationOf (now (s .entry)) r ≡ operation code (onward (now (s .entry)) at) ⌝ }
     ensures within { λ r. ⌜ operationEnd r ≤ length (now (s .entry)) ⌝ }
 {
@@ -139,7 +152,8 @@ fn read_operation(s: &[u8], at: usize, code: u8) -> OperationRead
         7 => read_called(s, at, Machine::Network, 1),
         8 => read_run(s, at),
         9 => read_longest(s, at, Machine::Chart),
-        _ => read_longest(s, at, Machine::Network),
+        10 => read_longest(s, at, Machine::Network),
+        _ => read_window(s, at),
     }
 }
 
@@ -149,7 +163,7 @@ pub fn read_request(s: &[u8], at: usize) -> RequestRead
     ensures within { λ r. ⌜ requestEnd r ≤ length (now (s .entry)) ⌝ }
     ensures beyond { λ r. ⌜ Beyond at r ⌝ }
 {
-    let b = read_below(s, at, 11);
+    let b = read_below(s, at, 12);
     let ByteRead::Value(code, next) = b else {
         return RequestRead::Fault(byte_fault(b));
     };

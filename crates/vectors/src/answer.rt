@@ -1,4 +1,5 @@
 // What answers a request of each kind.
+use crate::breaks_requests;
 use crate::chart_requests;
 use crate::flatten_requests;
 use crate::network_requests;
@@ -42,5 +43,6 @@ pub fn answer(s: &[u8], q: Request) {
         Operation::Call(m, at, c) => call(file, m, s, at, c),
         Operation::RunBoth(at) => paired_requests::run(file, window::tail(s, at)),
         Operation::Longest(m, at) => longest(file, m, s, at),
+        Operation::Breaks(window) => breaks_requests::count(file, window),
     }
 }

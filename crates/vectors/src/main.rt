@@ -1,6 +1,8 @@
-// Answers requests from standard input until it ends: checks, flattening, calls of the machines, their longest waits, and
-// runs of a chart and its network side by side. Input that is not made of whole requests ends with a line that says so.
+// Answers requests from standard input until it ends: checks, flattening, calls of the machines, their longest waits, runs of
+// a chart and its network side by side, and counts of weft breaks. Input that is not made of whole requests ends with a line
+// that says so.
 mod answer;
+mod breaks_requests;
 mod chart_requests;
 mod flatten_requests;
 mod network_requests;

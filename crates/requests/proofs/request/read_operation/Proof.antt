@@ -30,6 +30,9 @@ read-longest-requires c κs = search needs
 read-longest-requires-2 : tie.Need-read-longest-requires-2
 read-longest-requires-2 c κs = search needs
 
+read-window-requires : tie.Need-read-window-requires
+read-window-requires c κs = search needs
+
 returns : tie.Need-returns
 unfolding operation operations yield
 returns c = (rw (c .match .keys1), omega arith)
@@ -72,13 +75,17 @@ returns-10 c = (rw (c .before .match .keys10) (c .read-longest .ensures .0), c .
 
 returns-11 : tie.Need-returns-11
 unfolding operation operations
-returns-11 c =
+returns-11 c = (rw (c .before .match .keys11) (c .read-longest2 .ensures .0), c .read-longest2 .ensures .1)
+
+returns-12 : tie.Need-returns-12
+unfolding operation operations
+returns-12 c =
     let r = c .before .match .rest in
-    let u = r .0 .0 .0 .0 .0 in
+    let u = r .0 .0 .0 .0 .0 .0 in
     let z =
     number-last _ (c .before .before .before .pre .1) (u .0 .0 .0 .0 .1) (u .0 .0 .0 .1) (u .0 .0 .1) (u .0 .1) (u .1)
-    (r .0 .0 .0 .0 .1) (r .0 .0 .0 .1) (r .0 .0 .1) (r .0 .1) (r .1) in
-    (rw z (c .read-longest2 .ensures .0), c .read-longest2 .ensures .1)
+    (r .0 .0 .0 .0 .0 .1) (r .0 .0 .0 .0 .1) (r .0 .0 .0 .1) (r .0 .0 .1) (r .0 .1) (r .1) in
+    (rw z (c .read-window .ensures .0), c .read-window .ensures .1)
 
 pub read-operation-spec : {M : Type 1} → statement M
 read-operation-spec =
@@ -92,6 +99,7 @@ read-operation-spec =
     read-run-requires
     read-longest-requires
     read-longest-requires-2
+    read-window-requires
     returns
     returns-2
     returns-3
@@ -102,4 +110,5 @@ read-operation-spec =
     returns-8
     returns-9
     returns-10
-    returns-11)
+    returns-11
+    returns-12)

@@ -53,7 +53,7 @@ read-operation-requires c κs =
     let file = c .before .before .before in
     let code = file .before .before in
     let kind = answered (byteOf _) (code .before .before .read-below .ensures .0) (code .b .given .1) in
-    (frame-fits _ (file .read-file .ensures .1) (c .before .f .given .1) .1, ltb-true _ 11 (such-at byte _ _ kind .0))
+    (frame-fits _ (file .read-file .ensures .1) (c .before .f .given .1) .1, ltb-true _ 12 (such-at byte _ _ kind .0))
 
 enum-known-o : tie.Need-enum-known-o
 enum-known-o c = search needs
