@@ -1,5 +1,5 @@
 /*
- * Charts and networks: check, flatten, run both machines, and tell how long they may wait.
+ * Charts and networks: check, flatten, run both machines, and tell how long they may wait. Weft breaks: count them in a window.
  *
  * Link with liblibrary.a (x86-64 Linux), which `rt staticlib library` writes to target/staticlib. It keeps nothing between
  * calls, allocates nothing, and calls nothing back. A program that only runs networks can link libnetwork_machine.a
@@ -138,6 +138,15 @@ uint8_t figrummy_wait_network(const uint8_t *file, size_t file_length, uint8_t l
 uint8_t figrummy_longest_wait_network(const uint8_t *file, size_t file_length, const uint8_t locations[FIGRUMMY_AUTOMATA],
                                       const uint8_t flags[FIGRUMMY_AUTOMATA], const int32_t variables[FIGRUMMY_VARIABLES],
                                       const uint32_t clocks[FIGRUMMY_CLOCKS], uint32_t *ticks);
+
+/*
+ * The ticks of weft breaks, none smaller than the one before it; equal ticks are as many breaks. The most breaks within `window`
+ * consecutive ticks, wherever they begin, into *breaks, and into *first the first tick of the earliest window that has so many and
+ * begins at a break. A window is not cut at 4,294,967,295. No breaks give 0 and 0. The list may have any length, and the time goes
+ * with its length alone. Refusal:
+ *   29  the window has no tick, also with no breaks, or a tick is smaller than the one before it; *breaks and *first stay as they were
+ */
+uint8_t figrummy_weft_breaks(const uint32_t *ticks, size_t ticks_length, uint32_t window, size_t *breaks, uint32_t *first);
 
 #ifdef __cplusplus
 }
