@@ -24,13 +24,16 @@ one-longer ts t = length-append ts (t ∷ [])
 -- what was found stays so
 found-front : (w : ℕ) (ts zs : List ℕ) (m f : ℕ) → Found w ts (length ts) m f → Found w (ts ++ zs) (length ts) m f
 found-front w ts zs m f F = record {
-  climb = λ i h. omega (arith, F .climb i h, at-front ts zs i (omega arith), at-front ts zs (suc i) h);
+  bound = record {
+    climb = λ i h. omega (arith, F .bound .climb i h, at-front ts zs i (omega arith), at-front ts zs (suc i) h);
+    reach = F .bound .reach;
+    fewer = λ i h. omega (arith, F .bound .fewer i h, at-front ts zs i (omega arith), at-front ts zs (i + m) h);
+  };
   start = F .start;
   some = F .some;
   passed = F .passed;
   begins = at-front ts zs (F .start) (omega (arith, F .some, F .passed)) ∙ F .begins;
   fits = omega (arith, F .fits, at-front ts zs (F .start + (m - 1)) (omega (arith, F .some, F .passed)));
-  fewer = λ i h. omega (arith, F .fewer i h, at-front ts zs i (omega arith), at-front ts zs (i + m) h);
   earliest = λ i h. omega (arith, F .earliest i h, at-front ts zs i (omega (arith, F .passed)), at-front ts zs (i + (m - 1)) (omega (arith, F .some, F .passed)));
 }
 
@@ -58,7 +61,7 @@ module _ (w : ℕ) (ts : List ℕ) (t m f : ℕ) (F : Found w ts (length ts) m f
   same-window e = rw (begin, at-end ts t) e
 
   pub found-end-grown : inWindow w (at ts (length ts - m)) t ≡ true → Found w (ts ++ (t ∷ [])) (length (ts ++ (t ∷ []))) (m + 1) (at ts (length ts - m))
-  found-end-grown e = found-is (found-grown w (ts ++ (t ∷ [])) (length ts) m f (found-front w ts (t ∷ []) m f F) last-two (same-window e)) (sym (one-longer ts t)) refl begin
+  found-end-grown e = found-is (found-grown w (ts ++ (t ∷ [])) (length ts) m some-ticks (found-front w ts (t ∷ []) m f F .bound) last-two (same-window e)) (sym (one-longer ts t)) refl begin
 
   pub found-end-same : inWindow w (at ts (length ts - m)) t ≡ false → Found w (ts ++ (t ∷ [])) (length (ts ++ (t ∷ []))) m f
   found-end-same e = found-is (found-same w (ts ++ (t ∷ [])) (length ts) m f (found-front w ts (t ∷ []) m f F) last-two (same-window e)) (sym (one-longer ts t)) refl refl

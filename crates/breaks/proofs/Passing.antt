@@ -3,98 +3,189 @@ use mathlib.Core.Path.{_≡_, refl, sym, ap, _∙_, subst}
 use mathlib.Core.Bool.{Bool, true, false, _&&_, and-false}
 use mathlib.Core.Logic.{_⊎_, ⊎-elim}
 use mathlib.Core.List.{List, [], _∷_}
-use Prim.Native.Nat.{ℕ, zero, suc, _+_, _-_, _≤_, _<_}
+use Prim.Native.Nat.{ℕ, zero, suc, _+_, _-_, _≤_, _<_, max}
 use native.Mathlib.Omega.{arith}
 use native.Mathlib.Decide.{ℕ-discrete}
 use borrow.Author.Tests.{le-leb, eq-eqb, ne-eqb, lt-leb, ltb-true, ltb-false}
 use lib.Dec.{leb, ltb, eqb}
 use lib.ListN.{length}
 use Rattle.lists.specs.Lists.{keep}
-use Rattle.lists.proofs.Bools.{decided, fails}
+use Rattle.lists.proofs.Bools.{decided, cond-yes, cond-no}
 use Rattle.reading.specs.Answer.{done, refused, unless}
 use Rattle.breaks.specs.Breaks.{inWindow, within, greatest, greatestOf, mostBreaks, firstWith, firstOf, climbs, counted, answered, busiestOf}
-use Rattle.breaks.specs.Passes.{at, Climbs, Found, PassedTo}
+use Rattle.breaks.specs.Passes.{at, Climbs, Bounded, Found, Sought, Reaches, PassedTo, PassedAll, OrderedTo, firstBest}
 use Rattle.breaks.specs.declared.pass.Best.{Best}
 use Rattle.breaks.specs.declared.pass.Passed.{Passed}
 use Rattle.breaks.specs.declared.pass.Passed.the-variants as Pa
 use Rattle.breaks.proofs.Climbing.{climbs-by, climbs-places, rank, rank-below, rank-above, rank-within}
-use Rattle.breaks.proofs.Windows.{greatest-most, window-in, window-far, anywhere, within-ranks, first-at}
+use Rattle.breaks.proofs.Windows.{greatest-most, in-window, window-in, window-far, anywhere, within-ranks, first-at}
+
+-- a pass that has looked at no window
+pub bounded-none : (w : ℕ) (ts : List ℕ) (n : ℕ) → Climbs ts n → Bounded w ts n n
+bounded-none w ts n c = record { climb = c; reach = omega arith; fewer = λ i h. absurd (omega arith) }
 
 -- the first tick alone is the busiest window
 pub found-one : (w : ℕ) (ts : List ℕ) → 1 ≤ w → Found w ts 1 1 (at ts 0)
 found-one w ts h = record {
-  climb = λ i k. absurd (omega arith);
+  bound = bounded-none w ts 1 (λ i k. absurd (omega arith));
   start = 0;
   some = omega arith;
   passed = omega arith;
   begins = refl;
   fits = omega arith;
-  fewer = λ i k. absurd (omega arith);
   earliest = λ i k. absurd (omega arith);
 }
 
-module _ (w : ℕ) (ts : List ℕ) (n m f : ℕ) (F : Found w ts n m f) where
+module _ (w : ℕ) (ts : List ℕ) (n m : ℕ) (1≤n : 1 ≤ n) (b : Bounded w ts n m) (h : at ts (n - 1) ≤ at ts n) where
   -- one tick more, which is not smaller than the one before it
-  climb-more : at ts (n - 1) ≤ at ts n → Climbs ts (n + 1)
-  climb-more h i k = elim (ℕ-discrete (suc i) n) [
+  climb-more : Climbs ts (n + 1)
+  climb-more i k = elim (ℕ-discrete (suc i) n) [
     | yes e ↦ let p : at ts i ≡ at ts (n - 1) = ap (at ts) (let z : i ≡ n - 1 = omega arith in z) in
         let q : at ts (suc i) ≡ at ts n = ap (at ts) e in
         omega (arith, p, q)
-    | no d ↦ F .climb i (omega arith)
+    | no d ↦ b .climb i (omega arith)
   ]
 
   -- the window that begins m breaks before it reaches it: one break more
-  pub found-grown : at ts (n - 1) ≤ at ts n → inWindow w (at ts (n - m)) (at ts n) ≡ true → Found w ts (n + 1) (m + 1) (at ts (n - m))
-  found-grown h e =
+  pub found-grown : inWindow w (at ts (n - m)) (at ts n) ≡ true → Found w ts (n + 1) (m + 1) (at ts (n - m))
+  found-grown e =
       let k = window-in w (at ts (n - m)) (at ts n) e in
-      let c = climb-more h in
+      let c = climb-more in
       record {
-        climb = c;
+        bound = record {
+          climb = c;
+          reach = omega (arith, b .reach);
+          fewer = λ i l. omega (arith, b .fewer i (omega arith), climbs-places ts (n + 1) c (i + m) (i + (m + 1)) (omega arith) l);
+        };
         start = n - m;
         some = omega arith;
-        passed = omega (arith, F .passed);
+        passed = omega (arith, b .reach);
         begins = refl;
-        fits = let e : at ts (n - m + (m + 1 - 1)) ≡ at ts n = ap (at ts) (let z : n - m + (m + 1 - 1) ≡ n = omega (arith, F .passed) in z) in omega (arith, e);
-        fewer = λ i l. omega (arith, F .fewer i (omega arith), climbs-places ts (n + 1) c (i + m) (i + (m + 1)) (omega arith) l);
-        earliest = λ i l. let e : at ts (i + (m + 1 - 1)) ≡ at ts (i + m) = ap (at ts) (let z : i + (m + 1 - 1) ≡ i + m = omega arith in z) in omega (arith, e, F .fewer i (omega arith));
+        fits = let z : at ts (n - m + (m + 1 - 1)) ≡ at ts n = ap (at ts) (let z : n - m + (m + 1 - 1) ≡ n = omega (arith, b .reach) in z) in omega (arith, z);
+        earliest = λ i l. let z : at ts (i + (m + 1 - 1)) ≡ at ts (i + m) = ap (at ts) (let z : i + (m + 1 - 1) ≡ i + m = omega arith in z) in omega (arith, z, b .fewer i (omega arith));
       }
 
   -- it does not: as many as before
-  pub found-same : at ts (n - 1) ≤ at ts n → inWindow w (at ts (n - m)) (at ts n) ≡ false → Found w ts (n + 1) m f
-  found-same h e =
-      let c = climb-more h in
+  bounded-same : 1 ≤ m → inWindow w (at ts (n - m)) (at ts n) ≡ false → Bounded w ts (n + 1) m
+  bounded-same o e =
+      let c = climb-more in
       let k = window-far w (at ts (n - m)) (at ts n) e (climbs-places ts (n + 1) c (n - m) n (omega arith) (omega arith)) in
       record {
         climb = c;
-        start = F .start;
-        some = F .some;
-        passed = omega (arith, F .passed);
-        begins = F .begins;
-        fits = F .fits;
+        reach = omega (arith, b .reach);
         fewer = λ i l. elim (ℕ-discrete (i + m) n) [
-          | yes q ↦ let a : at ts i ≡ at ts (n - m) = ap (at ts) (let z : i ≡ n - m = omega arith in z) in
-              let b : at ts (i + m) ≡ at ts n = ap (at ts) q in
-              omega (arith, a, b)
-          | no d ↦ F .fewer i (omega arith)
+          | yes q ↦ let x : at ts i ≡ at ts (n - m) = ap (at ts) (let z : i ≡ n - m = omega arith in z) in
+              let y : at ts (i + m) ≡ at ts n = ap (at ts) q in
+              omega (arith, x, y)
+          | no d ↦ b .fewer i (omega arith)
         ];
-        earliest = F .earliest;
       }
+
+pub found-same : (w : ℕ) (ts : List ℕ) (n m f : ℕ) → Found w ts n m f → at ts (n - 1) ≤ at ts n → inWindow w (at ts (n - m)) (at ts n) ≡ false → Found w ts (n + 1) m f
+found-same w ts n m f F h e = record {
+  bound = bounded-same w ts n m (omega (arith, F .some, F .passed)) (F .bound) h (F .some) e;
+  start = F .start;
+  some = F .some;
+  passed = omega (arith, F .passed);
+  begins = F .begins;
+  fits = F .fits;
+  earliest = F .earliest;
+}
 
 -- the same, said otherwise
 pub found-is : {w : ℕ} {ts : List ℕ} {n n' m m' f f' : ℕ} → Found w ts n m f → n ≡ n' → m ≡ m' → f ≡ f' → Found w ts n' m' f'
 found-is F a b c = rw (sym a, sym b, sym c) F
 
--- what a pass answers
-pub passed-to : {w : ℕ} {ts : List ℕ} {n : ℕ} {r : Passed} {b : Best} → PassedTo w ts n r → r ≡ Pa.To b → Found w ts n (b .count) (b .first)
-passed-to {w} {ts} {n} P e = subst (PassedTo w ts n) e P
+pub sought-is : {w : ℕ} {ts : List ℕ} {n n' c m f : ℕ} → Sought w ts n c m f → n ≡ n' → Sought w ts n' c m f
+sought-is S a = rw (sym a) S
 
-pub passed-falls : (w : ℕ) (ts : List ℕ) (n : ℕ) {r : Passed} → PassedTo w ts n r → r ≡ Pa.Falls → climbs ts ≡ false
-passed-falls w ts n P e = subst (PassedTo w ts n) e P
+-- where windows of up to c breaks are passed over
+pub sought-found : {w : ℕ} {ts : List ℕ} {n m f : ℕ} (c : ℕ) → c ≤ m → Found w ts n m f → Sought w ts n c m f
+sought-found c h F = record { bounded = F .bound; some = F .some; least = h; found = λ l. F }
+
+module _ (w : ℕ) (ts : List ℕ) (n c m f : ℕ) (S : Sought w ts n c m f) (h : at ts (n - 1) ≤ at ts n) where
+  1≤n : 1 ≤ n
+  1≤n = omega (arith, S .some, S .bounded .reach)
+
+  pub sought-grown : inWindow w (at ts (n - m)) (at ts n) ≡ true → Sought w ts (n + 1) c (m + 1) (at ts (n - m))
+  sought-grown e = sought-found c (omega (arith, S .least)) (found-grown w ts n m 1≤n (S .bounded) h e)
+
+  pub sought-same : inWindow w (at ts (n - m)) (at ts n) ≡ false → Sought w ts (n + 1) c m f
+  sought-same e = record { bounded = bounded-same w ts n m 1≤n (S .bounded) h (S .some) e; some = S .some; least = S .least; found = λ l. found-same w ts n m f (S .found l) h e }
+
+-- what is sought is found where some window has more than c breaks
+pub sought-reached : {w : ℕ} {ts : List ℕ} {m f : ℕ} (c : ℕ) → Reaches w ts (c + 1) → Sought w ts (length ts) c m f → Found w ts (length ts) m f
+sought-reached {w} {ts} {m} {f} c R S = S .found (⊎-elim (λ e. ltb-true c m e) (λ e. absurd (none (ltb-false c m e))) (decided (ltb c m)))
+  where
+    none : m ≤ c → ⊥
+    none l =
+        let e = R .1 .0 in
+        let q : m ≡ c = omega (arith, S .least) in
+        let far = S .bounded .fewer (e - (c + 1)) (omega (arith, R .1 .1, R .1 .2)) in
+        let x : at ts (e - (c + 1) + m) ≡ at ts (e - 1) = ap (at ts) (let z : e - (c + 1) + m ≡ e - 1 = omega (arith, R .1 .1) in z) in
+        omega (arith, far, x, window-in w (at ts (e - (c + 1))) (at ts (e - 1)) (R .1 .3) .1)
+
+-- the window of the breaks from a place up to another
+pub window-from : (w : ℕ) (ts : List ℕ) (h e : ℕ) → h ≤ e → inWindow w (at ts h) (at ts (e - 1)) ≡ true → inWindow w (at ts (e - (e - h))) (at ts (e - 1)) ≡ true
+window-from w ts h e l g = ap (λ (i : ℕ). inWindow w (at ts i) (at ts (e - 1))) (let z : e - (e - h) ≡ h = omega arith in z) ∙ g
+
+-- numbers of breaks that some window has
+pub reaches-one : (w : ℕ) (ts : List ℕ) → 1 ≤ length ts → 1 ≤ w → Reaches w ts 1
+reaches-one w ts h k = (omega arith, (1, omega arith, h, in-window w (at ts 0) (at ts 0) (omega arith) (omega arith)))
+
+pub reaches-more :
+    (w : ℕ) (ts : List ℕ) (m e r : ℕ) {q : ℕ} → Reaches w ts m → e ≤ length ts → (1 ≤ r) × (r ≤ e) × (inWindow w (at ts (e - r)) (at ts (e - 1)) ≡ true) → q ≡ max m r → Reaches w ts q
+reaches-more w ts m e r R l B g = ⊎-elim
+    (λ k. subst (Reaches w ts) (let z : r ≡ _ = omega (arith, g, ltb-true m r k) in z) (B .0, (e, B .1, l, B .2)))
+    (λ k. subst (Reaches w ts) (let z : m ≡ _ = omega (arith, g, ltb-false m r k) in z) R)
+    (decided (ltb m r))
+
+-- what a pass begins with
+pub first-some : (t m : ℕ) (b : Best) → b ≡ firstBest t m → 1 ≤ m → (1 ≤ b .count) × (b .count ≤ m)
+first-some t m b e h = elim (ℕ-discrete m 1) [
+  | yes q ↦ let z : b .count ≡ 1 = ap (λ (x : Best). x .count) (e ∙ cond-yes _ _ (eq-eqb m 1 q)) in (omega arith, omega arith)
+  | no d ↦ let z : b .count ≡ m - 1 = ap (λ (x : Best). x .count) (e ∙ cond-no _ _ (ne-eqb m 1 d)) in (omega arith, omega arith)
+]
+
+pub first-sought :
+    (w : ℕ) (ts : List ℕ) (m : ℕ) (b : Best) → b ≡ firstBest (at ts 0) m → 1 ≤ w → 1 ≤ m → Climbs ts (b .count) → Sought w ts (b .count) (m - 1) (b .count) (b .first)
+first-sought w ts m b e h o c = elim (ℕ-discrete m 1) [
+  | yes q ↦ let z : b ≡ counted 1 (at ts 0) = e ∙ cond-yes _ _ (eq-eqb m 1 q) in
+      subst (λ (x : Best). Sought w ts (x .count) (m - 1) (x .count) (x .first)) (sym z) (sought-found (m - 1) (omega arith) (found-one w ts h))
+  | no d ↦ let z : b ≡ counted (m - 1) 0 = e ∙ cond-no _ _ (ne-eqb m 1 d) in
+      subst (λ (x : Best). Sought w ts (x .count) (m - 1) (x .count) (x .first)) (sym z)
+      (record { bounded = bounded-none w ts (m - 1) (subst (λ (x : Best). Climbs ts (x .count)) z c); some = omega arith; least = omega arith; found = λ l. absurd (omega arith) })
+]
+
+-- a pass over all ticks, where some window has m breaks and windows of fewer are passed over
+pub passed-all : (w : ℕ) (ts : List ℕ) (m : ℕ) (r : Passed) → Reaches w ts m → PassedTo w ts (length ts) (m - 1) r → PassedAll w ts r
+passed-all w ts m (Pa.To b) R P = sought-reached (m - 1) (subst (Reaches w ts) (let z : m ≡ m - 1 + 1 = omega (arith, R .0) in z) R) P
+passed-all w ts m Pa.Falls R P = P
+
+pub all-found : {w : ℕ} {ts : List ℕ} {r : Passed} {b : Best} → PassedAll w ts r → r ≡ Pa.To b → Found w ts (length ts) (b .count) (b .first)
+all-found {w} {ts} P e = subst (PassedAll w ts) e P
+
+pub all-falls : (w : ℕ) (ts : List ℕ) {r : Passed} → PassedAll w ts r → r ≡ Pa.Falls → climbs ts ≡ false
+all-falls w ts P e = subst (PassedAll w ts) e P
+
+-- what a test of the order answers
+pub ordered-yes : (ts : List ℕ) (n : ℕ) (b : Bool) → OrderedTo ts n b → b ≡ true → Climbs ts n
+ordered-yes ts n b O e = subst (OrderedTo ts n) e O
+
+pub ordered-no : (ts : List ℕ) (n : ℕ) (b : Bool) → OrderedTo ts n b → b ≡ false → climbs ts ≡ false
+ordered-no ts n b O e = subst (OrderedTo ts n) e O
+
+-- what a pass answers
+pub passed-to : {w : ℕ} {ts : List ℕ} {n c : ℕ} {r : Passed} {b : Best} → PassedTo w ts n c r → r ≡ Pa.To b → Sought w ts n c (b .count) (b .first)
+passed-to {w} {ts} {n} {c} P e = subst (PassedTo w ts n c) e P
+
+pub passed-falls : (w : ℕ) (ts : List ℕ) (n c : ℕ) {r : Passed} → PassedTo w ts n c r → r ≡ Pa.Falls → climbs ts ≡ false
+passed-falls w ts n c P e = subst (PassedTo w ts n c) e P
 
 -- after the last tick
 module _ (w : ℕ) (ts : List ℕ) (m f : ℕ) (F : Found w ts (length ts) m f) where
   climbing : climbs ts ≡ true
-  climbing = climbs-by ts (F .climb)
+  climbing = climbs-by ts (F .bound .climb)
 
   -- no window has more than m breaks
   at-most : (s : ℕ) → within w ts s ≤ m
@@ -106,7 +197,7 @@ module _ (w : ℕ) (ts : List ℕ) (m f : ℕ) (F : Found w ts (length ts) m f) 
           let n = rank-within (s + w) ts in
           let low = rank-above s ts climbing (rank s ts) (omega arith) (omega arith) in
           let high = rank-below (s + w) ts climbing (rank s ts + m) (omega arith) in
-          let far = F .fewer (rank s ts) (omega arith) in
+          let far = F .bound .fewer (rank s ts) (omega arith) in
           omega arith
 
   -- a break stands at or after the first that is not below it

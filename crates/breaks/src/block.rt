@@ -1,16 +1,16 @@
 // The pass over 32 ticks at once, where each of them grows the busiest window, or none does. The tests for it have no branch
 // that depends on a tick, so that the compiler makes vector instructions of them.
 ghost use mathlib.Core.Path.{_≡_};
-ghost use Prim.Native.Nat.{_+_, _≤_, _<_};
+ghost use Prim.Native.Nat.{ℕ, _+_, _≤_, _<_};
 ghost use lib.ListN.{length};
-ghost use Rattle.breaks.specs.Passes.{Found, PassedTo, climbsAt, blockClimbs, apart, quietAt, blockQuiet, grownWhere};
+ghost use Rattle.breaks.specs.Passes.{Sought, PassedTo, climbsAt, blockClimbs, apart, quietAt, blockQuiet, grownWhere};
 use crate::pass::Best;
 use crate::pass::Passed;
 use crate::pass::in_window;
 use crate::pass::pass;
 
 // Whether the tick at a place is not smaller than the one before it.
-fn climbs_at(ticks: &[u32], i: usize) -> bool
+pub fn climbs_at(ticks: &[u32], i: usize) -> bool
     requires { ⌜ (1 ≤ i) × (i < length (now ticks)) ⌝ }
     ensures { λ r. ⌜ r ≡ climbsAt (now (ticks .entry)) i ⌝ }
 {
@@ -18,7 +18,7 @@ fn climbs_at(ticks: &[u32], i: usize) -> bool
 }
 
 // Whether none of the 32 ticks from a place on is smaller than the one before it.
-fn block_climbs(ticks: &[u32], from: usize) -> bool
+pub fn block_climbs(ticks: &[u32], from: usize) -> bool
     requires { ⌜ (1 ≤ from) × (from + 32 ≤ length (now ticks)) ⌝ }
     ensures { λ r. ⌜ r ≡ blockClimbs (now (ticks .entry)) from ⌝ }
 {
@@ -76,8 +76,8 @@ fn pass_grown(ticks: &[u32], from: usize, count: usize, start: u32) -> Passed
 
 // The pass over 32 ticks.
 pub fn pass_block(ticks: &[u32], from: usize, window: u32, best: Best) -> Passed
-    requires { ⌜ (1 ≤ from) × (from + 32 ≤ length (now ticks)) × Found window (now ticks) from (best .count) (best .first) ⌝ }
-    ensures { λ r. ⌜ PassedTo window (now (ticks .entry)) (from + 32) r ⌝ }
+    requires { ⌜ (from + 32 ≤ length (now ticks)) × ((c : ℕ) × Sought window (now ticks) from c (best .count) (best .first)) ⌝ }
+    ensures { λ r. ⌜ ((c : ℕ) → Sought window (now (ticks .entry)) from c (best .count) (best .first) → PassedTo window (now (ticks .entry)) (from + 32) c r) ⌝ }
 {
     let count = best.count;
     let start = ticks[from - count];

@@ -1,32 +1,31 @@
 // The operation: the most breaks within so many consecutive ticks, and the first tick of the earliest window that has them and
 // begins at a break.
 ghost use mathlib.Core.Path.{_≡_};
-ghost use Prim.Native.Nat.{_≤_};
+ghost use Prim.Native.Nat.{ℕ, _≤_};
 ghost use lib.ListN.{length};
 ghost use Rattle.breaks.specs.Breaks.{busiestOf, told, Tells};
 ghost use Rattle.reading.specs.Answer.{Answer};
 ghost use Rattle.breaks.specs.declared.pass.Best.{Best};
-ghost use Rattle.breaks.specs.Passes.{PassedTo};
+ghost use Rattle.breaks.specs.Passes.{at, Sought, PassedTo, PassedAll, firstBest};
 use crate::block::pass_block;
+use crate::order::climbs_to;
 use crate::pass::Best;
 use crate::pass::Passed;
 use crate::pass::pass;
+use crate::reached::reached;
 
 pub enum Counted {
     Breaks(Best),
     Refused(u8),
 }
 
-// The pass over all ticks, of which there is at least one: 32 at a time, then those that are left.
-fn pass_all(ticks: &[u32], window: u32) -> Passed
-    requires { ⌜ (1 ≤ length (now ticks)) × (1 ≤ window) ⌝ }
-    ensures { λ r. ⌜ PassedTo window (now (ticks .entry)) (length (now (ticks .entry))) r ⌝ }
+// The pass over the ticks behind the first, as many as the busiest window has breaks: 32 at a time, then those that are left.
+fn pass_on(ticks: &[u32], window: u32, first: Best) -> Passed
+    requires { ⌜ (first .count ≤ length (now ticks)) × ((c : ℕ) × Sought window (now ticks) (first .count) c (first .count) (first .first)) ⌝ }
+    ensures { λ r. ⌜ ((c : ℕ) → Sought window (now (ticks .entry)) (first .count) c (first .count) (first .first) → PassedTo window (now (ticks .entry)) (length (now (ticks .entry))) c r) ⌝ }
 {
-    let mut best = Best {
-        count: 1,
-        first: ticks[0],
-    };
-    let mut end = 1;
+    let mut best = first;
+    let mut end = best.count;
     while ticks.len() - end >= 32 {
         let p = pass_block(ticks, end, window, best);
         let Passed::To(next) = p else {
@@ -36,6 +35,35 @@ fn pass_all(ticks: &[u32], window: u32) -> Passed
         end += 32;
     }
     pass(ticks, end, ticks.len(), window, best)
+}
+
+// What a pass begins with, where some window has so many breaks: one break fewer, so that it finds the earliest such window.
+fn first_best(ticks: &[u32], most: usize) -> Best
+    requires { ⌜ (1 ≤ length (now ticks)) × (1 ≤ most) ⌝ }
+    ensures { λ r. ⌜ r ≡ firstBest (at (now (ticks .entry)) 0) most ⌝ }
+{
+    if most == 1 {
+        return Best {
+            count: 1,
+            first: ticks[0],
+        };
+    }
+    Best {
+        count: most - 1,
+        first: 0,
+    }
+}
+
+// The pass over all ticks, of which there is at least one.
+fn pass_all(ticks: &[u32], window: u32) -> Passed
+    requires { ⌜ (1 ≤ length (now ticks)) × (1 ≤ window) ⌝ }
+    ensures { λ r. ⌜ PassedAll window (now (ticks .entry)) r ⌝ }
+{
+    let best = first_best(ticks, reached(ticks, window));
+    if !climbs_to(ticks, best.count) {
+        return Passed::Falls;
+    }
+    pass_on(ticks, window, best)
 }
 
 // The breaks of a list of any length within a window of so many ticks.

@@ -2,10 +2,10 @@
 // tick so many places before it as the busiest window so far has breaks. A window that begins there and reaches the tick has
 // one more.
 ghost use mathlib.Core.Path.{_≡_};
-ghost use Prim.Native.Nat.{_≤_};
+ghost use Prim.Native.Nat.{ℕ, _≤_};
 ghost use lib.ListN.{length};
 ghost use Rattle.breaks.specs.Breaks.{inWindow};
-ghost use Rattle.breaks.specs.Passes.{Found, PassedTo};
+ghost use Rattle.breaks.specs.Passes.{Sought, PassedTo};
 
 // The most breaks in a window, and the first tick of the earliest window that has so many and begins at a break.
 pub struct Best {
@@ -32,8 +32,8 @@ pub fn in_window(window: u32, start: u32, tick: u32) -> bool
 
 // The pass over the ticks from one place up to another.
 pub fn pass(ticks: &[u32], from: usize, to: usize, window: u32, best: Best) -> Passed
-    requires { ⌜ (1 ≤ from) × (from ≤ to) × (to ≤ length (now ticks)) × Found window (now ticks) from (best .count) (best .first) ⌝ }
-    ensures { λ r. ⌜ PassedTo window (now (ticks .entry)) to r ⌝ }
+    requires { ⌜ (from ≤ to) × (to ≤ length (now ticks)) × ((c : ℕ) × Sought window (now ticks) from c (best .count) (best .first)) ⌝ }
+    ensures { λ r. ⌜ ((c : ℕ) → Sought window (now (ticks .entry)) from c (best .count) (best .first) → PassedTo window (now (ticks .entry)) to c r) ⌝ }
 {
     let mut count = best.count;
     let mut first = best.first;

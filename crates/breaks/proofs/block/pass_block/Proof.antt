@@ -36,16 +36,13 @@ pass-grown-requires : tie.Need-pass-grown-requires
 pass-grown-requires c κs = search needs
 
 returns : tie.Need-returns
-returns c =
-    let a = c .before .before .before .before .before .before in
-    let e = sym (c .before .before .in-window .ensures) ∙ c .before .if1 .taken in
-    block-passed _ _ _ _ _ (a .pre .2) (a .pre .0) (a .pre .1) e (c .pass-grown .ensures)
+returns c = λ k S. let a = c .before .before .before .before .before .before in block-passed _ _ _ k _ _ S (a .pre .0) (sym (c .before .before .in-window .ensures) ∙ c .before .if1 .taken) (c .pass-grown .ensures)
 
 block-quiet-requires : tie.Need-block-quiet-requires
 block-quiet-requires c κs = search needs
 
 returns-2 : tie.Need-returns-2
-returns-2 c = block-quiet _ _ _ _ _ (c .before .before .before .before .before .before .before .pre .2) (sym (c .before .block-quiet .ensures) ∙ c .if2 .taken)
+returns-2 c = λ k S. block-quiet _ _ _ k _ _ S (sym (c .before .block-quiet .ensures) ∙ c .if2 .taken)
 
 add-pass : tie.Need-add-pass
 add-pass c = search needs

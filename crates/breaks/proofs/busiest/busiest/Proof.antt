@@ -1,8 +1,8 @@
 use mathlib.Core.Path.{ap, sym}
 use native.Mathlib.Omega.{arith}
-use borrow.Author.Needs.{needs}
 use Rattle.breaks.specs.Breaks.{told}
-use Rattle.breaks.proofs.Passing.{found-all, found-none, no-window, falling, passed-to, passed-falls}
+use Rattle.breaks.proofs.Passing.{found-all, found-none, no-window, falling, all-found, all-falls}
+use borrow.Author.Needs.{needs}
 use Rattle.breaks.proofs.busiest.busiest.Statement.{statement}
 use Rattle.breaks.proofs.busiest.busiest.Tie as tie
 use Rattle.breaks.proofs.busiest.busiest.Reads as reads
@@ -16,7 +16,7 @@ returns-2 : tie.Need-returns-2
 returns-2 c = sym (ap told (found-none _ _ (omega arith) (c .if2 .taken)))
 
 pass-all-requires : tie.Need-pass-all-requires
-pass-all-requires c κs = (omega arith, omega arith)
+pass-all-requires c κs = search needs
 
 enum-known-p : tie.Need-enum-known-p
 enum-known-p c = search needs
@@ -25,10 +25,10 @@ enum-told : tie.Need-enum-told
 enum-told c = search needs
 
 returns-3 : tie.Need-returns-3
-returns-3 c = sym (ap told (found-all _ _ _ _ (passed-to (c .before .before .before .pass-all .ensures) (c .before .p .given .1)) (omega arith)))
+returns-3 c = sym (ap told (found-all _ _ _ _ (all-found (c .before .before .before .pass-all .ensures) (c .before .p .given .1)) (omega arith)))
 
 returns-4 : tie.Need-returns-4
-returns-4 c = sym (ap told (falling _ _ (passed-falls _ _ _ (c .before .before .pass-all .ensures) (c .enum-told .given .1))))
+returns-4 c = sym (ap told (falling _ _ (all-falls _ _ (c .before .before .pass-all .ensures) (c .enum-told .given .1))))
 
 pub busiest-spec : {M : Type 1} → statement M
 busiest-spec =

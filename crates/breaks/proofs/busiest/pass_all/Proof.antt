@@ -1,74 +1,53 @@
-use mathlib.Core.Path.{_≡_, refl, sym, _∙_}
-use Prim.Native.Nat.{_-_, _≤_}
+use mathlib.Core.Path.{_≡_}
+use Prim.Native.Nat.{_-_}
 use native.Mathlib.Omega.{arith}
-use lib.ListN.{length}
+use borrow.Author.Tests.{not-true, not-false}
+use Rattle.breaks.proofs.Passing.{first-some, first-sought, passed-all, ordered-yes, ordered-no}
 use borrow.Author.Needs.{needs}
-use Rattle.breaks.specs.Passes.{Found}
-use Rattle.breaks.proofs.Passing.{found-one, passed-to, passed-falls}
 use Rattle.breaks.proofs.busiest.pass_all.Statement.{statement}
 use Rattle.breaks.proofs.busiest.pass_all.Tie as tie
 use Rattle.breaks.proofs.busiest.pass_all.Reads as reads
 use Rattle.breaks.proofs.busiest.pass_all.Lts as lts
-use Rattle.breaks.proofs.block.pass_block.Reads as pass-block-reads
-use Rattle.breaks.proofs.pass.pass.Reads as pass-reads
+use Rattle.breaks.proofs.busiest.first_best.Reads as first-best-reads
+use Rattle.breaks.proofs.busiest.pass_on.Reads as pass-on-reads
+use Rattle.breaks.proofs.order.climbs_to.Reads as climbs-to-reads
+use Rattle.breaks.proofs.reached.reached.Reads as reached-reads
 
-abbrev Inv-loop : tie.InvT-loop
-Inv-loop ticks window best₀ end₀ best end = (1 ≤ end) × (end ≤ length ticks) × Found window ticks end (best .count) (best .first)
+reached-requires : tie.Need-reached-requires
+reached-requires c κs = search needs
 
-abbrev μ-loop : tie.MeasureT-loop
-μ-loop ticks window best₀ end₀ best end = length ticks - end
+first-best-requires : tie.Need-first-best-requires
+first-best-requires c κs = search needs
 
-shared-slice-read-t8 : tie.Need-shared-slice-read-t8 Inv-loop μ-loop
-shared-slice-read-t8 c = omega arith
+climbs-to-requires : tie.Need-climbs-to-requires
+climbs-to-requires c κs = let R = c .before .reached .ensures in let s = first-some _ _ _ (c .first-best .ensures) (R .0) in (s .0, omega (arith, s .1, R .1 .1, R .1 .2))
 
-loop-holds : tie.Need-loop-holds Inv-loop μ-loop
-loop-holds c = (omega arith, omega arith, found-one _ _ (omega arith))
+returns : tie.Need-returns
+returns c = ordered-no (c .before .before .before .before .before .args .ticks .now) (c .before .before .first-best .result .count) (c .before .climbs-to .result) (c .before .climbs-to .ensures) (not-true _ (c .if1 .taken))
 
-sub-loop : tie.Need-sub-loop Inv-loop μ-loop
-sub-loop c = omega arith
+pass-on-requires : tie.Need-pass-on-requires
+pass-on-requires c κs =
+    let R = c .before .before .before .reached .ensures in
+    let s = first-some _ _ _ (c .before .before .first-best .ensures) (R .0) in
+    let a = c .before .before .before .before .before in (
+      omega (arith, s .1, R .1 .1, R .1 .2),
+      (_, first-sought _ _ _ _ (c .before .before .first-best .ensures) (a .pre .1) (R .0) (ordered-yes (a .args .ticks .now) _ (c .before .climbs-to .result) (c .before .climbs-to .ensures) (not-false _ (c .if1 .left)))),
+    )
 
-pass-block-requires : tie.Need-pass-block-requires Inv-loop μ-loop
-pass-block-requires c κs = (omega arith, omega arith, c .before .loop .inv .2)
-
-enum-known-p : tie.Need-enum-known-p Inv-loop μ-loop
-enum-known-p c = search needs
-
-enum-told : tie.Need-enum-told Inv-loop μ-loop
-enum-told c = search needs
-
-returns : tie.Need-returns Inv-loop μ-loop
-returns c = passed-falls _ _ _ (c .before .before .pass-block .ensures) (c .enum-told .given .1)
-
-add-end : tie.Need-add-end Inv-loop μ-loop
-add-end c = omega arith
-
-loop-less : tie.Need-loop-less Inv-loop μ-loop
-loop-less c = omega arith
-
-loop-again : tie.Need-loop-again Inv-loop μ-loop
-loop-again c = (omega arith, omega arith, passed-to (c .before .before .before .pass-block .ensures) (c .before .p .given .1))
-
-pass-requires : tie.Need-pass-requires Inv-loop μ-loop
-pass-requires c κs = (omega arith, omega arith, omega arith, c .before .loop .inv .2)
-
-returns-2 : tie.Need-returns-2 Inv-loop μ-loop
-returns-2 c = c .pass .ensures
+returns-2 : tie.Need-returns-2
+returns-2 c =
+    let R = c .before .before .before .before .reached .ensures in
+    let a = c .before .before .before .before .before .before in
+    let S = first-sought (a .args .window) (a .args .ticks .now) _ _ (c .before .before .before .first-best .ensures) (a .pre .1) (R .0) (ordered-yes (a .args .ticks .now) _ (c .before .before .climbs-to .result) (c .before .before .climbs-to .ensures) (not-false _ (c .before .if1 .left))) in
+    passed-all (a .args .window) (a .args .ticks .now) (c .before .before .before .before .reached .result) (c .pass-on .result) R (c .pass-on .ensures _ S)
 
 pub pass-all-spec : {M : Type 1} → statement M
 pass-all-spec =
     tie.close
     (tie.spec
-    Inv-loop
-    μ-loop
-    shared-slice-read-t8
-    loop-holds
-    sub-loop
-    pass-block-requires
-    enum-known-p
-    enum-told
+    reached-requires
+    first-best-requires
+    climbs-to-requires
     returns
-    add-end
-    loop-less
-    loop-again
-    pass-requires
+    pass-on-requires
     returns-2)

@@ -1,12 +1,12 @@
-use mathlib.Core.Path.{_≡_, refl, sym, ap, _∙_}
+use mathlib.Core.Path.{_≡_, sym, _∙_}
 use mathlib.Core.Logic.{_⊎_, ⊎-elim}
-use Prim.Native.Nat.{_-_, _+_, _≤_, _<_}
+use Prim.Native.Nat.{ℕ, _-_, _≤_}
 use native.Mathlib.Omega.{arith}
 use lib.ListN.{length}
 use borrow.Author.Needs.{needs}
-use Rattle.breaks.specs.Passes.{Found}
+use Rattle.breaks.specs.Passes.{Sought}
 use Rattle.breaks.proofs.Climbing.{climbs-falls}
-use Rattle.breaks.proofs.Passing.{found-grown, found-same, found-is}
+use Rattle.breaks.proofs.Passing.{sought-grown, sought-same, sought-is}
 use Rattle.breaks.proofs.pass.pass.Statement.{statement}
 use Rattle.breaks.proofs.pass.pass.Tie as tie
 use Rattle.breaks.proofs.pass.pass.Reads as reads
@@ -14,13 +14,18 @@ use Rattle.breaks.proofs.pass.pass.Lts as lts
 use Rattle.breaks.proofs.pass.in_window.Reads as in-window-reads
 
 abbrev Inv-loop : tie.InvT-loop
-Inv-loop ticks from to window count₀ first₀ end₀ count first end = (1 ≤ end) × (end ≤ to) × (to ≤ length ticks) × Found window ticks end count first
+Inv-loop ticks from to window count₀ first₀ end₀ count first end =
+    (1 ≤ count)
+    × (count ≤ end)
+    × (end ≤ to)
+    × (to ≤ length ticks)
+    × ((c : ℕ) → Sought window ticks from c count₀ first₀ → Sought window ticks end c count first)
 
 abbrev μ-loop : tie.MeasureT-loop
 μ-loop ticks from to window count₀ first₀ end₀ count first end = to - end
 
 loop-holds : tie.Need-loop-holds Inv-loop μ-loop
-loop-holds c = c .before .pre
+loop-holds c = let p = c .before .pre in (p .2 .1 .some, p .2 .1 .bounded .reach, p .0, p .1, λ k S. S)
 
 mul-tick : tie.Need-mul-tick Inv-loop μ-loop
 mul-tick c = search needs
@@ -29,7 +34,7 @@ shared-slice-read-tick : tie.Need-shared-slice-read-tick Inv-loop μ-loop
 shared-slice-read-tick c = search needs
 
 sub-if1 : tie.Need-sub-if1 Inv-loop μ-loop
-sub-if1 c = search needs
+sub-if1 c = omega arith
 
 mul-if1 : tie.Need-mul-if1 Inv-loop μ-loop
 mul-if1 c = search needs
@@ -38,10 +43,10 @@ shared-slice-read-if1 : tie.Need-shared-slice-read-if1 Inv-loop μ-loop
 shared-slice-read-if1 c = search needs
 
 returns : tie.Need-returns Inv-loop μ-loop
-returns c = let i = c .before .before .before .before .loop .inv in climbs-falls _ _ (i .0) (omega arith) (c .if1 .taken)
+returns c = λ k S. climbs-falls _ _ (omega arith) (omega arith) (c .if1 .taken)
 
 sub-start : tie.Need-sub-start Inv-loop μ-loop
-sub-start c = omega (arith, c .before .before .before .before .loop .inv .3 .passed)
+sub-start c = omega arith
 
 mul-start : tie.Need-mul-start Inv-loop μ-loop
 mul-start c = search needs
@@ -53,31 +58,26 @@ in-window-requires : tie.Need-in-window-requires Inv-loop μ-loop
 in-window-requires c κs = search needs
 
 add-count : tie.Need-add-count Inv-loop μ-loop
-add-count c = omega (arith, c .before .before .before .before .before .before .before .loop .inv .3 .passed)
+add-count c = omega arith
 
 add-end : tie.Need-add-end Inv-loop μ-loop
-add-end c = search needs
+add-end c = omega arith
 
 loop-less : tie.Need-loop-less Inv-loop μ-loop
 loop-less c = omega arith
 
 loop-again : tie.Need-loop-again Inv-loop μ-loop
 loop-again c =
-    let l = c .before .before .before .before .before .before .before in
-    let i = l .loop .inv in
+    let i = c .before .before .before .before .before .before .before .loop .inv in
     let h = c .before .before .before .if1 .left in
-    let e = sym (c .before .in-window .ensures) in (
-      omega arith,
-      omega arith,
-      i .2,
-      ⊎-elim
-          (λ w. rw (w .1, w .2) (found-grown _ _ _ _ _ (i .3) h (e ∙ w .0 .taken)))
-          (λ w. rw (w .1, w .2) (found-same _ _ _ _ _ (i .3) h (e ∙ w .0 .left)))
-          (c .if2 .came),
-    )
+    let e = sym (c .before .in-window .ensures) in
+    ⊎-elim
+    (λ w. (omega (arith, w .1), omega (arith, w .1), omega arith, i .3, λ k S. rw (w .1, w .2) (sought-grown _ _ _ k _ _ (i .4 k S) h (e ∙ w .0 .taken))))
+    (λ w. (omega (arith, w .1), omega (arith, w .1), omega arith, i .3, λ k S. rw (w .1, w .2) (sought-same _ _ _ k _ _ (i .4 k S) h (e ∙ w .0 .left))))
+    (c .if2 .came)
 
 returns-2 : tie.Need-returns-2 Inv-loop μ-loop
-returns-2 c = found-is (c .before .loop .inv .3) (omega arith) refl refl
+returns-2 c = λ k S. sought-is (c .before .loop .inv .4 k S) (omega arith)
 
 pub pass-spec : {M : Type 1} → statement M
 pass-spec =

@@ -1,0 +1,73 @@
+use mathlib.Core.Path.{_≡_}
+use Prim.Native.Nat.{ℕ, _-_, _≤_}
+use native.Mathlib.Omega.{arith}
+use lib.ListN.{length}
+use borrow.Author.Needs.{needs}
+use Rattle.breaks.specs.Passes.{Sought}
+use Rattle.breaks.proofs.Passing.{passed-to, passed-falls}
+use Rattle.breaks.proofs.busiest.pass_on.Statement.{statement}
+use Rattle.breaks.proofs.busiest.pass_on.Tie as tie
+use Rattle.breaks.proofs.busiest.pass_on.Reads as reads
+use Rattle.breaks.proofs.busiest.pass_on.Lts as lts
+use Rattle.breaks.proofs.block.pass_block.Reads as pass-block-reads
+use Rattle.breaks.proofs.pass.pass.Reads as pass-reads
+
+abbrev Inv-loop : tie.InvT-loop
+Inv-loop ticks window best₀ end₀ best end =
+    (end ≤ length ticks)
+    × ((c : ℕ) × Sought window ticks end c (best .count) (best .first))
+    × ((c : ℕ) → Sought window ticks (best₀ .count) c (best₀ .count) (best₀ .first) → Sought window ticks end c (best .count) (best .first))
+
+abbrev μ-loop : tie.MeasureT-loop
+μ-loop ticks window best₀ end₀ best end = length ticks - end
+
+loop-holds : tie.Need-loop-holds Inv-loop μ-loop
+loop-holds c = let p = c .before .pre in (p .0, p .1, λ k S. S)
+
+sub-loop : tie.Need-sub-loop Inv-loop μ-loop
+sub-loop c = omega arith
+
+pass-block-requires : tie.Need-pass-block-requires Inv-loop μ-loop
+pass-block-requires c κs = (omega arith, c .before .loop .inv .1)
+
+enum-known-p : tie.Need-enum-known-p Inv-loop μ-loop
+enum-known-p c = search needs
+
+enum-told : tie.Need-enum-told Inv-loop μ-loop
+enum-told c = search needs
+
+returns : tie.Need-returns Inv-loop μ-loop
+returns c = λ k S. passed-falls _ _ _ k (c .before .before .pass-block .ensures k (c .before .before .before .before .loop .inv .2 k S)) (c .enum-told .given .1)
+
+add-end : tie.Need-add-end Inv-loop μ-loop
+add-end c = omega arith
+
+loop-less : tie.Need-loop-less Inv-loop μ-loop
+loop-less c = omega arith
+
+loop-again : tie.Need-loop-again Inv-loop μ-loop
+loop-again c = let i = c .before .before .before .before .before .loop .inv in let f = c .before .before .before .pass-block .ensures in (omega arith, (i .1 .0, passed-to (f (i .1 .0) (i .1 .1)) (c .before .p .given .1)), λ k S. passed-to (f k (i .2 k S)) (c .before .p .given .1))
+
+pass-requires : tie.Need-pass-requires Inv-loop μ-loop
+pass-requires c κs = (omega arith, omega arith, c .before .loop .inv .1)
+
+returns-2 : tie.Need-returns-2 Inv-loop μ-loop
+returns-2 c = λ k S. c .pass .ensures k (c .before .before .loop .inv .2 k S)
+
+pub pass-on-spec : {M : Type 1} → statement M
+pass-on-spec =
+    tie.close
+    (tie.spec
+    Inv-loop
+    μ-loop
+    loop-holds
+    sub-loop
+    pass-block-requires
+    enum-known-p
+    enum-told
+    returns
+    add-end
+    loop-less
+    loop-again
+    pass-requires
+    returns-2)

@@ -1,0 +1,58 @@
+use mathlib.Core.Path.{_≡_, refl}
+use Prim.Native.Nat.{_-_, _≤_}
+use native.Mathlib.Omega.{arith}
+use lib.ListN.{length}
+use borrow.Author.Needs.{needs}
+use Rattle.breaks.specs.Passes.{Reaches}
+use Rattle.breaks.proofs.Passing.{reaches-one, reaches-more}
+use Rattle.breaks.proofs.reached.reached.Statement.{statement}
+use Rattle.breaks.proofs.reached.reached.Tie as tie
+use Rattle.breaks.proofs.reached.reached.Reads as reads
+use Rattle.breaks.proofs.reached.reached.Lts as lts
+use Rattle.breaks.proofs.reached.breaks_before.Reads as breaks-before-reads
+use Rattle.breaks.proofs.reached.greatest.Reads as greatest-reads
+
+abbrev Inv-loop : tie.InvT-loop
+Inv-loop ticks window most₀ end₀ most end = (1 ≤ window) × (end ≤ length ticks) × Reaches window ticks most
+
+abbrev μ-loop : tie.MeasureT-loop
+μ-loop ticks window most₀ end₀ most end = length ticks - end
+
+loop-holds : tie.Need-loop-holds Inv-loop μ-loop
+loop-holds c = let p = c .before .pre in (p .1, omega arith, reaches-one (c .before .args .window) (c .before .args .ticks .now) (p .0) (p .1))
+
+sub-loop : tie.Need-sub-loop Inv-loop μ-loop
+sub-loop c = omega arith
+
+add-end : tie.Need-add-end Inv-loop μ-loop
+add-end c = omega arith
+
+breaks-before-requires : tie.Need-breaks-before-requires Inv-loop μ-loop
+breaks-before-requires c κs = (omega arith, omega arith, omega arith)
+
+greatest-requires : tie.Need-greatest-requires Inv-loop μ-loop
+greatest-requires c κs = search needs
+
+loop-less : tie.Need-loop-less Inv-loop μ-loop
+loop-less c = omega arith
+
+loop-again : tie.Need-loop-again Inv-loop μ-loop
+loop-again c = let i = c .before .before .before .loop .inv in (i .0, omega arith, reaches-more (c .before .before .before .before .before .args .window) (c .before .before .before .before .before .args .ticks .now) _ _ _ (i .2) (omega arith) (c .before .breaks-before .ensures) (c .greatest .ensures))
+
+returns : tie.Need-returns Inv-loop μ-loop
+returns c = c .before .loop .inv .2
+
+pub reached-spec : {M : Type 1} → statement M
+reached-spec =
+    tie.close
+    (tie.spec
+    Inv-loop
+    μ-loop
+    loop-holds
+    sub-loop
+    add-end
+    breaks-before-requires
+    greatest-requires
+    loop-less
+    loop-again
+    returns)
