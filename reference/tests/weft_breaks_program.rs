@@ -24,14 +24,23 @@ const READ: usize = 65_536;
 
 const SAMPLE: &[u8] = include_bytes!("../../samples/breaks.ticks");
 
-const NO_WINDOW: &str = "the first argument is no window: a number up to 4,294,967,295";
+const NO_WINDOW: &str = "the first argument has to be the window: a number from 1 to 4,294,967,295";
 const REFUSED: &str =
     "refused 29: the window has no tick, or a tick is smaller than the one before it";
 
 fn counted(count: usize, first: u32, window: u32) -> String {
-    format!(
-        "at most {count} breaks within {window} ticks, first in the window from tick {first} on"
-    )
+    let breaks = many(count, "break");
+    let ticks = many(window as usize, "tick");
+    format!("at most {breaks} within {ticks}, first in the window from tick {first} on")
+}
+
+/// So many of something, whose name is that of one.
+fn many(number: usize, name: &str) -> String {
+    if number == 1 {
+        format!("1 {name}")
+    } else {
+        format!("{number} {name}s")
+    }
 }
 
 fn no_number(line: usize) -> String {
@@ -43,7 +52,8 @@ fn falls(line: usize) -> String {
 }
 
 fn over(line: usize, window: u32) -> String {
-    format!("line {line}: over 65,536 breaks within {window} ticks, which is more than are counted")
+    let ticks = many(window as usize, "tick");
+    format!("line {line}: over 65,536 breaks within {ticks}, which is more than are counted")
 }
 
 /// Where `rt` puts the program.

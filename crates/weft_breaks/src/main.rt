@@ -25,15 +25,28 @@ use line::Line;
 // How many ticks are kept.
 const ROOM: usize = 65536;
 
+// So many of something, whose name is that of one.
+fn many(n: u64, name: &[u8]) {
+    number(n);
+    text(name);
+    if n != 1 {
+        text(b"s");
+    }
+}
+
 // The most breaks within a window, and where.
 fn show_breaks(count: usize, first: u32, window: u32) {
     text(b"at most");
-    number(count as u64);
-    text(b" breaks within");
-    number(window as u64);
-    text(b" ticks, first in the window from tick");
+    many(count as u64, b" break");
+    text(b" within");
+    many(window as u64, b" tick");
+    text(b", first in the window from tick");
     number(first as u64);
     text(b" on\n");
+}
+
+fn show_unread() {
+    text(b"the input cannot be read\n");
 }
 
 // Why reading stopped, and at which line.
@@ -46,8 +59,8 @@ fn show_stop(why: Stop, n: u64, window: u32) {
         Stop::Falls => refusal(29),
         Stop::Full => {
             text(b"over 65,536 breaks within");
-            number(window as u64);
-            text(b" ticks, which is more than are counted\n");
+            many(window as u64, b" tick");
+            text(b", which is more than are counted\n");
         }
     }
 }
@@ -88,7 +101,12 @@ fn count(ring: &mut [u32], bytes: &mut [u8], window: u32)
     let mut state = start();
     let mut rounds = u64::MAX;
     while rounds > 0 {
-        let n = io::read_full(0, bytes);
+        let got = libc::read(0, bytes);
+        if got < 0 {
+            show_unread();
+            return;
+        }
+        let n = io::count(got, bytes);
         if n == 0 {
             finish(ring, state, window);
             return;
@@ -119,6 +137,8 @@ fn main() {
     let w = console::script::number(&word[..length]);
     match w {
         NumberRead::Value(window) => count_within(window),
-        NumberRead::Bad => text(b"the first argument is no window: a number up to 4,294,967,295\n"),
+        NumberRead::Bad => text(
+            b"the first argument has to be the window: a number from 1 to 4,294,967,295\n",
+        ),
     }
 }

@@ -11,10 +11,12 @@ use Rattle.weft_breaks.proofs.count.Statement.{statement}
 use Rattle.weft_breaks.proofs.count.Tie as tie
 use Rattle.weft_breaks.proofs.count.Reads as reads
 use Rattle.weft_breaks.proofs.count.Lts as lts
-use Rattle.io.proofs.read_full.Reads as read-full-reads
+use Rattle.io.proofs.count.Reads as count-reads
+use Rattle.libc.proofs.read.Reads as read-reads
 use Rattle.weft_breaks.proofs.finish.Reads as finish-reads
 use Rattle.weft_breaks.proofs.input.take_bytes.Reads as take-bytes-reads
 use Rattle.weft_breaks.proofs.show.Reads as show-reads
+use Rattle.weft_breaks.proofs.show_unread.Reads as show-unread-reads
 use Rattle.weft_breaks.proofs.start.Reads as start-reads
 
 abbrev Inv-loop : tie.InvT-loop
@@ -29,11 +31,11 @@ start-requires c κs = search needs
 loop-holds : tie.Need-loop-holds Inv-loop μ-loop
 loop-holds c = let a = c .before .before .before in (a .pre .0, refl, refl, ([], rw (c .start .ensures) (holds-none _ _ (a .pre .1))))
 
-read-full-requires : tie.Need-read-full-requires Inv-loop μ-loop
-read-full-requires c κs = search needs
+read-requires : tie.Need-read-requires Inv-loop μ-loop
+read-requires c κs = search needs
 
-finish-requires : tie.Need-finish-requires Inv-loop μ-loop
-finish-requires c κs = let i = c .before .before .before .before .before .before .before .loop .inv in (i .0, i .3)
+show-unread-requires : tie.Need-show-unread-requires Inv-loop μ-loop
+show-unread-requires c κs = search needs
 
 same-length : tie.Need-same-length Inv-loop μ-loop
 same-length c = search needs
@@ -43,6 +45,21 @@ same-length-2 c = search needs
 
 returns : tie.Need-returns Inv-loop μ-loop
 returns c = tt
+
+count-requires : tie.Need-count-requires Inv-loop μ-loop
+count-requires c κs = search needs
+
+finish-requires : tie.Need-finish-requires Inv-loop μ-loop
+finish-requires c κs = let i = c .before .before .before .before .before .before .before .before .before .before .loop .inv in (i .0, i .3)
+
+same-length-3 : tie.Need-same-length-3 Inv-loop μ-loop
+same-length-3 c = search needs
+
+same-length-4 : tie.Need-same-length-4 Inv-loop μ-loop
+same-length-4 c = search needs
+
+returns-2 : tie.Need-returns-2 Inv-loop μ-loop
+returns-2 c = tt
 
 sub-take-bytes : tie.Need-sub-take-bytes Inv-loop μ-loop
 sub-take-bytes c = omega arith
@@ -54,7 +71,7 @@ part-take-bytes-end : tie.Need-part-take-bytes-end Inv-loop μ-loop
 part-take-bytes-end c = search needs
 
 take-bytes-requires : tie.Need-take-bytes-requires Inv-loop μ-loop
-take-bytes-requires c κs = let i = c .before .before .before .before .before .before .before .before .before .loop .inv in (i .0, i .3)
+take-bytes-requires c κs = let i = c .before .before .before .before .before .before .before .before .before .before .before .before .loop .inv in (i .0, i .3)
 
 enum-known-r : tie.Need-enum-known-r Inv-loop μ-loop
 enum-known-r c = search needs
@@ -65,24 +82,6 @@ enum-told c = search needs
 show-requires : tie.Need-show-requires Inv-loop μ-loop
 show-requires c κs = search needs
 
-same-length-3 : tie.Need-same-length-3 Inv-loop μ-loop
-same-length-3 c = search needs
-
-same-length-4 : tie.Need-same-length-4 Inv-loop μ-loop
-same-length-4 c = search needs
-
-returns-2 : tie.Need-returns-2 Inv-loop μ-loop
-returns-2 c = tt
-
-sub-rounds : tie.Need-sub-rounds Inv-loop μ-loop
-sub-rounds c = omega arith
-
-loop-less : tie.Need-loop-less Inv-loop μ-loop
-loop-less c = omega arith
-
-loop-again : tie.Need-loop-again Inv-loop μ-loop
-loop-again c = let i = c .before .before .before .before .before .before .before .before .before .before .before .before .before .before .before .loop .inv in (i .0, search needs, search needs, taken-holds _ _ _ _ _ _ (c .before .before .before .before .before .take-bytes .ensures (i .3 .0) (i .3 .1)) (c .before .r .given .1))
-
 same-length-5 : tie.Need-same-length-5 Inv-loop μ-loop
 same-length-5 c = search needs
 
@@ -92,6 +91,24 @@ same-length-6 c = search needs
 returns-3 : tie.Need-returns-3 Inv-loop μ-loop
 returns-3 c = tt
 
+sub-rounds : tie.Need-sub-rounds Inv-loop μ-loop
+sub-rounds c = omega arith
+
+loop-less : tie.Need-loop-less Inv-loop μ-loop
+loop-less c = omega arith
+
+loop-again : tie.Need-loop-again Inv-loop μ-loop
+loop-again c = let i = c .before .before .before .before .before .before .before .before .before .before .before .before .before .before .before .before .before .before .loop .inv in (i .0, search needs, search needs, taken-holds _ _ _ _ _ _ (c .before .before .before .before .before .take-bytes .ensures (i .3 .0) (i .3 .1)) (c .before .r .given .1))
+
+same-length-7 : tie.Need-same-length-7 Inv-loop μ-loop
+same-length-7 c = search needs
+
+same-length-8 : tie.Need-same-length-8 Inv-loop μ-loop
+same-length-8 c = search needs
+
+returns-4 : tie.Need-returns-4 Inv-loop μ-loop
+returns-4 c = tt
+
 pub count-spec : {M : Type 1} → statement M
 count-spec =
     tie.close
@@ -100,11 +117,16 @@ count-spec =
     μ-loop
     start-requires
     loop-holds
-    read-full-requires
-    finish-requires
+    read-requires
+    show-unread-requires
     same-length
     same-length-2
     returns
+    count-requires
+    finish-requires
+    same-length-3
+    same-length-4
+    returns-2
     sub-take-bytes
     part-take-bytes-start
     part-take-bytes-end
@@ -112,12 +134,12 @@ count-spec =
     enum-known-r
     enum-told
     show-requires
-    same-length-3
-    same-length-4
-    returns-2
+    same-length-5
+    same-length-6
+    returns-3
     sub-rounds
     loop-less
     loop-again
-    same-length-5
-    same-length-6
-    returns-3)
+    same-length-7
+    same-length-8
+    returns-4)
