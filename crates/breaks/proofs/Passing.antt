@@ -14,7 +14,7 @@ use Rattle.lists.proofs.Bools.{decided, cond-yes, cond-no}
 use Rattle.reading.specs.Answer.{done, refused, unless}
 use Rattle.breaks.specs.Breaks.{inWindow, within, greatest, greatestOf, mostBreaks, firstWith, firstOf, climbs, counted, answered, busiestOf}
 use Rattle.breaks.specs.Passes.{at, Climbs, Bounded, Found, Sought, Reaches, PassedTo, PassedAll, OrderedTo, firstBest}
-use Rattle.breaks.specs.declared.pass.Best.{Best}
+use Rattle.breaks.specs.declared.window.Best.{Best}
 use Rattle.breaks.specs.declared.pass.Passed.{Passed}
 use Rattle.breaks.specs.declared.pass.Passed.the-variants as Pa
 use Rattle.breaks.proofs.Climbing.{climbs-by, climbs-places, rank, rank-below, rank-above, rank-within}

@@ -4,7 +4,7 @@ use Prim.Native.Nat.{ℕ}
 use native.Mathlib.Omega.{arith}
 use Rattle.reading.specs.Answer.{Answer, done, refused}
 use Rattle.breaks.specs.Breaks.{told}
-use Rattle.breaks.specs.declared.pass.Best.{Best}
+use Rattle.breaks.specs.declared.window.Best.{Best}
 use Rattle.breaks.specs.declared.busiest.Counted.the-variants as Co
 
 pub told-breaks : (a : Answer Best) {b : Best} → Co.Breaks b ≡ told a → a ≡ done b

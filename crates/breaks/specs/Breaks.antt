@@ -10,7 +10,7 @@ use lib.ListN.{length}
 use Rattle.lists.specs.Lists.{keep}
 use Rattle.reading.specs.Answer.{Answer, done, refused, unless}
 use Rattle.reading.specs.Verdict.{verdictOf, verdictNumber, orKept}
-use Rattle.breaks.specs.declared.pass.Best.{Best}
+use Rattle.breaks.specs.declared.window.Best.{Best}
 use Rattle.breaks.specs.declared.busiest.Counted.{Counted}
 use Rattle.breaks.specs.declared.busiest.Counted.the-variants as Co
 

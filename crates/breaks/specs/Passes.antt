@@ -7,7 +7,7 @@ use lib.Dec.{leb, ltb, eqb}
 use lib.ListN.{length, getD}
 use Rattle.lists.specs.Lists.{all, below}
 use Rattle.breaks.specs.Breaks.{inWindow, counted, climbs}
-use Rattle.breaks.specs.declared.pass.Best.{Best}
+use Rattle.breaks.specs.declared.window.Best.{Best}
 use Rattle.breaks.specs.declared.pass.Passed.{Passed}
 use Rattle.breaks.specs.declared.pass.Passed.the-variants as Pa
 

@@ -5,14 +5,14 @@ ghost use Prim.Native.Nat.{ℕ, _≤_};
 ghost use lib.ListN.{length};
 ghost use Rattle.breaks.specs.Breaks.{busiestOf, told, Tells};
 ghost use Rattle.reading.specs.Answer.{Answer};
-ghost use Rattle.breaks.specs.declared.pass.Best.{Best};
+ghost use Rattle.breaks.specs.declared.window.Best.{Best};
 ghost use Rattle.breaks.specs.Passes.{at, Sought, PassedTo, PassedAll, firstBest};
 use crate::block::pass_block;
 use crate::order::climbs_to;
-use crate::pass::Best;
 use crate::pass::Passed;
 use crate::pass::pass;
 use crate::reached::reached;
+use crate::window::Best;
 
 pub enum Counted {
     Breaks(Best),

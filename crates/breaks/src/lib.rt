@@ -2,5 +2,6 @@
 mod block;
 pub mod busiest;
 mod order;
-pub mod pass;
+mod pass;
 mod reached;
+pub mod window;

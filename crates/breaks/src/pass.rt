@@ -1,33 +1,16 @@
 // The pass over the ticks, tick by tick. It has two places in the list: that of the tick that is looked at, and that of the
 // tick so many places before it as the busiest window so far has breaks. A window that begins there and reaches the tick has
 // one more.
-ghost use mathlib.Core.Path.{_≡_};
 ghost use Prim.Native.Nat.{ℕ, _≤_};
 ghost use lib.ListN.{length};
-ghost use Rattle.breaks.specs.Breaks.{inWindow};
 ghost use Rattle.breaks.specs.Passes.{Sought, PassedTo};
-
-// The most breaks in a window, and the first tick of the earliest window that has so many and begins at a break.
-pub struct Best {
-    pub count: usize,
-    pub first: u32,
-}
+use crate::window::Best;
+use crate::window::in_window;
 
 // What a pass found, or that a tick is smaller than the one before it.
 pub enum Passed {
     To(Best),
     Falls,
-}
-
-// Whether a tick is in the window that begins at another. The difference is taken, since the window's end may have more than
-// 32 bits.
-pub fn in_window(window: u32, start: u32, tick: u32) -> bool
-    ensures { λ r. ⌜ r ≡ inWindow window start tick ⌝ }
-{
-    if tick < start {
-        return false;
-    }
-    tick - start < window
 }
 
 // The pass over the ticks from one place up to another.

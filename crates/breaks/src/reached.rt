@@ -6,7 +6,7 @@ ghost use Prim.Native.Nat.{_-_, _≤_, max};
 ghost use lib.ListN.{length};
 ghost use Rattle.breaks.specs.Breaks.{inWindow};
 ghost use Rattle.breaks.specs.Passes.{at, Reaches};
-use crate::pass::in_window;
+use crate::window::in_window;
 
 // How far apart the windows end.
 const APART: usize = 16384;

@@ -2,7 +2,7 @@
 use answers::output;
 use breaks::busiest::Counted;
 use breaks::busiest::busiest;
-use breaks::pass::Best;
+use breaks::window::Best;
 use requests::ticks::fill_ticks;
 
 // More ticks than a request can have: it has 131,072 bytes at most, and a tick has four.

@@ -8,7 +8,7 @@ use Rattle.breaks.proofs.block.pass_block.Reads as reads
 use Rattle.breaks.proofs.block.pass_block.Lts as lts
 use Rattle.breaks.proofs.block.block_quiet.Reads as block-quiet-reads
 use Rattle.breaks.proofs.block.pass_grown.Reads as pass-grown-reads
-use Rattle.breaks.proofs.pass.in_window.Reads as in-window-reads
+use Rattle.breaks.proofs.window.in_window.Reads as in-window-reads
 use Rattle.breaks.proofs.pass.pass.Reads as pass-reads
 
 sub-start : tie.Need-sub-start

@@ -11,7 +11,7 @@ use Rattle.breaks.proofs.pass.pass.Statement.{statement}
 use Rattle.breaks.proofs.pass.pass.Tie as tie
 use Rattle.breaks.proofs.pass.pass.Reads as reads
 use Rattle.breaks.proofs.pass.pass.Lts as lts
-use Rattle.breaks.proofs.pass.in_window.Reads as in-window-reads
+use Rattle.breaks.proofs.window.in_window.Reads as in-window-reads
 
 abbrev Inv-loop : tie.InvT-loop
 Inv-loop ticks from to window count₀ first₀ end₀ count first end =

@@ -12,7 +12,7 @@ use Rattle.breaks.proofs.reached.breaks_before.Statement.{statement}
 use Rattle.breaks.proofs.reached.breaks_before.Tie as tie
 use Rattle.breaks.proofs.reached.breaks_before.Reads as reads
 use Rattle.breaks.proofs.reached.breaks_before.Lts as lts
-use Rattle.breaks.proofs.pass.in_window.Reads as in-window-reads
+use Rattle.breaks.proofs.window.in_window.Reads as in-window-reads
 
 abbrev Inv-loop : tie.InvT-loop
 Inv-loop ticks end window last low₀ high₀ low high = (low ≤ high) × (high < end) × (end ≤ length ticks) × (inWindow window (at ticks high) (at ticks (end - 1)) ≡ true)

@@ -8,7 +8,7 @@ use Rattle.weft_breaks.proofs.recent.add.Statement.{statement}
 use Rattle.weft_breaks.proofs.recent.add.Tie as tie
 use Rattle.weft_breaks.proofs.recent.add.Reads as reads
 use Rattle.weft_breaks.proofs.recent.add.Lts as lts
-use Rattle.breaks.proofs.pass.in_window.Reads as in-window-reads
+use Rattle.breaks.proofs.window.in_window.Reads as in-window-reads
 use Rattle.weft_breaks.proofs.recent.place_of.Reads as place-of-reads
 use Rattle.weft_breaks.proofs.recent.put.Reads as put-reads
 

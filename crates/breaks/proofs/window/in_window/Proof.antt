@@ -2,8 +2,8 @@ use mathlib.Core.Path.{_≡_, sym, _∙_}
 use native.Mathlib.Omega.{arith}
 use borrow.Author.Tests.{lt-ltb, le-ltb}
 use Rattle.breaks.proofs.Windows.{window-by, window-below}
-use Rattle.breaks.proofs.pass.in_window.Statement.{statement}
-use Rattle.breaks.proofs.pass.in_window.Tie as tie
+use Rattle.breaks.proofs.window.in_window.Statement.{statement}
+use Rattle.breaks.proofs.window.in_window.Tie as tie
 
 returns : tie.Need-returns
 returns c = sym (window-below _ _ _ (c .if1 .taken))
