@@ -104,14 +104,14 @@ pub sought-found : {w : ℕ} {ts : List ℕ} {n m f : ℕ} (c : ℕ) → c ≤ m
 sought-found c h F = record { bounded = F .bound; some = F .some; least = h; found = λ l. F }
 
 module _ (w : ℕ) (ts : List ℕ) (n c m f : ℕ) (S : Sought w ts n c m f) (h : at ts (n - 1) ≤ at ts n) where
-  1≤n : 1 ≤ n
-  1≤n = omega (arith, S .some, S .bounded .reach)
+  begun : 1 ≤ n
+  begun = omega (arith, S .some, S .bounded .reach)
 
   pub sought-grown : inWindow w (at ts (n - m)) (at ts n) ≡ true → Sought w ts (n + 1) c (m + 1) (at ts (n - m))
-  sought-grown e = sought-found c (omega (arith, S .least)) (found-grown w ts n m 1≤n (S .bounded) h e)
+  sought-grown e = sought-found c (omega (arith, S .least)) (found-grown w ts n m begun (S .bounded) h e)
 
   pub sought-same : inWindow w (at ts (n - m)) (at ts n) ≡ false → Sought w ts (n + 1) c m f
-  sought-same e = record { bounded = bounded-same w ts n m 1≤n (S .bounded) h (S .some) e; some = S .some; least = S .least; found = λ l. found-same w ts n m f (S .found l) h e }
+  sought-same e = record { bounded = bounded-same w ts n m begun (S .bounded) h (S .some) e; some = S .some; least = S .least; found = λ l. found-same w ts n m f (S .found l) h e }
 
 -- what is sought is found where some window has more than c breaks
 pub sought-reached : {w : ℕ} {ts : List ℕ} {m f : ℕ} (c : ℕ) → Reaches w ts (c + 1) → Sought w ts (length ts) c m f → Found w ts (length ts) m f

@@ -12,7 +12,7 @@ use lib.Dec.{leb, ltb, eqb}
 use lib.ListN.{length, getD}
 use Rattle.lists.specs.Lists.{keep, elem}
 use Rattle.lists.proofs.Bools.{and-l, and-r, both, clash, decided, cond-yes, cond-no, fails, same}
-use Rattle.lists.proofs.Lists.{keep-none, elem-at, elem-by}
+use Rattle.lists.proofs.Lists.{keep-none, keep-more, elem-at, elem-by}
 use Rattle.breaks.specs.Breaks.{inWindow, within, greatest, greatestOf, mostBreaks, mostAtBreaks, firstOf, firstWith, answered, busiestOf, busiestAtBreaks, climbs}
 use Rattle.breaks.specs.Passes.{at}
 use Rattle.breaks.proofs.Climbing.{climbs-tail, climbs-above, rank}
@@ -92,20 +92,6 @@ anywhere w ts s = ⊎-elim
     (λ e. omega (arith, past-none w ts s (ltb-true _ s e)))
     (λ e. greatest-above (within w ts) (suc (greatestOf ts)) s (omega (arith, ltb-false _ s e)))
     (decided (ltb (greatestOf ts) s))
-
--- a list of which a test keeps no fewer
-keep-more : (p q : ℕ → Bool) (xs : List ℕ) → ((x : ℕ) → Mem x xs → p x ≡ true → q x ≡ true) → length (keep p xs) ≤ length (keep q xs)
-unfolding keep
-keep-more p q [] f = omega arith
-keep-more p q (x ∷ xs) f = go (p x) (q x) refl refl (f x (here refl)) (keep-more p q xs (λ y m. f y (there m)))
-  where
-    go :
-        (a b : Bool) → p x ≡ a → q x ≡ b → (p x ≡ true → q x ≡ true) → length (keep p xs) ≤ length (keep q xs) →
-        length (cond a (x ∷ keep p xs) (keep p xs)) ≤ length (cond b (x ∷ keep q xs) (keep q xs))
-    go true true d e g h = omega arith
-    go true false d e g h = clash (g d) e
-    go false true d e g h = omega arith
-    go false false d e g h = h
 
 -- a window that begins at no break has no more breaks than the next
 next-more : (w : ℕ) (ts : List ℕ) (s : ℕ) → elem s ts ≡ false → within w ts s ≤ within w ts (suc s)

@@ -363,3 +363,17 @@ keep-length p (x ∷ xs) = go (p x) (keep-length p xs)
 -- a number of a list of numbers that are all below k
 pub each-below : {k : ℕ} (l : List ℕ) (i : ℕ) → all (λ m. ltb m k) l ≡ true → i < length l → getD l i 0 < k
 each-below {k} l i h b = ltb-true (getD l i 0) k (all-at (λ m. ltb m k) l h (getD-mem l i 0 b))
+
+-- a list of which a test keeps no fewer
+pub keep-more : {A : Type 0} (p q : A → Bool) (xs : List A) → ((x : A) → Mem x xs → p x ≡ true → q x ≡ true) → length (keep p xs) ≤ length (keep q xs)
+unfolding keep
+keep-more p q [] f = omega arith
+keep-more p q (x ∷ xs) f = go (p x) (q x) refl refl (f x (here refl)) (keep-more p q xs (λ y m. f y (there m)))
+  where
+    go :
+        (a b : Bool) → p x ≡ a → q x ≡ b → (p x ≡ true → q x ≡ true) → length (keep p xs) ≤ length (keep q xs) →
+        length (cond a (x ∷ keep p xs) (keep p xs)) ≤ length (cond b (x ∷ keep q xs) (keep q xs))
+    go true true d e g h = omega arith
+    go true false d e g h = clash (g d) e
+    go false true d e g h = omega arith
+    go false false d e g h = h
