@@ -1,8 +1,8 @@
 -- The number that a word is, digit by digit. The code's value stays once it is past 32 bits, and so does whether it is.
 use mathlib.Core.Path.{_≡_, refl, sym, ap, _∙_}
-use mathlib.Core.Bool.{Bool, true, false, cond, _&&_}
+use mathlib.Core.Bool.{Bool, true, false, cond, _&&_, and-false}
 use mathlib.Core.Logic.{_⊎_, inl, inr, ⊎-elim}
-use mathlib.Core.List.{List, [], _∷_}
+use mathlib.Core.List.{List, [], _∷_, _++_}
 use Prim.Native.Nat.{ℕ, _+_, _*_, _-_, _≤_, _<_}
 use native.Mathlib.Omega.{arith}
 use lib.Dec.{leb, ltb}
@@ -22,6 +22,12 @@ unfolding decimalAfter
 decimal-grows n [] = omega arith
 decimal-grows n (b ∷ w) = omega (arith, decimal-grows (n * 10 + (b - 48)) w)
 
+-- one digit more at the end
+pub decimal-more : (n : ℕ) (w : List ℕ) (b : ℕ) → decimalAfter n (w ++ (b ∷ [])) ≡ decimalAfter n w * 10 + (b - 48)
+unfolding decimalAfter
+decimal-more n [] b = refl
+decimal-more n (a ∷ w) b = decimal-more (n * 10 + (a - 48)) w b
+
 -- a value that goes on to the whole number over the digits that are left, or is past 32 bits as that is
 abbrev pub Counted : ℕ → List ℕ → ℕ → Type 0
 Counted value rest whole = (decimalAfter value rest ≡ whole) ⊎ ((4294967295 < value) × (4294967295 < whole))
@@ -30,7 +36,7 @@ digit-high : (n d : ℕ) → 4294967295 < n → withDigit n d ≡ n
 unfolding withDigit
 digit-high n d h = rw (lt-ltb 4294967295 n h)
 
-digit-low : (n d : ℕ) → n ≤ 4294967295 → withDigit n d ≡ n * 10 + d
+pub digit-low : (n d : ℕ) → n ≤ 4294967295 → withDigit n d ≡ n * 10 + d
 unfolding withDigit
 digit-low n d h = rw (le-ltb 4294967295 n h)
 
@@ -44,6 +50,15 @@ counted-more value b rest whole (inl e) = ⊎-elim high low (decided (ltb 429496
     low : ltb 4294967295 value ≡ false → Counted (withDigit value (b - 48)) rest whole
     low t = rw (digit-low value (b - 48) (ltb-false 4294967295 value t)) (inl e)
 counted-more value b rest whole (inr (h, k)) = rw (digit-high value (b - 48) h) (inr (h, k))
+
+-- the same where no digit is known to be left, and there is one more
+pub counted-digit : (value whole d : ℕ) → Counted value [] whole → Counted (withDigit value d) [] (whole * 10 + d)
+unfolding decimalAfter
+counted-digit value whole d (inl e) = ⊎-elim
+    (λ t. let h = ltb-true 4294967295 value t in rw (digit-high value d h) (inr (h, omega arith)))
+    (λ t. rw (digit-low value d (ltb-false 4294967295 value t)) (inl (omega arith)))
+    (decided (ltb 4294967295 value))
+counted-digit value whole d (inr (h, k)) = rw (digit-high value d h) (inr (h, omega arith))
 
 -- the digits of a word before a place are read
 pub record Digits (w : List ℕ) (value i : ℕ) : Type 0 where
@@ -89,6 +104,10 @@ module _ (w : List ℕ) (value i : ℕ) (D : Digits w value i) where
   digits-all l h k =
       let z : value ≡ decimal w = ⊎-elim (λ e. e) (λ e. absurd (omega (arith, e .0))) (end h .1) in
       sym (rw (le-leb 1 (length w) l, end h .0, le-leb (decimal w) 4294967295 (omega arith)) (ap (λ (n : ℕ). Nu.Value n) (sym z)))
+
+pub not-digits : (w : List ℕ) → all isDigit w ≡ false → isNumber w ≡ false
+unfolding isNumber
+not-digits w h = rw h (and-false (leb 1 (length w)))
 
 pub number-empty : (w : List ℕ) → length w ≡ 0 → Nu.Bad ≡ numberOf w
 unfolding numberOf isNumber

@@ -4,15 +4,16 @@ use mathlib.Core.Bool.{Bool, true, false, cond, not, _&&_}
 use mathlib.Core.List.{List, [], _∷_, _++_, append-assoc, append-nil}
 use Prim.Native.Nat.{ℕ, suc, _+_, _-_, _≤_, _<_}
 use native.Mathlib.Omega.{arith}
-use lib.Dec.{eqb}
+use borrow.Author.Tests.{leb-true, ne-eqb}
+use lib.Dec.{leb, eqb}
 use lib.ListN.{length, getD, take, drop, length-take, length-drop, drop-of-length-le}
 use lib.Seq.{drop-drop}
 use Rattle.lists.specs.Lists.{position}
 use Rattle.reading.specs.Places.{onward}
-use Rattle.lists.proofs.Bools.{clash, fails, and-r}
+use Rattle.lists.proofs.Bools.{clash, fails, and-l, and-r, cond-yes, cond-no}
 use Rattle.lists.proofs.Parts.{drop-next}
 use Rattle.lists.proofs.Position.{position-le}
-use Rattle.console.specs.Script.{isSpace, ended, wordsAfter, words, sameWord}
+use Rattle.console.specs.Script.{isSpace, isDigit, ended, wordsAfter, words, sameWord}
 use Rattle.console.specs.Places.{placeOf, endsRun, wordsFound, WordFits}
 use Rattle.console.specs.declared.script.Word.{Word}
 use Rattle.console.specs.declared.script.Word.the-variants as Wo
@@ -23,6 +24,22 @@ FirstWord s ws from to = ws ≡ take (to - from) (drop from s) ∷ words (onward
 
 abbrev pub PartWithin : List ℕ → ℕ → ℕ → ℕ → Type 0
 PartWithin s at from to = (at ≤ from) × (from < to) × (to ≤ length s)
+
+-- the words that are left, after a space and after another byte
+pub after-space : (w : List ℕ) (b : ℕ) (s : List ℕ) → isSpace b ≡ true → wordsAfter w (b ∷ s) ≡ ended w ++ wordsAfter [] s
+unfolding wordsAfter
+after-space w b s h = cond-yes (ended w ++ wordsAfter [] s) (wordsAfter (w ++ (b ∷ [])) s) h
+
+pub after-byte : (w : List ℕ) (b : ℕ) (s : List ℕ) → isSpace b ≡ false → wordsAfter w (b ∷ s) ≡ wordsAfter (w ++ (b ∷ [])) s
+unfolding wordsAfter
+after-byte w b s h = cond-no (ended w ++ wordsAfter [] s) (wordsAfter (w ++ (b ∷ [])) s) h
+
+-- a digit is no space
+pub digit-no-space : (b : ℕ) → isDigit b ≡ true → isSpace b ≡ false
+unfolding isSpace
+digit-no-space b h =
+    let l = leb-true 48 b (and-l (leb 48 b) _ h) in
+    rw (ne-eqb b 32 (λ e. omega arith), ne-eqb b 9 (λ e. omega arith), ne-eqb b 13 (λ e. omega arith)) refl
 
 -- spaces in front are no part of a word
 words-skip : (t : List ℕ) → words (drop (position (endsRun true) t) t) ≡ words t

@@ -2,3 +2,4 @@
 pub mod Rings
 pub mod Lines
 pub mod Inputs
+pub mod Words
