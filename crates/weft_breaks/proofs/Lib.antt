@@ -3,3 +3,4 @@ pub mod Rings
 pub mod Lines
 pub mod Inputs
 pub mod Words
+mod Examples
