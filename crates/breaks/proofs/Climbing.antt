@@ -1,17 +1,17 @@
 -- Lists in which no number is smaller than the one before it: by neighbours, by places, by members; and how many numbers of one
 -- lie below another.
-use mathlib.Core.Path.{_≡_, refl, ap, _∙_}
-use mathlib.Core.Bool.{Bool, true, false, cond, _&&_}
+use mathlib.Core.Path.{_≡_, refl, ap}
+use mathlib.Core.Bool.{true, false}
 use mathlib.Core.Logic.{_⊎_, ⊎-elim}
 use mathlib.Core.List.{List, [], _∷_, List·Memᴰ as Mem, List·Memᴰ·head as here, List·Memᴰ·tail as there, List·Memᴰ·cases-cons as cases-cons}
-use Prim.Native.Nat.{ℕ, zero, suc, _+_, _-_, _≤_, _<_}
+use Prim.Native.Nat.{ℕ, zero, suc, _-_, _≤_, _<_}
 use native.Mathlib.Omega.{arith}
 use native.Mathlib.Decide.{ℕ-discrete}
-use borrow.Author.Tests.{le-leb, leb-true, lt-leb, lt-ltb, le-ltb, ltb-true, ltb-false}
+use borrow.Author.Tests.{le-leb, leb-true, lt-ltb, le-ltb, ltb-true, ltb-false}
 use lib.Dec.{leb, ltb}
-use lib.ListN.{length, getD}
+use lib.ListN.{length}
 use Rattle.lists.specs.Lists.{keep}
-use Rattle.lists.proofs.Bools.{and-l, and-r, both, clash, decided, fails}
+use Rattle.lists.proofs.Bools.{and-l, and-r, both, decided, fails}
 use Rattle.lists.proofs.Lists.{keep-none, keep-length}
 use Rattle.breaks.specs.Breaks.{climbs}
 use Rattle.breaks.specs.Passes.{at, Climbs}

@@ -1,15 +1,15 @@
 -- Windows: what `mostBreaks` and `firstWith` say. No window has more breaks, wherever it begins; the windows that begin at a break
 -- suffice; and in a list that climbs the breaks of a window stand one after the other.
 use mathlib.Core.Path.{_≡_, refl, sym, ap, _∙_, subst}
-use mathlib.Core.Bool.{Bool, true, false, cond, _&&_}
+use mathlib.Core.Bool.{Bool, true, false, _&&_}
 use mathlib.Core.Logic.{_⊎_, inl, inr, ⊎-elim}
 use mathlib.Core.List.{List, [], _∷_, map, List·Memᴰ as Mem, List·Memᴰ·head as here, List·Memᴰ·tail as there, List·Memᴰ·cases-cons as cases-cons}
-use Prim.Native.Nat.{ℕ, zero, suc, _+_, _-_, _≤_, _<_, max}
+use Prim.Native.Nat.{ℕ, zero, suc, _+_, _-_, _≤_, _<_}
 use native.Mathlib.Omega.{arith}
 use native.Mathlib.Decide.{ℕ-discrete}
-use borrow.Author.Tests.{le-leb, leb-true, leb-false, lt-leb, lt-ltb, le-ltb, ltb-true, ltb-false, eqb-true, eq-eqb}
+use borrow.Author.Tests.{le-leb, leb-true, leb-false, lt-leb, lt-ltb, ltb-true, ltb-false, eqb-true, eq-eqb}
 use lib.Dec.{leb, ltb, eqb}
-use lib.ListN.{length, getD}
+use lib.ListN.{length}
 use Rattle.lists.specs.Lists.{keep, elem}
 use Rattle.lists.proofs.Bools.{and-l, and-r, both, clash, decided, cond-yes, cond-no, fails, same}
 use Rattle.lists.proofs.Lists.{keep-none, keep-more, elem-at, elem-by}

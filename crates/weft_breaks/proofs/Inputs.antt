@@ -1,9 +1,8 @@
 -- The input: what is known after a tick, a line and more bytes.
-use mathlib.Core.Path.{_≡_, refl, sym, ap, _∙_, subst}
-use mathlib.Core.Bool.{Bool, true, false, cond}
+use mathlib.Core.Path.{_≡_, refl, ap, _∙_, subst}
+use mathlib.Core.Bool.{false}
 use mathlib.Core.List.{List, [], _∷_, _++_}
-use Prim.Native.Nat.{ℕ, zero, suc, _+_, _-_, _≤_, _<_}
-use native.Mathlib.Omega.{arith}
+use Prim.Native.Nat.{ℕ, _+_, _-_, _≤_, _<_}
 use native.Mathlib.Numerals.{add-one}
 use borrow.Author.Tests.{eq-eqb, ne-eqb}
 use lib.ListN.{length, getD, take}
@@ -12,7 +11,7 @@ use Rattle.lists.proofs.Bools.{cond-yes, cond-no}
 use Rattle.breaks.specs.Breaks.{mostBreaks, climbs}
 use Rattle.weft_breaks.specs.Lines.{withByte, endedTick}
 use Rattle.weft_breaks.specs.Rings.{Holds, AddedTo}
-use Rattle.weft_breaks.specs.Inputs.{Said, said, unread, lineEnded, byteSaid, bytesSaid, ReadTo, TakenTo}
+use Rattle.weft_breaks.specs.Inputs.{Said, said, lineEnded, byteSaid, bytesSaid, ReadTo, TakenTo}
 use Rattle.weft_breaks.specs.declared.line.Line.{Line}
 use Rattle.weft_breaks.specs.declared.recent.Recent.{Recent}
 use Rattle.weft_breaks.specs.declared.recent.Added.{Added}

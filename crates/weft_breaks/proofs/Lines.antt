@@ -1,18 +1,14 @@
 -- Lines, byte by byte.
-use mathlib.Core.Path.{_≡_, refl, sym, ap, _∙_}
-use mathlib.Core.Bool.{Bool, true, false, cond}
-use mathlib.Core.List.{List, [], _∷_}
+use mathlib.Core.Path.{_≡_, refl, sym}
+use mathlib.Core.Bool.{true, false, cond}
 use Prim.Native.Nat.{ℕ, _-_, _≤_, _<_}
-use native.Mathlib.Omega.{arith}
 use borrow.Author.Tests.{le-leb, lt-leb}
-use lib.Dec.{leb}
 use Rattle.lists.proofs.Bools.{cond-yes, cond-no}
 use Rattle.console.specs.Script.{isSpace, isDigit}
 use Rattle.console.specs.Places.{withDigit}
 use Rattle.weft_breaks.specs.Lines.{withByte, tickOfNumber, endedTick}
 use Rattle.weft_breaks.specs.declared.line.Line.{Line}
 use Rattle.weft_breaks.specs.declared.line.Line.the-variants as Li
-use Rattle.weft_breaks.specs.declared.line.Tick.{Tick}
 use Rattle.weft_breaks.specs.declared.line.Tick.the-variants as Ti
 
 -- a byte more

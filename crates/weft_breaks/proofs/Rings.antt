@@ -1,9 +1,9 @@
 -- The ring: where its ticks stand, and what it holds after one more; what the pass has found with it.
 use mathlib.Core.Path.{_≡_, refl, sym, ap, _∙_}
-use mathlib.Core.Bool.{Bool, true, false, cond}
+use mathlib.Core.Bool.{Bool, true, false}
 use mathlib.Core.Logic.{_⊎_, ⊎-elim}
 use mathlib.Core.List.{List, [], _∷_, _++_}
-use Prim.Native.Nat.{ℕ, zero, suc, _+_, _-_, _≤_, _<_, min}
+use Prim.Native.Nat.{ℕ, _+_, _-_, _≤_, _<_, min}
 use native.Mathlib.Omega.{arith}
 use native.Mathlib.Decide.{ℕ-discrete}
 use borrow.Author.Tests.{le-leb, lt-leb, leb-true, leb-false, ltb-true, ltb-false, lt-ltb, le-ltb}
@@ -11,9 +11,9 @@ use lib.Dec.{leb, ltb}
 use lib.ListN.{length, getD, set, length-set, List·getD-append}
 use lib.Seq.{getD-set-same, getD-set-other, getD-append-seam}
 use Rattle.lists.proofs.Bools.{decided, cond-yes, cond-no}
-use Rattle.breaks.specs.Breaks.{inWindow, mostBreaks, climbs}
+use Rattle.breaks.specs.Breaks.{inWindow, mostBreaks}
 use Rattle.breaks.specs.Passes.{at, Found}
-use Rattle.breaks.proofs.Appended.{one-longer, found-first, falls-end, found-end-grown, found-end-same}
+use Rattle.breaks.proofs.Appended.{one-longer, found-first, found-end-grown, found-end-same}
 use Rattle.breaks.proofs.Passing.{most}
 use Rattle.weft_breaks.specs.Rings.{placeOf, nextPlace, noTicks, Ring, Holds}
 use Rattle.weft_breaks.specs.declared.recent.Recent.{Recent}

@@ -1,5 +1,5 @@
 -- The lines of the input: a tick to a line. Spaces may stand before and after it, and a line may have none.
-use mathlib.Core.Bool.{Bool, true, false, cond}
+use mathlib.Core.Bool.{cond}
 use mathlib.Core.List.{List, [], _∷_}
 use Prim.Native.Nat.{ℕ, _-_}
 use lib.Dec.{leb}

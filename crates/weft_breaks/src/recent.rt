@@ -3,7 +3,6 @@
 ghost use mathlib.Core.Path.{_≡_};
 ghost use mathlib.Core.List.{List, [], _∷_, _++_};
 ghost use Prim.Native.Nat.{ℕ, _≤_, _<_};
-ghost use lib.ListN.{length};
 ghost use Rattle.weft_breaks.specs.Rings.{placeOf, nextPlace, noTicks, Ring, Holds, AddedTo};
 use breaks::window::in_window;
 

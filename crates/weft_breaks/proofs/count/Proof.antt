@@ -1,4 +1,4 @@
-use mathlib.Core.Path.{_≡_, refl, sym}
+use mathlib.Core.Path.{_≡_, refl}
 use mathlib.Core.List.{List, []}
 use Prim.Native.Nat.{ℕ, _≤_}
 use native.Mathlib.Omega.{arith}
@@ -9,15 +9,6 @@ use Rattle.weft_breaks.proofs.Rings.{holds-none}
 use Rattle.weft_breaks.proofs.Inputs.{taken-holds}
 use Rattle.weft_breaks.proofs.count.Statement.{statement}
 use Rattle.weft_breaks.proofs.count.Tie as tie
-use Rattle.weft_breaks.proofs.count.Reads as reads
-use Rattle.weft_breaks.proofs.count.Lts as lts
-use Rattle.io.proofs.count.Reads as count-reads
-use Rattle.libc.proofs.read.Reads as read-reads
-use Rattle.weft_breaks.proofs.finish.Reads as finish-reads
-use Rattle.weft_breaks.proofs.input.take_bytes.Reads as take-bytes-reads
-use Rattle.weft_breaks.proofs.show.Reads as show-reads
-use Rattle.weft_breaks.proofs.show_unread.Reads as show-unread-reads
-use Rattle.weft_breaks.proofs.start.Reads as start-reads
 
 abbrev Inv-loop : tie.InvT-loop
 Inv-loop ring₀ bytes₀ window state₀ rounds₀ ring bytes state rounds = (1 ≤ window) × (length ring ≡ length ring₀) × (length bytes ≡ length bytes₀) × ((ts : List ℕ) × Holds window ring (state .recent) ts)

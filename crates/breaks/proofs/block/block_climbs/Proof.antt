@@ -6,9 +6,6 @@ use Rattle.breaks.specs.Passes.{climbsAt, blockClimbs}
 use Rattle.breaks.proofs.Blocks.{tested-none, tested-more, tested-all}
 use Rattle.breaks.proofs.block.block_climbs.Statement.{statement}
 use Rattle.breaks.proofs.block.block_climbs.Tie as tie
-use Rattle.breaks.proofs.block.block_climbs.Reads as reads
-use Rattle.breaks.proofs.block.block_climbs.Lts as lts
-use Rattle.breaks.proofs.block.climbs_at.Reads as climbs-at-reads
 
 abbrev Inv-loop : tie.InvT-loop
 Inv-loop ticks from climbs₀ k₀ climbs k = (k ≤ 32) × (climbs ≡ all (λ j. climbsAt ticks (from + j)) (below k))

@@ -6,9 +6,6 @@ use Rattle.breaks.specs.Passes.{quietAt, blockQuiet}
 use Rattle.breaks.proofs.Blocks.{tested-none, tested-more, tested-all}
 use Rattle.breaks.proofs.block.block_quiet.Statement.{statement}
 use Rattle.breaks.proofs.block.block_quiet.Tie as tie
-use Rattle.breaks.proofs.block.block_quiet.Reads as reads
-use Rattle.breaks.proofs.block.block_quiet.Lts as lts
-use Rattle.breaks.proofs.block.quiet_at.Reads as quiet-at-reads
 
 abbrev Inv-loop : tie.InvT-loop
 Inv-loop ticks from window count quiet₀ k₀ quiet k = (k ≤ 32) × (quiet ≡ all (λ j. quietAt window count ticks (from + j)) (below k))

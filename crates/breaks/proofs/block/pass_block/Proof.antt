@@ -1,15 +1,8 @@
-use mathlib.Core.Path.{_≡_, sym, _∙_}
-use native.Mathlib.Omega.{arith}
+use mathlib.Core.Path.{sym, _∙_}
 use Rattle.breaks.proofs.Blocks.{block-passed, block-quiet}
 use borrow.Author.Needs.{needs}
 use Rattle.breaks.proofs.block.pass_block.Statement.{statement}
 use Rattle.breaks.proofs.block.pass_block.Tie as tie
-use Rattle.breaks.proofs.block.pass_block.Reads as reads
-use Rattle.breaks.proofs.block.pass_block.Lts as lts
-use Rattle.breaks.proofs.block.block_quiet.Reads as block-quiet-reads
-use Rattle.breaks.proofs.block.pass_grown.Reads as pass-grown-reads
-use Rattle.breaks.proofs.window.in_window.Reads as in-window-reads
-use Rattle.breaks.proofs.pass.pass.Reads as pass-reads
 
 sub-start : tie.Need-sub-start
 sub-start c = search needs

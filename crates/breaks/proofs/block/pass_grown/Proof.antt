@@ -3,9 +3,6 @@ use borrow.Author.Tests.{not-true, not-false}
 use borrow.Author.Needs.{needs}
 use Rattle.breaks.proofs.block.pass_grown.Statement.{statement}
 use Rattle.breaks.proofs.block.pass_grown.Tie as tie
-use Rattle.breaks.proofs.block.pass_grown.Reads as reads
-use Rattle.breaks.proofs.block.pass_grown.Lts as lts
-use Rattle.breaks.proofs.block.block_climbs.Reads as block-climbs-reads
 
 block-climbs-requires : tie.Need-block-climbs-requires
 block-climbs-requires c κs = search needs

@@ -2,10 +2,6 @@ use mathlib.Core.Path.{refl}
 use borrow.Author.Needs.{needs}
 use Rattle.breaks.proofs.block.quiet_at.Statement.{statement}
 use Rattle.breaks.proofs.block.quiet_at.Tie as tie
-use Rattle.breaks.proofs.block.quiet_at.Reads as reads
-use Rattle.breaks.proofs.block.quiet_at.Lts as lts
-use Rattle.breaks.proofs.block.apart.Reads as apart-reads
-use Rattle.breaks.proofs.block.climbs_at.Reads as climbs-at-reads
 
 climbs-at-requires : tie.Need-climbs-at-requires
 climbs-at-requires c κs = search needs

@@ -5,9 +5,6 @@ use Rattle.breaks.proofs.Passing.{found-all, found-none, no-window, fal
 use borrow.Author.Needs.{needs}
 use Rattle.breaks.proofs.busiest.busiest.Statement.{statement}
 use Rattle.breaks.proofs.busiest.busiest.Tie as tie
-use Rattle.breaks.proofs.busiest.busiest.Reads as reads
-use Rattle.breaks.proofs.busiest.busiest.Lts as lts
-use Rattle.breaks.proofs.busiest.pass_all.Reads as pass-all-reads
 
 returns : tie.Need-returns
 returns c = sym (ap told (no-window _ _ (c .if1 .taken)))

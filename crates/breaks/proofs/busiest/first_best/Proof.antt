@@ -4,8 +4,6 @@ use Rattle.lists.proofs.Bools.{cond-yes, cond-no}
 use borrow.Author.Needs.{needs}
 use Rattle.breaks.proofs.busiest.first_best.Statement.{statement}
 use Rattle.breaks.proofs.busiest.first_best.Tie as tie
-use Rattle.breaks.proofs.busiest.first_best.Reads as reads
-use Rattle.breaks.proofs.busiest.first_best.Lts as lts
 
 shared-slice-read-t5 : tie.Need-shared-slice-read-t5
 shared-slice-read-t5 c = search needs

@@ -1,4 +1,3 @@
-use mathlib.Core.Path.{_≡_}
 use Prim.Native.Nat.{_-_}
 use native.Mathlib.Omega.{arith}
 use borrow.Author.Tests.{not-true, not-false}
@@ -6,12 +5,6 @@ use Rattle.breaks.proofs.Passing.{first-some, first-sought, passed-all,
 use borrow.Author.Needs.{needs}
 use Rattle.breaks.proofs.busiest.pass_all.Statement.{statement}
 use Rattle.breaks.proofs.busiest.pass_all.Tie as tie
-use Rattle.breaks.proofs.busiest.pass_all.Reads as reads
-use Rattle.breaks.proofs.busiest.pass_all.Lts as lts
-use Rattle.breaks.proofs.busiest.first_best.Reads as first-best-reads
-use Rattle.breaks.proofs.busiest.pass_on.Reads as pass-on-reads
-use Rattle.breaks.proofs.order.climbs_to.Reads as climbs-to-reads
-use Rattle.breaks.proofs.reached.reached.Reads as reached-reads
 
 reached-requires : tie.Need-reached-requires
 reached-requires c κs = search needs

@@ -1,4 +1,3 @@
-use mathlib.Core.Path.{_≡_}
 use Prim.Native.Nat.{ℕ, _-_, _≤_}
 use native.Mathlib.Omega.{arith}
 use lib.ListN.{length}
@@ -7,10 +6,6 @@ use Rattle.breaks.specs.Passes.{Sought}
 use Rattle.breaks.proofs.Passing.{passed-to, passed-falls}
 use Rattle.breaks.proofs.busiest.pass_on.Statement.{statement}
 use Rattle.breaks.proofs.busiest.pass_on.Tie as tie
-use Rattle.breaks.proofs.busiest.pass_on.Reads as reads
-use Rattle.breaks.proofs.busiest.pass_on.Lts as lts
-use Rattle.breaks.proofs.block.pass_block.Reads as pass-block-reads
-use Rattle.breaks.proofs.pass.pass.Reads as pass-reads
 
 abbrev Inv-loop : tie.InvT-loop
 Inv-loop ticks window best₀ end₀ best end =

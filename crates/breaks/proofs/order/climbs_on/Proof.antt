@@ -1,4 +1,4 @@
-use mathlib.Core.Path.{_≡_, sym, _∙_}
+use mathlib.Core.Path.{sym, _∙_}
 use Prim.Native.Nat.{_-_, _≤_}
 use native.Mathlib.Omega.{arith}
 use lib.ListN.{length}
@@ -8,9 +8,6 @@ use Rattle.breaks.proofs.Climbing.{climbs-falls}
 use Rattle.breaks.proofs.Blocks.{climbs-next, climbs-is}
 use Rattle.breaks.proofs.order.climbs_on.Statement.{statement}
 use Rattle.breaks.proofs.order.climbs_on.Tie as tie
-use Rattle.breaks.proofs.order.climbs_on.Reads as reads
-use Rattle.breaks.proofs.order.climbs_on.Lts as lts
-use Rattle.breaks.proofs.block.climbs_at.Reads as climbs-at-reads
 
 abbrev Inv-loop : tie.InvT-loop
 Inv-loop ticks from to end₀ end = (1 ≤ end) × (end ≤ to) × (to ≤ length ticks) × Climbs ticks end

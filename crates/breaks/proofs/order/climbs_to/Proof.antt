@@ -1,4 +1,4 @@
-use mathlib.Core.Path.{_≡_, sym, _∙_}
+use mathlib.Core.Path.{sym, _∙_}
 use Prim.Native.Nat.{_-_, _≤_}
 use native.Mathlib.Omega.{arith}
 use lib.ListN.{length}
@@ -7,10 +7,6 @@ use Rattle.breaks.specs.Passes.{Climbs}
 use Rattle.breaks.proofs.Blocks.{block-climbs, block-falls}
 use Rattle.breaks.proofs.order.climbs_to.Statement.{statement}
 use Rattle.breaks.proofs.order.climbs_to.Tie as tie
-use Rattle.breaks.proofs.order.climbs_to.Reads as reads
-use Rattle.breaks.proofs.order.climbs_to.Lts as lts
-use Rattle.breaks.proofs.block.block_climbs.Reads as block-climbs-reads
-use Rattle.breaks.proofs.order.climbs_on.Reads as climbs-on-reads
 
 abbrev Inv-loop : tie.InvT-loop
 Inv-loop ticks to end₀ end = (1 ≤ end) × (end ≤ to) × (to ≤ length ticks) × Climbs ticks end

@@ -1,4 +1,4 @@
-use mathlib.Core.Path.{_≡_, sym, _∙_}
+use mathlib.Core.Path.{sym, _∙_}
 use mathlib.Core.Logic.{_⊎_, ⊎-elim}
 use Prim.Native.Nat.{ℕ, _-_, _≤_}
 use native.Mathlib.Omega.{arith}
@@ -9,9 +9,6 @@ use Rattle.breaks.proofs.Climbing.{climbs-falls}
 use Rattle.breaks.proofs.Passing.{sought-grown, sought-same, sought-is}
 use Rattle.breaks.proofs.pass.pass.Statement.{statement}
 use Rattle.breaks.proofs.pass.pass.Tie as tie
-use Rattle.breaks.proofs.pass.pass.Reads as reads
-use Rattle.breaks.proofs.pass.pass.Lts as lts
-use Rattle.breaks.proofs.window.in_window.Reads as in-window-reads
 
 abbrev Inv-loop : tie.InvT-loop
 Inv-loop ticks from to window count₀ first₀ end₀ count first end =

@@ -1,4 +1,4 @@
-use mathlib.Core.Path.{_≡_, refl, sym, ap, _∙_}
+use mathlib.Core.Path.{_≡_, sym, _∙_}
 use mathlib.Core.Bool.{true}
 use Prim.Native.Nat.{_-_, _≤_, _<_}
 use native.Mathlib.Omega.{arith}
@@ -10,9 +10,6 @@ use Rattle.breaks.proofs.Windows.{in-window}
 use Rattle.breaks.proofs.Passing.{window-from}
 use Rattle.breaks.proofs.reached.breaks_before.Statement.{statement}
 use Rattle.breaks.proofs.reached.breaks_before.Tie as tie
-use Rattle.breaks.proofs.reached.breaks_before.Reads as reads
-use Rattle.breaks.proofs.reached.breaks_before.Lts as lts
-use Rattle.breaks.proofs.window.in_window.Reads as in-window-reads
 
 abbrev Inv-loop : tie.InvT-loop
 Inv-loop ticks end window last low₀ high₀ low high = (low ≤ high) × (high < end) × (end ≤ length ticks) × (inWindow window (at ticks high) (at ticks (end - 1)) ≡ true)

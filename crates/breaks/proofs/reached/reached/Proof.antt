@@ -1,4 +1,3 @@
-use mathlib.Core.Path.{_≡_, refl}
 use Prim.Native.Nat.{_-_, _≤_}
 use native.Mathlib.Omega.{arith}
 use lib.ListN.{length}
@@ -7,10 +6,6 @@ use Rattle.breaks.specs.Passes.{Reaches}
 use Rattle.breaks.proofs.Passing.{reaches-one, reaches-more}
 use Rattle.breaks.proofs.reached.reached.Statement.{statement}
 use Rattle.breaks.proofs.reached.reached.Tie as tie
-use Rattle.breaks.proofs.reached.reached.Reads as reads
-use Rattle.breaks.proofs.reached.reached.Lts as lts
-use Rattle.breaks.proofs.reached.breaks_before.Reads as breaks-before-reads
-use Rattle.breaks.proofs.reached.greatest.Reads as greatest-reads
 
 abbrev Inv-loop : tie.InvT-loop
 Inv-loop ticks window most₀ end₀ most end = (1 ≤ window) × (end ≤ length ticks) × Reaches window ticks most

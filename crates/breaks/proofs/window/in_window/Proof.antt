@@ -1,6 +1,4 @@
-use mathlib.Core.Path.{_≡_, sym, _∙_}
-use native.Mathlib.Omega.{arith}
-use borrow.Author.Tests.{lt-ltb, le-ltb}
+use mathlib.Core.Path.{sym}
 use Rattle.breaks.proofs.Windows.{window-by, window-below}
 use Rattle.breaks.proofs.window.in_window.Statement.{statement}
 use Rattle.breaks.proofs.window.in_window.Tie as tie

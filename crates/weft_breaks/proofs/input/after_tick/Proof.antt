@@ -2,9 +2,6 @@ use Rattle.weft_breaks.proofs.Inputs.{added-next, added-falls, added-fu
 use borrow.Author.Needs.{needs}
 use Rattle.weft_breaks.proofs.input.after_tick.Statement.{statement}
 use Rattle.weft_breaks.proofs.input.after_tick.Tie as tie
-use Rattle.weft_breaks.proofs.input.after_tick.Reads as reads
-use Rattle.weft_breaks.proofs.input.after_tick.Lts as lts
-use Rattle.weft_breaks.proofs.input.next_line.Reads as next-line-reads
 
 enum-known-added : tie.Need-enum-known-added
 enum-known-added c = search needs

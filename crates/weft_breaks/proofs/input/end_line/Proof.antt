@@ -1,13 +1,7 @@
-use mathlib.Core.Path.{_≡_, sym, _∙_}
+use mathlib.Core.Path.{sym, _∙_}
 use borrow.Author.Needs.{needs}
 use Rattle.weft_breaks.proofs.input.end_line.Statement.{statement}
 use Rattle.weft_breaks.proofs.input.end_line.Tie as tie
-use Rattle.weft_breaks.proofs.input.end_line.Reads as reads
-use Rattle.weft_breaks.proofs.input.end_line.Lts as lts
-use Rattle.weft_breaks.proofs.input.after_tick.Reads as after-tick-reads
-use Rattle.weft_breaks.proofs.input.next_line.Reads as next-line-reads
-use Rattle.weft_breaks.proofs.line.ended_tick.Reads as ended-tick-reads
-use Rattle.weft_breaks.proofs.recent.add.Reads as add-reads
 
 ended-tick-requires : tie.Need-ended-tick-requires
 ended-tick-requires c κs = search needs

@@ -1,12 +1,7 @@
-use mathlib.Core.Path.{_≡_}
 use Rattle.weft_breaks.proofs.Inputs.{feed-said, other-said}
 use borrow.Author.Needs.{needs}
 use Rattle.weft_breaks.proofs.input.take_byte.Statement.{statement}
 use Rattle.weft_breaks.proofs.input.take_byte.Tie as tie
-use Rattle.weft_breaks.proofs.input.take_byte.Reads as reads
-use Rattle.weft_breaks.proofs.input.take_byte.Lts as lts
-use Rattle.weft_breaks.proofs.input.end_line.Reads as end-line-reads
-use Rattle.weft_breaks.proofs.line.with_byte.Reads as with-byte-reads
 
 end-line-requires : tie.Need-end-line-requires
 end-line-requires c κs = search needs

@@ -1,4 +1,4 @@
-use mathlib.Core.Path.{_≡_, refl, _∙_}
+use mathlib.Core.Path.{_≡_, refl}
 use mathlib.Core.List.{List}
 use Prim.Native.Nat.{ℕ, _+_, _-_, _≤_}
 use native.Mathlib.Omega.{arith}
@@ -10,9 +10,6 @@ use Rattle.weft_breaks.specs.declared.input.Read.the-variants as Re
 use Rattle.weft_breaks.proofs.Inputs.{on-holds, read-next, read-is, taken-stopped, taken-all}
 use Rattle.weft_breaks.proofs.input.take_bytes.Statement.{statement}
 use Rattle.weft_breaks.proofs.input.take_bytes.Tie as tie
-use Rattle.weft_breaks.proofs.input.take_bytes.Reads as reads
-use Rattle.weft_breaks.proofs.input.take_bytes.Lts as lts
-use Rattle.weft_breaks.proofs.input.take_byte.Reads as take-byte-reads
 
 abbrev Inv-loop : tie.InvT-loop
 Inv-loop ring₀ bytes window now₀ i₀ ring now i =

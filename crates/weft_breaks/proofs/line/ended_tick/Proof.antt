@@ -3,9 +3,6 @@ use Rattle.weft_breaks.proofs.Lines.{ended-blank, ended-digits, ended-e
 use borrow.Author.Needs.{needs}
 use Rattle.weft_breaks.proofs.line.ended_tick.Statement.{statement}
 use Rattle.weft_breaks.proofs.line.ended_tick.Tie as tie
-use Rattle.weft_breaks.proofs.line.ended_tick.Reads as reads
-use Rattle.weft_breaks.proofs.line.ended_tick.Lts as lts
-use Rattle.weft_breaks.proofs.line.tick_of.Reads as tick-of-reads
 
 enum-told : tie.Need-enum-told
 enum-told c = search needs

@@ -2,8 +2,6 @@ use Rattle.weft_breaks.proofs.Lines.{number-tick, number-bad}
 use borrow.Author.Needs.{needs}
 use Rattle.weft_breaks.proofs.line.tick_of.Statement.{statement}
 use Rattle.weft_breaks.proofs.line.tick_of.Tie as tie
-use Rattle.weft_breaks.proofs.line.tick_of.Reads as reads
-use Rattle.weft_breaks.proofs.line.tick_of.Lts as lts
 
 returns : tie.Need-returns
 returns c = number-bad _ (c .if1 .taken)

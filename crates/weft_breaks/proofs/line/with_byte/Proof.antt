@@ -1,16 +1,10 @@
-use mathlib.Core.Path.{_≡_, sym, ap, _∙_}
+use mathlib.Core.Path.{sym, ap, _∙_}
 use Rattle.console.specs.Places.{withDigit}
 use Rattle.weft_breaks.specs.declared.line.Line.the-variants as Li
 use Rattle.weft_breaks.proofs.Lines.{blank-digit, blank-other, digits-digit, digits-other, ended-byte, bad-byte}
 use borrow.Author.Needs.{needs}
 use Rattle.weft_breaks.proofs.line.with_byte.Statement.{statement}
 use Rattle.weft_breaks.proofs.line.with_byte.Tie as tie
-use Rattle.weft_breaks.proofs.line.with_byte.Reads as reads
-use Rattle.weft_breaks.proofs.line.with_byte.Lts as lts
-use Rattle.console.proofs.script.digit_value.Reads as digit-value-reads
-use Rattle.console.proofs.script.is_digit.Reads as is-digit-reads
-use Rattle.console.proofs.script.with_digit.Reads as with-digit-reads
-use Rattle.weft_breaks.proofs.line.with_other.Reads as with-other-reads
 
 enum-told : tie.Need-enum-told
 enum-told c = search needs

@@ -3,9 +3,6 @@ use Rattle.lists.proofs.Bools.{cond-yes, cond-no}
 use borrow.Author.Needs.{needs}
 use Rattle.weft_breaks.proofs.line.with_other.Statement.{statement}
 use Rattle.weft_breaks.proofs.line.with_other.Tie as tie
-use Rattle.weft_breaks.proofs.line.with_other.Reads as reads
-use Rattle.weft_breaks.proofs.line.with_other.Lts as lts
-use Rattle.console.proofs.script.is_space.Reads as is-space-reads
 
 is-space-requires : tie.Need-is-space-requires
 is-space-requires c κs = search needs

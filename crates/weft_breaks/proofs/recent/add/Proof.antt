@@ -1,16 +1,11 @@
-use mathlib.Core.Path.{_≡_, sym, _∙_}
+use mathlib.Core.Path.{sym, _∙_}
 use native.Mathlib.Omega.{arith}
 use borrow.Author.Tests.{not-true, not-false}
 use Rattle.breaks.proofs.Appended.{falls-end}
-use Rattle.weft_breaks.proofs.Rings.{held-none, held-some, last-inside, start-inside, last-below, last-above, start-held, start-window, held-first, held-same, held-grown, held-full}
+use Rattle.weft_breaks.proofs.Rings.{held-some, last-inside, start-inside, last-below, last-above, start-held, start-window, held-first, held-same, held-grown, held-full}
 use borrow.Author.Needs.{needs}
 use Rattle.weft_breaks.proofs.recent.add.Statement.{statement}
 use Rattle.weft_breaks.proofs.recent.add.Tie as tie
-use Rattle.weft_breaks.proofs.recent.add.Reads as reads
-use Rattle.weft_breaks.proofs.recent.add.Lts as lts
-use Rattle.breaks.proofs.window.in_window.Reads as in-window-reads
-use Rattle.weft_breaks.proofs.recent.place_of.Reads as place-of-reads
-use Rattle.weft_breaks.proofs.recent.put.Reads as put-reads
 
 put-requires : tie.Need-put-requires
 put-requires c κs = search needs

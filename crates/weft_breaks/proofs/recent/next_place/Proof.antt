@@ -3,8 +3,6 @@ use Rattle.weft_breaks.proofs.Rings.{next-low, next-high}
 use borrow.Author.Needs.{needs}
 use Rattle.weft_breaks.proofs.recent.next_place.Statement.{statement}
 use Rattle.weft_breaks.proofs.recent.next_place.Tie as tie
-use Rattle.weft_breaks.proofs.recent.next_place.Reads as reads
-use Rattle.weft_breaks.proofs.recent.next_place.Lts as lts
 
 add-result : tie.Need-add-result
 add-result c = search needs

@@ -3,8 +3,6 @@ use Rattle.weft_breaks.proofs.Rings.{place-low, place-high}
 use borrow.Author.Needs.{needs}
 use Rattle.weft_breaks.proofs.recent.place_of.Statement.{statement}
 use Rattle.weft_breaks.proofs.recent.place_of.Tie as tie
-use Rattle.weft_breaks.proofs.recent.place_of.Reads as reads
-use Rattle.weft_breaks.proofs.recent.place_of.Lts as lts
 
 returns : tie.Need-returns
 returns c = sym (place-low _ _ (c .if1 .taken))

@@ -3,10 +3,6 @@ use Rattle.weft_breaks.proofs.Rings.{ring-more}
 use borrow.Author.Needs.{needs}
 use Rattle.weft_breaks.proofs.recent.put.Statement.{statement}
 use Rattle.weft_breaks.proofs.recent.put.Tie as tie
-use Rattle.weft_breaks.proofs.recent.put.Reads as reads
-use Rattle.weft_breaks.proofs.recent.put.Lts as lts
-use Rattle.lists.proofs.number.least.Reads as least-reads
-use Rattle.weft_breaks.proofs.recent.next_place.Reads as next-place-reads
 
 mul-ring : tie.Need-mul-ring
 mul-ring c = search needs
