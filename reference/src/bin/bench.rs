@@ -205,26 +205,28 @@ fn time_breaks() {
     }
 }
 
-/// The rest of a row, if all give the same answer.
+/// The rest of a row, if all give the same answer. The last implementation and the sum take turns, and the
+/// others come after them: a search all over the list leaves the processor's caches such that a pass right
+/// after it, with two places in the list, takes up to twice as long as otherwise.
 fn time_breaks_of(ticks: &[u32], window: u32) {
     let expected = weft_breaks(ticks, window);
     if IMPLEMENTATIONS.iter().any(|one| (one.weft_breaks)(ticks, window) != expected) {
         println!("  left out: the answers differ");
         return;
     }
-    let count = IMPLEMENTATIONS.len() + 1;
-    let all = times(BREAKS_ROUNDS, count, |number| match IMPLEMENTATIONS.get(number) {
-        Some(one) => {
-            let _ = black_box((one.weft_breaks)(black_box(ticks), black_box(window)));
-        }
-        None => {
+    let count = |one: &Implementation| {
+        let _ = black_box((one.weft_breaks)(black_box(ticks), black_box(window)));
+    };
+    let (last, others) = IMPLEMENTATIONS.split_last().expect("there is one");
+    let pair = times(BREAKS_ROUNDS, 2, |number| match number {
+        0 => count(last),
+        _ => {
             black_box(sum(black_box(ticks)));
         }
     });
-    let (sum, counts) = all.split_last().expect("there is the sum");
-    let (last, others) = counts.split_last().expect("there is an implementation");
-    print!("{sum:>15.0}{last:>15.0}{:>15.2}", last / sum);
-    println_columns(others.iter().map(|time| format!("{time:.0}")));
+    print!("{:>15.0}{:>15.0}{:>15.2}", pair[1], pair[0], pair[0] / pair[1]);
+    let alone = times(BREAKS_ROUNDS, others.len(), |number| count(&others[number]));
+    println_columns(alone.iter().map(|time| format!("{time:.0}")));
 }
 
 /// The rest of a line.
