@@ -1,5 +1,6 @@
 -- Laws of the definitions of this crate.
 pub mod Entered
+pub mod FirstVersion
 pub mod Fixed
 pub mod Ranges
 pub mod Rules

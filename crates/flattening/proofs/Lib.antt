@@ -17,4 +17,5 @@ pub mod Counts
 pub mod Files
 pub mod Printable
 pub mod Before
+pub mod FirstVersion
 pub mod Samples

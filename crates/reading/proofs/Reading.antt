@@ -144,3 +144,7 @@ pub many-same : {A : Type 0} (r q : Reader A) → ((s : List ℕ) → r s ≡ q 
 unfolding many
 many-same r q h zero s = refl
 many-same r q h (suc n) s = bind-same r q _ _ h (λ x t. bind-same (many n r) (many n q) _ _ (many-same r q h n) (λ xs u. refl) t) s
+
+pub recorded-same : {A : Type 0} (size : Reader ℕ) (r q : Reader A) → ((s : List ℕ) → r s ≡ q s) → (s : List ℕ) → recorded size r s ≡ recorded size q s
+unfolding recorded whole
+recorded-same size r q h = bind-same _ _ _ _ (λ s. refl) (λ bytes rest. ap (λ x. next x (λ a t. next (end t) (λ u v. got a rest))) (h bytes))
