@@ -8,7 +8,7 @@ use native.Mathlib.Omega.{arith}
 use native.Mathlib.Decide.{ℕ-discrete}
 use borrow.Author.Tests.{eqb-true, eq-eqb, ne-eqb, leb-true}
 use lib.Dec.{leb, eqb}
-use Rattle.lists.specs.Lists.{has, all, any, below, keep, implies}
+use Rattle.lists.specs.Lists.{has, all, below, keep, implies}
 use Rattle.lists.proofs.Bools.{parts, clash, and-l, and-r, both, or-else, implies-at, implies-by}
 use Rattle.lists.proofs.Lists.{all-at, all-by, keep-at, keep-by, one-mem, elem-at, elem-by}
 use Rattle.lists.proofs.Below.{all-below}

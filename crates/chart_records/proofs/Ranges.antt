@@ -1,12 +1,12 @@
 -- What the reading of a file says of the chart: counts and fields are in range.
 use mathlib.Core.Path.{_≡_, sym, ap, _∙_, subst}
-use mathlib.Core.Bool.{Bool, true, _&&_, _||_}
-use mathlib.Core.Logic.{_≢_, _⊎_, inl, inr, ⊎-elim}
+use mathlib.Core.Bool.{true, _||_}
+use mathlib.Core.Logic.{_⊎_, inl, inr, ⊎-elim}
 use mathlib.Core.List.{List, [], List·Memᴰ as Mem}
-use Prim.Native.Nat.{ℕ, _+_, _*_, _-_, _^_, _≤_, _<_}
+use Prim.Native.Nat.{ℕ, _+_, _^_, _≤_, _<_}
 use native.Mathlib.Omega.{arith}
 use borrow.Author.Tests.{eqb-true, ltb-true, leb-true, le-leb}
-use lib.Dec.{leb, ltb, eqb}
+use lib.Dec.{ltb, eqb}
 use lib.ListN.{getD, length, drop, length-drop}
 use Rattle.reading.specs.Answer.{done}
 use Rattle.reading.specs.Reading.{Read, got, fault, length-fault, range-fault, byte, byte2, recorded}
@@ -16,7 +16,6 @@ use Rattle.lists.proofs.Bools.{parts, both, or-cases}
 use Rattle.lists.proofs.Lists.{getD-mem}
 use Rattle.reading.proofs.Answer.{unless-at, then-at as then-at-answer}
 use Rattle.reading.proofs.Reading.{bind-at, then-at, yield-at, yield-rest, such-at, many-at, recorded-at}
-use Rattle.reading.proofs.Versions.{only-first}
 use Rattle.reading.proofs.Lengths.{byte-consumes, byte2-consumes, recorded-all, recorded-shrinks, many-within}
 use Rattle.clocks.proofs.Ranges.{Row, row-at}
 use Rattle.labels.proofs.LabelRanges.{LabelRange, label-at}
@@ -184,12 +183,6 @@ unfolding headed countsAt
 headed-version file h e =
     let v : isVersion (getD file 0 0) ≡ true = search parts in
     ap (λ (n : Counts). isVersion (n .version)) e ∙ v
-
--- a file that does not begin with 2 has a header just where it had one before there was a second version
-pub first-headed : (file : List ℕ) → getD file 0 0 ≢ 2 → headed file ≡
-    (leb 11 (length file) && (leb (length file) 65536 && (eqb (getD file 0 0) 1 && eqb (256 * getD file 1 0 + getD file 2 0) (length file - 3))))
-unfolding headed
-first-headed file n = ap (λ (b : Bool). leb 11 (length file) && (leb (length file) 65536 && (b && eqb (256 * getD file 1 0 + getD file 2 0) (length file - 3)))) (only-first (getD file 0 0) n)
 
 -- what the counts of a file that has a header are
 pub counts-of-at : (file : List ℕ) {n : Counts} → countsOf file ≡ done n → (headed file ≡ true) × (inRange n ≡ true) × (n ≡ countsAt file)

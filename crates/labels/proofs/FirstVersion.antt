@@ -34,8 +34,8 @@ bodyIn clocks variables = do
   us ← many a (assignmentIn variables)
   yield (record { guards = gs; updates = us })
 
-unfoldable pub labelIn : ℕ → ℕ → ℕ → Reader Label
-labelIn clocks variables channels = do
+unfoldable pub firstLabel : ℕ → ℕ → ℕ → Reader Label
+firstLabel clocks variables channels = do
   s ← such byte (λ s. ltb s 3)
   c ← such byte (channelFits channels s)
   r ← such byte (λ r. ltb r (2 ^ clocks))
@@ -74,8 +74,8 @@ first-body clocks variables few =
 
 -- and so is the label
 pub first-label : (clocks variables channels : ℕ) → variables ≤ 255 → (s : List ℕ)
-    → label (limits 1 clocks variables) channels s ≡ labelIn clocks variables channels s
-unfolding label labelIn
+    → label (limits 1 clocks variables) channels s ≡ firstLabel clocks variables channels s
+unfolding label firstLabel
 first-label clocks variables channels few =
     bind-same _ _ _ _ (λ s. refl) λ g.
     bind-same _ _ _ _ (λ s. refl) λ c.

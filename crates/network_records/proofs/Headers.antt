@@ -1,7 +1,6 @@
 -- What a header that is read says of the file.
 use mathlib.Core.Path.{_≡_, sym, ap, _∙_}
 use mathlib.Core.Bool.{Bool, true, false, _&&_}
-use mathlib.Core.Logic.{_≢_}
 use mathlib.Core.List.{List}
 use Prim.Native.Nat.{ℕ, _+_, _*_, _-_, _≤_, _<_, _^_}
 use native.Mathlib.Omega.{arith}
@@ -11,7 +10,6 @@ use lib.ListN.{length, getD}
 use Rattle.reading.specs.Answer.{done, refused, unless}
 use Rattle.lists.proofs.Bools.{parts, and-l, and-r, both}
 use Rattle.reading.proofs.Answer.{unless-at}
-use Rattle.reading.proofs.Versions.{only-first}
 use Rattle.network_records.specs.Network.{headed, countsAt, inRange, countsOf}
 use Rattle.network_records.specs.declared.header.Counts.{Counts}
 
@@ -29,14 +27,6 @@ module _ (file : List ℕ) where
     pub counts-not : inRange k ≡ false → refused 24 ≡ countsOf file
     unfolding countsOf unless
     counts-not r = sym (ap (λ (b : Bool). unless 24 (b && inRange (countsAt file)) (done (countsAt file))) h ∙ ap (λ (b : Bool). unless 24 b (done (countsAt file))) (ap inRange (sym e) ∙ r))
-
-  -- a file that does not begin with 2 has a header just where it had one before there was a second version
-  pub first-headed : getD file 0 0 ≢ 2 → headed file ≡
-      (leb 13 (length file) && (eqb (getD file 0 0) 1
-      && eqb (256 * (256 * (256 * getD file 1 0 + getD file 2 0) + getD file 3 0) + getD file 4 0) (length file - 5)))
-  unfolding headed
-  first-headed n = ap (λ (b : Bool). leb 13 (length file) && (b
-      && eqb (256 * (256 * (256 * getD file 1 0 + getD file 2 0) + getD file 3 0) + getD file 4 0) (length file - 5))) (only-first (getD file 0 0) n)
 
   -- the length that is given is a number of four bytes
   pub headed-fits : headed file ≡ true → getD file 1 0 < 256 → getD file 2 0 < 256 → getD file 3 0 < 256 → getD file 4 0 < 256 → (13 ≤ length file) × (length file - 5 < 2 ^ 32)
