@@ -102,7 +102,7 @@ module _ (marks firsts : List ℕ) (n e : ℕ) where
 
   pub off-more : (x y a : ℕ) (b : Bool) → OffFrom marks firsts n e x a → 0 < a → b ≡ has (getD marks (getD firsts (a - 1) 0) 0) e → (x < 32768 → y ≡ cond (not b) 1 0 + 2 * x) → OffFrom marks firsts n e y (a - 1)
   off-more x y a b O h t f =
-      let few = few-bits x (n - a) (O .small) (omega (arith, O .left, O .few)) in
+      let few = few-bits x (n - a) 15 (O .small) (omega (arith, O .left, O .few)) in
       record {
         left = omega (arith, O .left);
         few = O .few;

@@ -1,6 +1,6 @@
 -- Laws of the tables of fixed states: by the kinds at or below a state, and by the exits that states at or below it bar.
 use mathlib.Core.Path.{_≡_, refl, sym, ap, ap₂, _∙_}
-use mathlib.Core.Bool.{Bool, true, false, cond, not, _&&_, xor}
+use mathlib.Core.Bool.{Bool, true, false, cond, not, _&&_}
 use mathlib.Core.Logic.{⊎-elim, _≢_}
 use mathlib.Core.List.{List}
 use Prim.Native.Nat.{ℕ, _+_, _%_, _≤_, _<_}
@@ -14,7 +14,7 @@ use lib.Seq.{getD-set-same, getD-set-other}
 use Rattle.lists.specs.Lists.{has, any}
 use Rattle.lists.proofs.Bools.{clash, decided, fails, and-l, and-r, both, not-yes, same, cond-yes, cond-no}
 use Rattle.lists.proofs.Lists.{any-at, any-by, any-same}
-use Rattle.lists.proofs.Bits.{has-low, has-zero, has-byte, has-xor}
+use Rattle.lists.proofs.Bits.{has-low, has-zero, has-full, has-not}
 use Rattle.chart_records.specs.Chart.{Chart, stateAt, states, basic, sequential}
 use Rattle.chart_records.specs.Tree.{under, fixed, shares}
 use Rattle.chart_tree.specs.Table.{Column}
@@ -25,22 +25,13 @@ use Rattle.flatten_places.specs.Tables.{FixedKinds, FixedIn}
 use Rattle.flatten_places.specs.Filling.{barsBy}
 use Rattle.flatten_places.specs.Walking.{Gathered}
 
--- the exits that are not in a set
-pub has-not : (x e : ℕ) → e < 8 → has (Words.bitXor x 255) e ≡ not (has x e)
-unfolding xor
-has-not x e h = has-xor x 255 e ∙ ap (xor (has x e)) (has-byte e h) ∙ go (has x e)
-  where
-    go : (b : Bool) → xor b true ≡ not b
-    go true = refl
-    go false = refl
-
 -- what a state bars, by its kind
 module _ (kind exits e : ℕ) where
   pub bars-basic : kind ≡ 0 → e < 8 → has (Words.bitXor exits 255) e ≡ barsBy kind exits e
-  bars-basic z h = has-not exits e h ∙ sym (cond-yes _ _ (eq-eqb kind 0 z))
+  bars-basic z h = has-not 8 exits e h ∙ sym (cond-yes _ _ (eq-eqb kind 0 z))
 
   pub bars-sequential : kind ≡ 1 → e < 8 → has 255 e ≡ barsBy kind exits e
-  bars-sequential z h = has-byte e h ∙ sym (cond-no _ _ (ne-eqb kind 0 (λ y. omega arith)) ∙ eq-eqb kind 1 z)
+  bars-sequential z h = has-full 8 e h ∙ sym (cond-no _ _ (ne-eqb kind 0 (λ y. omega arith)) ∙ eq-eqb kind 1 z)
 
   pub bars-parallel : kind ≢ 0 → kind ≢ 1 → has 0 e ≡ barsBy kind exits e
   bars-parallel y z = has-zero e ∙ sym (cond-no _ _ (ne-eqb kind 0 y) ∙ ne-eqb kind 1 z)
@@ -152,7 +143,7 @@ module _ (c : Chart) (kinds-few : Kinds c) (few : size c ≤ 48) where
 
     fixed-exits-at : (table barred : List ℕ) → ((s e : ℕ) → s < 48 → e < 8 → has (getD table s 0) e ≡ barsBy (getD kinds s 0) (getD exits s 0) e) → Gathered c table barred
         → (s e : ℕ) → s < size c → e < 8 → has (Words.bitXor (getD barred s 0) 255) e ≡ (fixed c s && shares c e s)
-    fixed-exits-at table barred B G s e h l = has-not (getD barred s 0) e l ∙ ap not (G s e h ∙ any-same _ _ (states c) (λ b m. let k : b < 48 = omega (arith, states-at c m) in
+    fixed-exits-at table barred B G s e h l = has-not 8 (getD barred s 0) e l ∙ ap not (G s e h ∙ any-same _ _ (states c) (λ b m. let k : b < 48 = omega (arith, states-at c m) in
         ap (λ (x : Bool). under c s b && x) (B b e k l ∙ ap₂ (λ (x y : ℕ). barsBy x y e) (K b k) (X b k)))) ∙ bars-fixed s e
 
     pub fixed-in : (inner table barred ks xs : List ℕ) → Gathered c kinds inner → ((s e : ℕ) → s < 48 → e < 8 → has (getD table s 0) e ≡ barsBy (getD kinds s 0) (getD exits s 0) e) → Gathered c table barred

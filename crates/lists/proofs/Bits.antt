@@ -5,7 +5,7 @@ use mathlib.Core.Logic.{_≢_}
 use Prim.Native.Nat.{ℕ, zero, suc, _+_, _*_, _-_, _/_, _%_, _^_, _≤_, _<_}
 use native.Mathlib.Omega.{arith}
 use lib.Pow.{pow-pos, pow-mono}
-use native.Mathlib.Nat.{mod-lt, one-mul, div-lt-iff-lt-mul, div-eq-of-lt, pow-zero, pow-suc, div-one, div-div-eq-div-mul, mul-comm, zero-div, le-of-eq, lt-of-le-of-lt}
+use native.Mathlib.Nat.{mod-lt, one-mul, div-lt-iff-lt-mul, div-eq-of-lt, pow-zero, pow-suc, div-one, div-div-eq-div-mul, mul-comm, zero-div, le-of-eq, lt-of-le-of-lt, lt-of-lt-of-le}
 use borrow.Author.Tests.{eqb-true, eq-eqb, ne-eqb, lt-ltb, le-ltb, ltb-true, not-true}
 use native.Mathlib.Decide.{decLt}
 use lib.Bits as Words
@@ -74,10 +74,17 @@ module _ (p : ℕ → Bool) where
   pub has-bitsOf : (n i : ℕ) → i < n → has (bitsOf p n) i ≡ p i
   has-bitsOf n i h = has-bits n i ∙ ap (λ (b : Bool). b && p i) (lt-ltb i n h)
 
--- a full byte has each of eight
+-- the greatest number of n bits has each of them
+pub has-full : (n i : ℕ) → i < n → has (2 ^ n - 1) i ≡ true
+has-full zero i h = absurd (omega arith)
+has-full (suc n) zero h = has-low (2 ^ suc n - 1) ∙ eq-eqb ((2 ^ suc n - 1) % 2) 1 (omega (arith, pow-suc 2 n, pow-pos n))
+has-full (suc n) (suc i) h =
+    has-suc (2 ^ suc n - 1) i ∙ ap (λ (m : ℕ). has m i) (let z : (2 ^ suc n - 1) / 2 ≡ 2 ^ n - 1 = omega (arith, pow-suc 2 n, pow-pos n) in z)
+    ∙ has-full n i (omega arith)
+
+-- so a full byte each of eight
 pub has-byte : (i : ℕ) → i < 8 → has 255 i ≡ true
-unfolding bitsOf bitsFrom
-has-byte i h = has-bitsOf (λ i. true) 8 i h
+has-byte i h = has-full 8 i h
 
 digit-and : (x y : ℕ) → x < 2 → y < 2 → eqb (Words.bitAnd x y) 1 ≡ (eqb x 1 && eqb y 1)
 digit-and zero zero h k = refl
@@ -315,6 +322,15 @@ has-xor x y i =
     ap (λ (n : ℕ). eqb n 1) (ap (λ (n : ℕ). n % 2) (Words.xor-shr x y i) ∙ Words.xor-mod (x / 2 ^ i) (y / 2 ^ i) 1)
     ∙ digit-xor (x / 2 ^ i % 2) (y / 2 ^ i % 2) (mod-lt _ (lit< tt)) (mod-lt _ (lit< tt))
 
+-- the numbers below n that are not in a set
+pub has-not : (n x i : ℕ) → i < n → has (Words.bitXor x (2 ^ n - 1)) i ≡ not (has x i)
+unfolding xor
+has-not n x i h = has-xor x (2 ^ n - 1) i ∙ ap (xor (has x i)) (has-full n i h) ∙ go (has x i)
+  where
+    go : (b : Bool) → xor b true ≡ not b
+    go true = refl
+    go false = refl
+
 -- sets made by tests
 module _ (p q : ℕ → Bool) (n : ℕ) where
   pub xor-bits : Words.bitXor (bitsOf p n) (bitsOf q n) ≡ bitsOf (λ i. xor (p i) (q i)) n
@@ -350,5 +366,6 @@ pub low-lt : (b : Bool) (x k m : ℕ) → x < 2 ^ k → m ≡ suc k → cond b 1
 low-lt true x k m h e = omega (arith, pow-suc 2 k, ap (λ (i : ℕ). 2 ^ i) e)
 low-lt false x k m h e = omega (arith, pow-suc 2 k, ap (λ (i : ℕ). 2 ^ i) e)
 
-pub few-bits : (x k : ℕ) → x < 2 ^ k → k ≤ 15 → x < 32768
-few-bits x k h l = omega (arith, pow-mono l)
+-- a number of k bits has no more than n
+pub few-bits : (x k n : ℕ) → x < 2 ^ k → k ≤ n → x < 2 ^ n
+few-bits x k n h l = lt-of-lt-of-le h (pow-mono l)
