@@ -128,14 +128,22 @@ module _ {A B : Type 0} (r : Reader A) (s : List ℕ) (k : A → Reader B) where
   pub first-got : {x : A} (n : ℕ) → r (part s 1) ≡ got x (onward (part s 1) n) → (r >>= k) (onward s 1) ≡ k x (onward s (1 + n))
   first-got n h = bind-got r k _ (part-got r s 1 n h)
 
+-- what follows the first, a divisor or the second argument
+module _ {A B : Type 0} (r : Reader A) (s : List ℕ) (k : A → Reader B) {x : A} (n : ℕ) (first : r (part s 1) ≡ got x (onward (part s 1) n)) where
+  pub rest-fault : {f : Fault} → k x (part s (1 + n)) ≡ fault f → (r >>= k) (onward s 1) ≡ fault f
+  rest-fault e = first-got r s k n first ∙ part-fault (k x) s (1 + n) e
+
+  pub rest-got : {y : B} (m : ℕ) → k x (part s (1 + n)) ≡ got y (onward (part s (1 + n)) m) → (r >>= k) (onward s 1) ≡ got y (onward s (1 + n + m))
+  rest-got m e = first-got r s k n first ∙ part-got (k x) s (1 + n) m e
+
 module _ {A : Type 0} (r : Reader A) (s : List ℕ) (h : A → A → A) {x : A} (n : ℕ) (first : r (part s 1) ≡ got x (onward (part s 1) n)) where
   pub second-fault : {f : Fault} → r (part s (1 + n)) ≡ fault f → (r >>= λ x. r >>= λ y. yield (h x y)) (onward s 1) ≡ fault f
-  second-fault e = first-got r s _ n first ∙ bind-fault r _ _ (part-fault r s (1 + n) e)
+  second-fault e = rest-fault r s _ n first (bind-fault r _ _ e)
 
   pub both-got : {y : A} (m : ℕ) → r (part s (1 + n)) ≡ got y (onward (part s (1 + n)) m) →
       (r >>= λ x. r >>= λ y. yield (h x y)) (onward s 1) ≡ got (h x y) (onward s (1 + n + m))
   unfolding yield
-  both-got m e = first-got r s _ n first ∙ bind-got r _ _ (part-got r s (1 + n) m e)
+  both-got m e = rest-got r s _ n first m (bind-got r _ _ e)
 
 -- an expression by its first byte
 module _ (s : List ℕ) where

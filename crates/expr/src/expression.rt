@@ -80,12 +80,12 @@ fn read_constant(s: &[u8], at: usize) -> Reached
     word_reached(read_word(s, at))
 }
 
-// The divisor of a quotient or remainder.
-fn read_divisor(s: &[u8], at: usize) -> WordRead
-    ensures means { λ r. ⌜ wordOf (now (s .entry)) r ≡ divisor (onward (now (s .entry)) at) ⌝ }
+// The divisor of a quotient or remainder, in front of s.
+fn read_divisor(s: &[u8]) -> WordRead
+    ensures means { λ r. ⌜ wordOf (now (s .entry)) r ≡ divisor (now (s .entry)) ⌝ }
     ensures within { λ r. ⌜ wordEnd r ≤ length (now (s .entry)) ⌝ }
 {
-    let w = read_word(s, at);
+    let w = read_word(s, 0);
     let WordRead::Value(d, _) = w else {
         return w;
     };
@@ -127,7 +127,11 @@ pub fn read_expression(s: &[u8], levels: u8, variables: u8) -> Reached
             let Reached::At(n) = first else {
                 return first;
             };
-            word_reached(read_divisor(s, 1 + n))
+            let second = word_reached(read_divisor(&s[1 + n..]));
+            let Reached::At(m) = second else {
+                return second;
+            };
+            Reached::At(1 + n + m)
         }
         _ => Reached::Fault(Fault::Range),
     }
@@ -152,12 +156,12 @@ fn evaluate_variable(s: &[u8], at: usize, variables: u8, values: &[i32; 16]) -> 
     ValueRead::Value(Value::Number(variable_value(i, *values)), next)
 }
 
-// The quotient or remainder, by the code, with the divisor that stands at a place.
-fn divide_by(s: &[u8], at: usize, code: u8, x: Value) -> ValueRead
-    ensures means { λ r. ⌜ valueOf (now (s .entry)) r ≡ mapped (divided code x) (divisor (onward (now (s .entry)) at)) ⌝ }
+// The quotient or remainder, by the code, with the divisor in front of s.
+fn divide_by(s: &[u8], code: u8, x: Value) -> ValueRead
+    ensures means { λ r. ⌜ valueOf (now (s .entry)) r ≡ mapped (divided code x) (divisor (now (s .entry))) ⌝ }
     ensures within { λ r. ⌜ valueEnd r ≤ length (now (s .entry)) ⌝ }
 {
-    let w = read_divisor(s, at);
+    let w = read_divisor(s);
     let WordRead::Value(d, next) = w else {
         return ValueRead::Fault(word_fault(w));
     };
@@ -195,7 +199,11 @@ pub fn evaluate(s: &[u8], levels: u8, variables: u8, values: &[i32; 16]) -> Valu
             let ValueRead::Value(x, n) = first else {
                 return first;
             };
-            divide_by(s, 1 + n, code, x)
+            let second = divide_by(&s[1 + n..], code, x);
+            let ValueRead::Value(z, m) = second else {
+                return second;
+            };
+            ValueRead::Value(z, 1 + n + m)
         }
         _ => ValueRead::Fault(Fault::Range),
     }

@@ -14,7 +14,7 @@ use Rattle.expr.specs.declared.expression.ValueRead.the-variants as Vl
 use Rattle.lists.proofs.Parts.{part-end}
 use Rattle.reading.proofs.Places.{answered}
 use Rattle.expr.proofs.Expressions.{read-empty, read-deep, read-unknown, read-constant, read-variable, read-two, read-by}
-use Rattle.expr.proofs.Expressions.{first-fault, first-got, second-fault, both-got, operator-value, division-value}
+use Rattle.expr.proofs.Expressions.{first-fault, second-fault, both-got, rest-fault, rest-got, operator-value, division-value}
 use borrow.Fn.Kinds.{In}
 use borrow.Fn.PlainCycle.{Measures, is, falls, and}
 use Rattle.expr.proofs.expression.evaluate.Reads as evaluate
@@ -108,41 +108,22 @@ dividend-in t c n q =
     let start = c .before .before .before .before .before .before .before .before .before in
     part-end (start .args .s .now) 1 (omega arith) (ap valueEnd q) (c .evaluate3 .ensures .1)
 
+-- and so does the divisor
+divisor-ends : (t : ℕ) (c : evaluate-lts.After-divide-by (evaluate-cs t) (evaluate-at t) evaluate.Post) {z : Value} (n : ℕ) →
+    let at-first = c .before .before .before in
+    let start = at-first .before .before .before .before .before .before .before .before .before .before .before in
+    c .divide-by .result ≡ Vl.Value z n → 1 + at-first .first2 .given .0 .1 .0 + n ≤ length (start .args .s .now)
+divisor-ends t c n q =
+    let at-first = c .before .before .before in
+    let start = at-first .before .before .before .before .before .before .before .before .before .before .before in
+    part-end (start .args .s .now) (1 + at-first .first2 .given .0 .1 .0)
+    (dividend-in t (at-first .before .before) _ (at-first .first2 .given .1)) (ap valueEnd q) (c .divide-by .ensures .1)
+
 evaluate-returns : (t : ℕ) → evaluate-lts.Need-returns (evaluate-cs t) (evaluate-at t) evaluate.Post
 evaluate-returns t c = (sym (read-empty _ _ _ _ (c .if1 .taken)), omega arith)
 
 evaluate-returns-2 : (t : ℕ) → evaluate-lts.Need-returns-2 (evaluate-cs t) (evaluate-at t) evaluate.Post
 evaluate-returns-2 t c = (sym (read-deep _ _ _ _ (c .before .if1 .left) (c .if2 .taken)), omega arith)
-
-evaluate-shared-slice-read-code : (t : ℕ) → evaluate-lts.Need-shared-slice-read-code (evaluate-cs t) (evaluate-at t) evaluate.Post
-evaluate-shared-slice-read-code t c = omega arith
-
-evaluate-read-signed-requires : (t : ℕ) → evaluate-lts.Need-read-signed-requires (evaluate-cs t) (evaluate-at t) evaluate.Post
-evaluate-read-signed-requires t c κs = tt
-
-evaluate-evaluate-variable-requires : (t : ℕ) → evaluate-lts.Need-evaluate-variable-requires (evaluate-cs t) (evaluate-at t) evaluate.Post
-evaluate-evaluate-variable-requires t c κs = tt
-
-evaluate-sub-evaluate : (t : ℕ) → evaluate-lts.Need-sub-evaluate (evaluate-cs t) (evaluate-at t) evaluate.Post
-evaluate-sub-evaluate t c = omega arith
-
-evaluate-part-evaluate-start : (t : ℕ) → evaluate-lts.Need-part-evaluate-start (evaluate-cs t) (evaluate-at t) evaluate.Post
-evaluate-part-evaluate-start t c = omega arith
-
-evaluate-part-evaluate-end : (t : ℕ) → evaluate-lts.Need-part-evaluate-end (evaluate-cs t) (evaluate-at t) evaluate.Post
-evaluate-part-evaluate-end t c = omega arith
-
-evaluate-sub-evaluate-2 : (t : ℕ) → evaluate-lts.Need-sub-evaluate-2 (evaluate-cs t) (evaluate-at t) evaluate.Post
-evaluate-sub-evaluate-2 t c = omega arith
-
-evaluate-evaluate-requires : (t : ℕ) → evaluate-lts.Need-evaluate-requires (evaluate-cs t) (evaluate-at t) evaluate.Post
-evaluate-evaluate-requires t c κs = (omega arith, tt)
-
-evaluate-enum-known-first : (t : ℕ) → evaluate-lts.Need-enum-known-first (evaluate-cs t) (evaluate-at t) evaluate.Post
-evaluate-enum-known-first t c = c .match2 .keys1
-
-evaluate-enum-told : (t : ℕ) → evaluate-lts.Need-enum-told (evaluate-cs t) (evaluate-at t) evaluate.Post
-evaluate-enum-told t c = c .match2 .keys2
 
 evaluate-returns-3 : (t : ℕ) → evaluate-lts.Need-returns-3 (evaluate-cs t) (evaluate-at t) evaluate.Post
 evaluate-returns-3 t c =
@@ -150,30 +131,6 @@ evaluate-returns-3 t c =
       ap (valueOf _) (c .enum-told .given .1) ∙ sym (operands t (c .before .before) ∙ first-fault (values _ _ _) _ _ fails),
       omega (arith, ap valueEnd (c .enum-told .given .1)),
     )
-
-evaluate-add-evaluate : (t : ℕ) → evaluate-lts.Need-add-evaluate (evaluate-cs t) (evaluate-at t) evaluate.Post
-evaluate-add-evaluate t c = omega (arith, first-in t (c .before .before .before) _ (c .before .first .given .1))
-
-evaluate-sub-evaluate-3 : (t : ℕ) → evaluate-lts.Need-sub-evaluate-3 (evaluate-cs t) (evaluate-at t) evaluate.Post
-evaluate-sub-evaluate-3 t c = omega (arith, first-in t (c .before .before .before) _ (c .before .first .given .1))
-
-evaluate-part-evaluate-start-2 : (t : ℕ) → evaluate-lts.Need-part-evaluate-start-2 (evaluate-cs t) (evaluate-at t) evaluate.Post
-evaluate-part-evaluate-start-2 t c = omega (arith, first-in t (c .before .before .before) _ (c .before .first .given .1))
-
-evaluate-part-evaluate-end-2 : (t : ℕ) → evaluate-lts.Need-part-evaluate-end-2 (evaluate-cs t) (evaluate-at t) evaluate.Post
-evaluate-part-evaluate-end-2 t c = omega arith
-
-evaluate-sub-evaluate-4 : (t : ℕ) → evaluate-lts.Need-sub-evaluate-4 (evaluate-cs t) (evaluate-at t) evaluate.Post
-evaluate-sub-evaluate-4 t c = omega arith
-
-evaluate-evaluate-requires-2 : (t : ℕ) → evaluate-lts.Need-evaluate-requires-2 (evaluate-cs t) (evaluate-at t) evaluate.Post
-evaluate-evaluate-requires-2 t c κs = (omega arith, tt)
-
-evaluate-enum-known-second : (t : ℕ) → evaluate-lts.Need-enum-known-second (evaluate-cs t) (evaluate-at t) evaluate.Post
-evaluate-enum-known-second t c = c .match3 .keys1
-
-evaluate-enum-told-2 : (t : ℕ) → evaluate-lts.Need-enum-told-2 (evaluate-cs t) (evaluate-at t) evaluate.Post
-evaluate-enum-told-2 t c = c .match3 .keys2
 
 evaluate-returns-4 : (t : ℕ) → evaluate-lts.Need-returns-4 (evaluate-cs t) (evaluate-at t) evaluate.Post
 evaluate-returns-4 t c =
@@ -185,42 +142,6 @@ evaluate-returns-4 t c =
       omega (arith, ap valueEnd (c .enum-told2 .given .1)),
     )
 
-evaluate-combine-requires : (t : ℕ) → evaluate-lts.Need-combine-requires (evaluate-cs t) (evaluate-at t) evaluate.Post
-evaluate-combine-requires t c κs = tt
-
-evaluate-add-t24 : (t : ℕ) → evaluate-lts.Need-add-t24 (evaluate-cs t) (evaluate-at t) evaluate.Post
-evaluate-add-t24 t c =
-    let start = c .before .before .before .before .before .before .before .before .before .before .before .before .before .before .before .before .before in
-    omega
-    (arith, second-in t (c .before .before .before .before) _ (c .before .before .second .given .1), start .good .0 .0)
-
-evaluate-add-t29 : (t : ℕ) → evaluate-lts.Need-add-t29 (evaluate-cs t) (evaluate-at t) evaluate.Post
-evaluate-add-t29 t c =
-    let start = c .before .before .before .before .before .before .before .before .before .before .before .before .before .before .before .before .before in
-    omega
-    (arith, second-in t (c .before .before .before .before) _ (c .before .before .second .given .1), start .good .0 .0)
-
-evaluate-sub-evaluate-5 : (t : ℕ) → evaluate-lts.Need-sub-evaluate-5 (evaluate-cs t) (evaluate-at t) evaluate.Post
-evaluate-sub-evaluate-5 t c = omega arith
-
-evaluate-part-evaluate-start-3 : (t : ℕ) → evaluate-lts.Need-part-evaluate-start-3 (evaluate-cs t) (evaluate-at t) evaluate.Post
-evaluate-part-evaluate-start-3 t c = omega arith
-
-evaluate-part-evaluate-end-3 : (t : ℕ) → evaluate-lts.Need-part-evaluate-end-3 (evaluate-cs t) (evaluate-at t) evaluate.Post
-evaluate-part-evaluate-end-3 t c = omega arith
-
-evaluate-sub-evaluate-6 : (t : ℕ) → evaluate-lts.Need-sub-evaluate-6 (evaluate-cs t) (evaluate-at t) evaluate.Post
-evaluate-sub-evaluate-6 t c = omega arith
-
-evaluate-evaluate-requires-3 : (t : ℕ) → evaluate-lts.Need-evaluate-requires-3 (evaluate-cs t) (evaluate-at t) evaluate.Post
-evaluate-evaluate-requires-3 t c κs = (omega arith, tt)
-
-evaluate-enum-known-first-2 : (t : ℕ) → evaluate-lts.Need-enum-known-first-2 (evaluate-cs t) (evaluate-at t) evaluate.Post
-evaluate-enum-known-first-2 t c = c .match4 .keys1
-
-evaluate-enum-told-3 : (t : ℕ) → evaluate-lts.Need-enum-told-3 (evaluate-cs t) (evaluate-at t) evaluate.Post
-evaluate-enum-told-3 t c = c .match4 .keys2
-
 evaluate-returns-5 : (t : ℕ) → evaluate-lts.Need-returns-5 (evaluate-cs t) (evaluate-at t) evaluate.Post
 evaluate-returns-5 t c =
     let fails = answered (valueOf _) (c .before .before .evaluate3 .ensures .0) (c .enum-told3 .given .1) in (
@@ -228,34 +149,37 @@ evaluate-returns-5 t c =
       omega (arith, ap valueEnd (c .enum-told3 .given .1)),
     )
 
-evaluate-add-divide-by : (t : ℕ) → evaluate-lts.Need-add-divide-by (evaluate-cs t) (evaluate-at t) evaluate.Post
-evaluate-add-divide-by t c =
-    let start = c .before .before .before .before .before .before .before .before .before .before .before .before in
-    omega (arith, dividend-in t (c .before .before .before) _ (c .before .first2 .given .1), start .good .0 .0)
-
-evaluate-divide-by-requires : (t : ℕ) → evaluate-lts.Need-divide-by-requires (evaluate-cs t) (evaluate-at t) evaluate.Post
-evaluate-divide-by-requires t c κs = tt
-
 evaluate-returns-6 : (t : ℕ) → evaluate-lts.Need-returns-6 (evaluate-cs t) (evaluate-at t) evaluate.Post
-unfolding value
 evaluate-returns-6 t c =
-    let at-if2 = c .before .before .before in (
-      c .read-signed .ensures .0
-          ∙ sym (read-constant _ _ _ _ (at-if2 .before .if1 .left) (at-if2 .if2 .left) (c .before .match .keys1)),
-      c .read-signed .ensures .1,
+    let at-second = c .before .before in
+    let at-first = at-second .before .before .before in
+    let read-first = answered (valueOf _) (at-first .before .before .evaluate3 .ensures .0) (at-first .first2 .given .1) in
+    let fails = answered (valueOf _) (at-second .divide-by .ensures .0) (c .enum-told4 .given .1) in (
+      ap (valueOf _) (c .enum-told4 .given .1)
+          ∙ sym (dividend t (at-first .before .before) ∙ rest-fault (values _ _ _) _ _ _ read-first fails),
+      omega (arith, ap valueEnd (c .enum-told4 .given .1)),
     )
 
 evaluate-returns-7 : (t : ℕ) → evaluate-lts.Need-returns-7 (evaluate-cs t) (evaluate-at t) evaluate.Post
 unfolding value
 evaluate-returns-7 t c =
     let at-if2 = c .before .before .before in (
+      c .read-signed .ensures .0
+          ∙ sym (read-constant _ _ _ _ (at-if2 .before .if1 .left) (at-if2 .if2 .left) (c .before .match .keys1)),
+      c .read-signed .ensures .1,
+    )
+
+evaluate-returns-8 : (t : ℕ) → evaluate-lts.Need-returns-8 (evaluate-cs t) (evaluate-at t) evaluate.Post
+unfolding value
+evaluate-returns-8 t c =
+    let at-if2 = c .before .before .before in (
       c .evaluate-variable .ensures .0
           ∙ sym (read-variable _ _ _ _ (at-if2 .before .if1 .left) (at-if2 .if2 .left) (c .before .match .keys2)),
       c .evaluate-variable .ensures .1,
     )
 
-evaluate-returns-8 : (t : ℕ) → evaluate-lts.Need-returns-8 (evaluate-cs t) (evaluate-at t) evaluate.Post
-evaluate-returns-8 t c =
+evaluate-returns-9 : (t : ℕ) → evaluate-lts.Need-returns-9 (evaluate-cs t) (evaluate-at t) evaluate.Post
+evaluate-returns-9 t c =
     let at-second = c .before .before in
     let at-first = at-second .before .before .before .before .before in
     let read-first = answered (valueOf _) (at-first .before .before .evaluate .ensures .0) (at-first .first .given .1) in
@@ -265,17 +189,42 @@ evaluate-returns-8 t c =
       second-in t (at-second .before .before) _ (at-second .second .given .1),
     )
 
-evaluate-returns-9 : (t : ℕ) → evaluate-lts.Need-returns-9 (evaluate-cs t) (evaluate-at t) evaluate.Post
-evaluate-returns-9 t c =
-    let at-first = c .before .before in
-    let read-first = answered (valueOf _) (at-first .before .before .evaluate3 .ensures .0) (at-first .first2 .given .1) in (
-      c .divide-by .ensures .0
-          ∙ sym (dividend t (at-first .before .before) ∙ first-got (values _ _ _) _ _ _ read-first),
-      c .divide-by .ensures .1,
+evaluate-returns-10 : (t : ℕ) → evaluate-lts.Need-returns-10 (evaluate-cs t) (evaluate-at t) evaluate.Post
+evaluate-returns-10 t c =
+    let at-second = c .before .before .before in
+    let at-first = at-second .before .before .before in
+    let read-first = answered (valueOf _) (at-first .before .before .evaluate3 .ensures .0) (at-first .first2 .given .1) in
+    let read-second = answered (valueOf _) (at-second .divide-by .ensures .0) (c .before .second2 .given .1) in (
+      sym (dividend t (at-first .before .before) ∙ rest-got (values _ _ _) _ _ _ read-first _ read-second),
+      divisor-ends t at-second _ (c .before .second2 .given .1),
     )
 
-evaluate-returns-10 : (t : ℕ) → evaluate-lts.Need-returns-10 (evaluate-cs t) (evaluate-at t) evaluate.Post
-evaluate-returns-10 t c = (sym (read-unknown _ _ _ _ (c .before .before .before .before .before .if1 .left) (c .if4 .left)), omega arith)
+evaluate-returns-11 : (t : ℕ) → evaluate-lts.Need-returns-11 (evaluate-cs t) (evaluate-at t) evaluate.Post
+evaluate-returns-11 t c = (sym (read-unknown _ _ _ _ (c .before .before .before .before .before .if1 .left) (c .if4 .left)), omega arith)
+
+evaluate-add-t27 : (t : ℕ) → evaluate-lts.Need-add-t27 (evaluate-cs t) (evaluate-at t) evaluate.Post
+evaluate-add-t27 t c =
+    let at-second = c .before .before .before .before in
+    let start = at-second .before .before .before .before .before .before .before .before .before .before .before .before .before in
+    omega (arith, second-in t at-second _ (c .before .before .second .given .1), start .good .0 .0)
+
+evaluate-add-t32 : (t : ℕ) → evaluate-lts.Need-add-t32 (evaluate-cs t) (evaluate-at t) evaluate.Post
+evaluate-add-t32 t c =
+    let at-second = c .before .before .before .before in
+    let start = at-second .before .before .before .before .before .before .before .before .before .before .before .before .before in
+    omega (arith, second-in t at-second _ (c .before .before .second .given .1), start .good .0 .0)
+
+evaluate-add-t37 : (t : ℕ) → evaluate-lts.Need-add-t37 (evaluate-cs t) (evaluate-at t) evaluate.Post
+evaluate-add-t37 t c =
+    let at-second = c .before .before .before in
+    let start = at-second .before .before .before .before .before .before .before .before .before .before .before .before .before .before in
+    omega (arith, divisor-ends t at-second _ (c .before .second2 .given .1), start .good .0 .0)
+
+evaluate-add-t42 : (t : ℕ) → evaluate-lts.Need-add-t42 (evaluate-cs t) (evaluate-at t) evaluate.Post
+evaluate-add-t42 t c =
+    let at-second = c .before .before .before in
+    let start = at-second .before .before .before .before .before .before .before .before .before .before .before .before .before .before in
+    omega (arith, divisor-ends t at-second _ (c .before .second2 .given .1), start .good .0 .0)
 
 pub +evaluate-spec : {M : Type 1} → statement M
 +evaluate-spec = close μ-evaluate λ t. evaluate-lts.spec (evaluate-cs t)
@@ -283,41 +232,49 @@ pub +evaluate-spec : {M : Type 1} → statement M
     evaluate.Post
     (evaluate-returns t)
     (evaluate-returns-2 t)
-    (evaluate-shared-slice-read-code t)
-    (evaluate-read-signed-requires t)
-    (evaluate-evaluate-variable-requires t)
-    (evaluate-sub-evaluate t)
-    (evaluate-part-evaluate-start t)
-    (evaluate-part-evaluate-end t)
-    (evaluate-sub-evaluate-2 t)
-    (evaluate-evaluate-requires t)
-    (evaluate-enum-known-first t)
-    (evaluate-enum-told t)
+    (λ c. omega arith)
+    (λ c κs. tt)
+    (λ c κs. tt)
+    (λ c. omega arith)
+    (λ c. omega arith)
+    (λ c. omega arith)
+    (λ c. omega arith)
+    (λ c κs. (omega arith, tt))
+    (λ c. c .match2 .keys1)
+    (λ c. c .match2 .keys2)
     (evaluate-returns-3 t)
-    (evaluate-add-evaluate t)
-    (evaluate-sub-evaluate-3 t)
-    (evaluate-part-evaluate-start-2 t)
-    (evaluate-part-evaluate-end-2 t)
-    (evaluate-sub-evaluate-4 t)
-    (evaluate-evaluate-requires-2 t)
-    (evaluate-enum-known-second t)
-    (evaluate-enum-told-2 t)
+    (λ c. omega (arith, first-in t (c .before .before .before) _ (c .before .first .given .1)))
+    (λ c. omega (arith, first-in t (c .before .before .before) _ (c .before .first .given .1)))
+    (λ c. omega (arith, first-in t (c .before .before .before) _ (c .before .first .given .1)))
+    (λ c. omega arith)
+    (λ c. omega arith)
+    (λ c κs. (omega arith, tt))
+    (λ c. c .match3 .keys1)
+    (λ c. c .match3 .keys2)
     (evaluate-returns-4 t)
-    (evaluate-combine-requires t)
-    (evaluate-add-t24 t)
-    (evaluate-add-t29 t)
-    (evaluate-sub-evaluate-5 t)
-    (evaluate-part-evaluate-start-3 t)
-    (evaluate-part-evaluate-end-3 t)
-    (evaluate-sub-evaluate-6 t)
-    (evaluate-evaluate-requires-3 t)
-    (evaluate-enum-known-first-2 t)
-    (evaluate-enum-told-3 t)
+    (λ c κs. tt)
+    (evaluate-add-t27 t)
+    (evaluate-add-t32 t)
+    (λ c. omega arith)
+    (λ c. omega arith)
+    (λ c. omega arith)
+    (λ c. omega arith)
+    (λ c κs. (omega arith, tt))
+    (λ c. c .match4 .keys1)
+    (λ c. c .match4 .keys2)
     (evaluate-returns-5 t)
-    (evaluate-add-divide-by t)
-    (evaluate-divide-by-requires t)
+    (λ c. omega (arith, dividend-in t (c .before .before .before) _ (c .before .first2 .given .1)))
+    (λ c. omega (arith, dividend-in t (c .before .before .before) _ (c .before .first2 .given .1)))
+    (λ c. omega (arith, dividend-in t (c .before .before .before) _ (c .before .first2 .given .1)))
+    (λ c. omega arith)
+    (λ c κs. tt)
+    (λ c. c .match5 .keys1)
+    (λ c. c .match5 .keys2)
     (evaluate-returns-6 t)
+    (evaluate-add-t37 t)
+    (evaluate-add-t42 t)
     (evaluate-returns-7 t)
     (evaluate-returns-8 t)
     (evaluate-returns-9 t)
     (evaluate-returns-10 t)
+    (evaluate-returns-11 t)

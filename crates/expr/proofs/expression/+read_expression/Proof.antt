@@ -8,7 +8,7 @@ use Rattle.reading.specs.Places.{onward, reached, reachedEnd}
 use Rattle.reading.specs.declared.field.Reached.the-variants as Rd
 use Rattle.lists.proofs.Parts.{part-end}
 use Rattle.reading.proofs.Places.{answered, byte-skipped, byte-skipped-end, word-skipped, word-skipped-end}
-use Rattle.expr.proofs.Expressions.{read-empty, read-deep, read-unknown, read-constant, read-variable, read-two, read-by, first-fault, first-got, second-fault, both-got}
+use Rattle.expr.proofs.Expressions.{read-empty, read-deep, read-unknown, read-constant, read-variable, read-two, read-by, first-fault, second-fault, both-got, rest-fault, rest-got}
 use borrow.Fn.Kinds.{In}
 use borrow.Fn.PlainCycle.{Measures, is, falls, and}
 use Rattle.expr.proofs.expression.read_expression.Reads as read-expression
@@ -121,6 +121,21 @@ dividend-in t c n q =
     let start = c .before .before .before .before .before .before .before .before .before in
     part-end (start .args .s .now) 1 (omega arith) (ap reachedEnd q) (c .read-expression3 .ensures .1)
 
+-- and so does the divisor
+divisor-ends : (t : ℕ)
+    (c : read-expression-lts.After-word-reached (read-expression-cs t) (read-expression-at t) read-expression.Post)
+    (n : ℕ) →
+    let at-first = c .before .before .before .before in
+    let start = at-first .before .before .before .before .before .before .before .before .before .before .before in
+    c .word-reached .result ≡ Rd.At n → 1 + at-first .first2 .given .0 .0 + n ≤ length (start .args .s .now)
+divisor-ends t c n q =
+    let at-first = c .before .before .before .before in
+    let start = at-first .before .before .before .before .before .before .before .before .before .before .before in
+    let divisor-read = c .before .read-divisor in
+    part-end (start .args .s .now) (1 + at-first .first2 .given .0 .0)
+    (dividend-in t (at-first .before .before) _ (at-first .first2 .given .1)) (ap reachedEnd q)
+    (word-skipped-end (divisor-read .result) _ (c .word-reached .ensures) (divisor-read .ensures .1))
+
 read-expression-returns : (t : ℕ) → read-expression-lts.Need-returns (read-expression-cs t) (read-expression-at t) read-expression.Post
 unfolding skipped
 read-expression-returns t c = (sym (read-empty _ _ _ _ (c .if1 .taken)), omega arith)
@@ -129,48 +144,6 @@ read-expression-returns-2 : (t : ℕ) → read-expression-lts.Need-returns-2 (re
 unfolding skipped
 read-expression-returns-2 t c = (sym (read-deep _ _ _ _ (c .before .if1 .left) (c .if2 .taken)), omega arith)
 
-read-expression-shared-slice-read-code : (t : ℕ) →
-    read-expression-lts.Need-shared-slice-read-code (read-expression-cs t) (read-expression-at t) read-expression.Post
-read-expression-shared-slice-read-code t c = omega arith
-
-read-expression-read-constant-requires : (t : ℕ) →
-    read-expression-lts.Need-read-constant-requires (read-expression-cs t) (read-expression-at t) read-expression.Post
-read-expression-read-constant-requires t c κs = tt
-
-read-expression-read-below-requires : (t : ℕ) →
-    read-expression-lts.Need-read-below-requires (read-expression-cs t) (read-expression-at t) read-expression.Post
-read-expression-read-below-requires t c κs = tt
-
-read-expression-byte-reached-requires : (t : ℕ) →
-    read-expression-lts.Need-byte-reached-requires (read-expression-cs t) (read-expression-at t) read-expression.Post
-read-expression-byte-reached-requires t c κs = tt
-
-read-expression-sub-read-expression : (t : ℕ) →
-    read-expression-lts.Need-sub-read-expression (read-expression-cs t) (read-expression-at t) read-expression.Post
-read-expression-sub-read-expression t c = omega arith
-
-read-expression-part-read-expression-start :
-    (t : ℕ) → read-expression-lts.Need-part-read-expression-start (read-expression-cs t) (read-expression-at t) read-expression.Post
-read-expression-part-read-expression-start t c = omega arith
-
-read-expression-part-read-expression-end :
-    (t : ℕ) → read-expression-lts.Need-part-read-expression-end (read-expression-cs t) (read-expression-at t) read-expression.Post
-read-expression-part-read-expression-end t c = omega arith
-
-read-expression-sub-read-expression-2 : (t : ℕ) →
-    read-expression-lts.Need-sub-read-expression-2 (read-expression-cs t) (read-expression-at t) read-expression.Post
-read-expression-sub-read-expression-2 t c = omega arith
-
-read-expression-read-expression-requires :
-    (t : ℕ) → read-expression-lts.Need-read-expression-requires (read-expression-cs t) (read-expression-at t) read-expression.Post
-read-expression-read-expression-requires t c κs = (omega arith, tt)
-
-read-expression-enum-known-first : (t : ℕ) → read-expression-lts.Need-enum-known-first (read-expression-cs t) (read-expression-at t) read-expression.Post
-read-expression-enum-known-first t c = c .match2 .keys1
-
-read-expression-enum-told : (t : ℕ) → read-expression-lts.Need-enum-told (read-expression-cs t) (read-expression-at t) read-expression.Post
-read-expression-enum-told t c = c .match2 .keys2
-
 read-expression-returns-3 : (t : ℕ) → read-expression-lts.Need-returns-3 (read-expression-cs t) (read-expression-at t) read-expression.Post
 unfolding skipped
 read-expression-returns-3 t c =
@@ -178,36 +151,6 @@ read-expression-returns-3 t c =
       ap (reached _ tt) (c .enum-told .given .1) ∙ sym (operands t (c .before .before) ∙ first-fault (ends _ _) _ _ fails),
       omega (arith, ap reachedEnd (c .enum-told .given .1)),
     )
-
-read-expression-add-read-expression : (t : ℕ) →
-    read-expression-lts.Need-add-read-expression (read-expression-cs t) (read-expression-at t) read-expression.Post
-read-expression-add-read-expression t c = omega (arith, first-in t (c .before .before .before) _ (c .before .first .given .1))
-
-read-expression-sub-read-expression-3 : (t : ℕ) →
-    read-expression-lts.Need-sub-read-expression-3 (read-expression-cs t) (read-expression-at t) read-expression.Post
-read-expression-sub-read-expression-3 t c = omega (arith, first-in t (c .before .before .before) _ (c .before .first .given .1))
-
-read-expression-part-read-expression-start-2 :
-    (t : ℕ) → read-expression-lts.Need-part-read-expression-start-2 (read-expression-cs t) (read-expression-at t) read-expression.Post
-read-expression-part-read-expression-start-2 t c = omega (arith, first-in t (c .before .before .before) _ (c .before .first .given .1))
-
-read-expression-part-read-expression-end-2 :
-    (t : ℕ) → read-expression-lts.Need-part-read-expression-end-2 (read-expression-cs t) (read-expression-at t) read-expression.Post
-read-expression-part-read-expression-end-2 t c = omega arith
-
-read-expression-sub-read-expression-4 : (t : ℕ) →
-    read-expression-lts.Need-sub-read-expression-4 (read-expression-cs t) (read-expression-at t) read-expression.Post
-read-expression-sub-read-expression-4 t c = omega arith
-
-read-expression-read-expression-requires-2 :
-    (t : ℕ) → read-expression-lts.Need-read-expression-requires-2 (read-expression-cs t) (read-expression-at t) read-expression.Post
-read-expression-read-expression-requires-2 t c κs = (omega arith, tt)
-
-read-expression-enum-known-second : (t : ℕ) → read-expression-lts.Need-enum-known-second (read-expression-cs t) (read-expression-at t) read-expression.Post
-read-expression-enum-known-second t c = c .match3 .keys1
-
-read-expression-enum-told-2 : (t : ℕ) → read-expression-lts.Need-enum-told-2 (read-expression-cs t) (read-expression-at t) read-expression.Post
-read-expression-enum-told-2 t c = c .match3 .keys2
 
 read-expression-returns-4 : (t : ℕ) → read-expression-lts.Need-returns-4 (read-expression-cs t) (read-expression-at t) read-expression.Post
 unfolding skipped
@@ -220,43 +163,6 @@ read-expression-returns-4 t c =
       omega (arith, ap reachedEnd (c .enum-told2 .given .1)),
     )
 
-read-expression-add-t21 : (t : ℕ) → read-expression-lts.Need-add-t21 (read-expression-cs t) (read-expression-at t) read-expression.Post
-read-expression-add-t21 t c =
-    let start = c .before .before .before .before .before .before .before .before .before .before .before .before .before .before .before .before in
-    omega (arith, second-in t (c .before .before .before) _ (c .before .second .given .1), start .good .0 .0)
-
-read-expression-add-t26 : (t : ℕ) → read-expression-lts.Need-add-t26 (read-expression-cs t) (read-expression-at t) read-expression.Post
-read-expression-add-t26 t c =
-    let start = c .before .before .before .before .before .before .before .before .before .before .before .before .before .before .before .before in
-    omega (arith, second-in t (c .before .before .before) _ (c .before .second .given .1), start .good .0 .0)
-
-read-expression-sub-read-expression-5 : (t : ℕ) →
-    read-expression-lts.Need-sub-read-expression-5 (read-expression-cs t) (read-expression-at t) read-expression.Post
-read-expression-sub-read-expression-5 t c = omega arith
-
-read-expression-part-read-expression-start-3 :
-    (t : ℕ) → read-expression-lts.Need-part-read-expression-start-3 (read-expression-cs t) (read-expression-at t) read-expression.Post
-read-expression-part-read-expression-start-3 t c = omega arith
-
-read-expression-part-read-expression-end-3 :
-    (t : ℕ) → read-expression-lts.Need-part-read-expression-end-3 (read-expression-cs t) (read-expression-at t) read-expression.Post
-read-expression-part-read-expression-end-3 t c = omega arith
-
-read-expression-sub-read-expression-6 : (t : ℕ) →
-    read-expression-lts.Need-sub-read-expression-6 (read-expression-cs t) (read-expression-at t) read-expression.Post
-read-expression-sub-read-expression-6 t c = omega arith
-
-read-expression-read-expression-requires-3 :
-    (t : ℕ) → read-expression-lts.Need-read-expression-requires-3 (read-expression-cs t) (read-expression-at t) read-expression.Post
-read-expression-read-expression-requires-3 t c κs = (omega arith, tt)
-
-read-expression-enum-known-first-2 :
-    (t : ℕ) → read-expression-lts.Need-enum-known-first-2 (read-expression-cs t) (read-expression-at t) read-expression.Post
-read-expression-enum-known-first-2 t c = c .match4 .keys1
-
-read-expression-enum-told-3 : (t : ℕ) → read-expression-lts.Need-enum-told-3 (read-expression-cs t) (read-expression-at t) read-expression.Post
-read-expression-enum-told-3 t c = c .match4 .keys2
-
 read-expression-returns-5 : (t : ℕ) → read-expression-lts.Need-returns-5 (read-expression-cs t) (read-expression-at t) read-expression.Post
 unfolding skipped
 read-expression-returns-5 t c =
@@ -265,40 +171,41 @@ read-expression-returns-5 t c =
       omega (arith, ap reachedEnd (c .enum-told3 .given .1)),
     )
 
-read-expression-add-read-divisor : (t : ℕ) → read-expression-lts.Need-add-read-divisor (read-expression-cs t) (read-expression-at t) read-expression.Post
-read-expression-add-read-divisor t c =
-    let start = c .before .before .before .before .before .before .before .before .before .before .before .before in
-    omega (arith, dividend-in t (c .before .before .before) _ (c .before .first2 .given .1), start .good .0 .0)
-
-read-expression-read-divisor-requires : (t : ℕ) →
-    read-expression-lts.Need-read-divisor-requires (read-expression-cs t) (read-expression-at t) read-expression.Post
-read-expression-read-divisor-requires t c κs = tt
-
-read-expression-word-reached-requires : (t : ℕ) →
-    read-expression-lts.Need-word-reached-requires (read-expression-cs t) (read-expression-at t) read-expression.Post
-read-expression-word-reached-requires t c κs = tt
-
 read-expression-returns-6 : (t : ℕ) → read-expression-lts.Need-returns-6 (read-expression-cs t) (read-expression-at t) read-expression.Post
 unfolding skipped
 read-expression-returns-6 t c =
+    let at-second = c .before .before in
+    let at-first = at-second .before .before .before .before in
+    let read-first = answered (reached _ tt) (at-first .before .before .read-expression3 .ensures .0) (at-first .first2 .given .1) in
+    let divisor-read = at-second .before .read-divisor in
+    let ended = word-skipped _ (divisor-read .result) (at-second .word-reached .ensures) (divisor-read .ensures .0) in
+    let fails = answered (reached _ tt) ended (c .enum-told4 .given .1) in (
+      ap (reached _ tt) (c .enum-told4 .given .1)
+          ∙ sym (dividend t (at-first .before .before) ∙ rest-fault (ends _ _) _ (λ x t. mapped (λ d. tt) (divisor t)) _ read-first fails),
+      omega (arith, ap reachedEnd (c .enum-told4 .given .1)),
+    )
+
+read-expression-returns-7 : (t : ℕ) → read-expression-lts.Need-returns-7 (read-expression-cs t) (read-expression-at t) read-expression.Post
+unfolding skipped
+read-expression-returns-7 t c =
     let at-if2 = c .before .before .before in (
       c .read-constant .ensures .0
           ∙ sym (read-constant _ _ _ _ (at-if2 .before .if1 .left) (at-if2 .if2 .left) (c .before .match .keys1)),
       c .read-constant .ensures .1,
     )
 
-read-expression-returns-7 : (t : ℕ) → read-expression-lts.Need-returns-7 (read-expression-cs t) (read-expression-at t) read-expression.Post
+read-expression-returns-8 : (t : ℕ) → read-expression-lts.Need-returns-8 (read-expression-cs t) (read-expression-at t) read-expression.Post
 unfolding skipped
-read-expression-returns-7 t c =
+read-expression-returns-8 t c =
     let at-if2 = c .before .before .before .before in (
       byte-skipped _ (c .before .read-below .result) (c .byte-reached .ensures) (c .before .read-below .ensures .0)
           ∙ sym (read-variable _ _ _ _ (at-if2 .before .if1 .left) (at-if2 .if2 .left) (c .before .before .match .keys2)),
       byte-skipped-end (c .before .read-below .result) _ (c .byte-reached .ensures) (c .before .read-below .ensures .1),
     )
 
-read-expression-returns-8 : (t : ℕ) → read-expression-lts.Need-returns-8 (read-expression-cs t) (read-expression-at t) read-expression.Post
+read-expression-returns-9 : (t : ℕ) → read-expression-lts.Need-returns-9 (read-expression-cs t) (read-expression-at t) read-expression.Post
 unfolding skipped
-read-expression-returns-8 t c =
+read-expression-returns-9 t c =
     let at-second = c .before in
     let at-first = at-second .before .before .before .before .before in
     let read-first = answered (reached _ tt) (at-first .before .before .read-expression .ensures .0) (at-first .first .given .1) in
@@ -307,20 +214,46 @@ read-expression-returns-8 t c =
       second-in t (at-second .before .before) _ (at-second .second .given .1),
     )
 
-read-expression-returns-9 : (t : ℕ) → read-expression-lts.Need-returns-9 (read-expression-cs t) (read-expression-at t) read-expression.Post
-unfolding skipped
-read-expression-returns-9 t c =
-    let at-first = c .before .before .before in
-    let read-first = answered (reached _ tt) (at-first .before .before .read-expression3 .ensures .0) (at-first .first2 .given .1) in
-    let divisor-read = c .before .read-divisor in (
-      word-skipped _ (divisor-read .result) (c .word-reached .ensures) (divisor-read .ensures .0)
-          ∙ sym (dividend t (at-first .before .before) ∙ first-got (ends _ _) _ _ _ read-first),
-      word-skipped-end (divisor-read .result) _ (c .word-reached .ensures) (divisor-read .ensures .1),
-    )
-
 read-expression-returns-10 : (t : ℕ) → read-expression-lts.Need-returns-10 (read-expression-cs t) (read-expression-at t) read-expression.Post
 unfolding skipped
-read-expression-returns-10 t c = (sym (read-unknown _ _ _ _ (c .before .before .before .before .before .if1 .left) (c .if4 .left)), omega arith)
+read-expression-returns-10 t c =
+    let at-second = c .before .before .before in
+    let at-first = at-second .before .before .before .before in
+    let read-first = answered (reached _ tt) (at-first .before .before .read-expression3 .ensures .0) (at-first .first2 .given .1) in
+    let divisor-read = at-second .before .read-divisor in
+    let ended = word-skipped _ (divisor-read .result) (at-second .word-reached .ensures) (divisor-read .ensures .0) in
+    let read-second = answered (reached _ tt) ended (c .before .second2 .given .1) in (
+      sym (dividend t (at-first .before .before) ∙ rest-got (ends _ _) _ (λ x t. mapped (λ d. tt) (divisor t)) _ read-first _ read-second),
+      divisor-ends t at-second _ (c .before .second2 .given .1),
+    )
+
+read-expression-returns-11 : (t : ℕ) → read-expression-lts.Need-returns-11 (read-expression-cs t) (read-expression-at t) read-expression.Post
+unfolding skipped
+read-expression-returns-11 t c = (sym (read-unknown _ _ _ _ (c .before .before .before .before .before .if1 .left) (c .if4 .left)), omega arith)
+
+read-expression-add-t23 : (t : ℕ) → read-expression-lts.Need-add-t23 (read-expression-cs t) (read-expression-at t) read-expression.Post
+read-expression-add-t23 t c =
+    let at-second = c .before .before .before in
+    let start = at-second .before .before .before .before .before .before .before .before .before .before .before .before .before in
+    omega (arith, second-in t at-second _ (c .before .second .given .1), start .good .0 .0)
+
+read-expression-add-t28 : (t : ℕ) → read-expression-lts.Need-add-t28 (read-expression-cs t) (read-expression-at t) read-expression.Post
+read-expression-add-t28 t c =
+    let at-second = c .before .before .before in
+    let start = at-second .before .before .before .before .before .before .before .before .before .before .before .before .before in
+    omega (arith, second-in t at-second _ (c .before .second .given .1), start .good .0 .0)
+
+read-expression-add-t32 : (t : ℕ) → read-expression-lts.Need-add-t32 (read-expression-cs t) (read-expression-at t) read-expression.Post
+read-expression-add-t32 t c =
+    let at-second = c .before .before .before in
+    let start = at-second .before .before .before .before .before .before .before .before .before .before .before .before .before .before .before in
+    omega (arith, divisor-ends t at-second _ (c .before .second2 .given .1), start .good .0 .0)
+
+read-expression-add-t38 : (t : ℕ) → read-expression-lts.Need-add-t38 (read-expression-cs t) (read-expression-at t) read-expression.Post
+read-expression-add-t38 t c =
+    let at-second = c .before .before .before in
+    let start = at-second .before .before .before .before .before .before .before .before .before .before .before .before .before .before .before in
+    omega (arith, divisor-ends t at-second _ (c .before .second2 .given .1), start .good .0 .0)
 
 pub +read-expression-spec : {M : Type 1} → statement M
 +read-expression-spec = close μ-read-expression λ t. read-expression-lts.spec (read-expression-cs t)
@@ -328,42 +261,50 @@ pub +read-expression-spec : {M : Type 1} → statement M
     read-expression.Post
     (read-expression-returns t)
     (read-expression-returns-2 t)
-    (read-expression-shared-slice-read-code t)
-    (read-expression-read-constant-requires t)
-    (read-expression-read-below-requires t)
-    (read-expression-byte-reached-requires t)
-    (read-expression-sub-read-expression t)
-    (read-expression-part-read-expression-start t)
-    (read-expression-part-read-expression-end t)
-    (read-expression-sub-read-expression-2 t)
-    (read-expression-read-expression-requires t)
-    (read-expression-enum-known-first t)
-    (read-expression-enum-told t)
+    (λ c. omega arith)
+    (λ c κs. tt)
+    (λ c κs. tt)
+    (λ c κs. tt)
+    (λ c. omega arith)
+    (λ c. omega arith)
+    (λ c. omega arith)
+    (λ c. omega arith)
+    (λ c κs. (omega arith, tt))
+    (λ c. c .match2 .keys1)
+    (λ c. c .match2 .keys2)
     (read-expression-returns-3 t)
-    (read-expression-add-read-expression t)
-    (read-expression-sub-read-expression-3 t)
-    (read-expression-part-read-expression-start-2 t)
-    (read-expression-part-read-expression-end-2 t)
-    (read-expression-sub-read-expression-4 t)
-    (read-expression-read-expression-requires-2 t)
-    (read-expression-enum-known-second t)
-    (read-expression-enum-told-2 t)
+    (λ c. omega (arith, first-in t (c .before .before .before) _ (c .before .first .given .1)))
+    (λ c. omega (arith, first-in t (c .before .before .before) _ (c .before .first .given .1)))
+    (λ c. omega (arith, first-in t (c .before .before .before) _ (c .before .first .given .1)))
+    (λ c. omega arith)
+    (λ c. omega arith)
+    (λ c κs. (omega arith, tt))
+    (λ c. c .match3 .keys1)
+    (λ c. c .match3 .keys2)
     (read-expression-returns-4 t)
-    (read-expression-add-t21 t)
-    (read-expression-add-t26 t)
-    (read-expression-sub-read-expression-5 t)
-    (read-expression-part-read-expression-start-3 t)
-    (read-expression-part-read-expression-end-3 t)
-    (read-expression-sub-read-expression-6 t)
-    (read-expression-read-expression-requires-3 t)
-    (read-expression-enum-known-first-2 t)
-    (read-expression-enum-told-3 t)
+    (read-expression-add-t23 t)
+    (read-expression-add-t28 t)
+    (λ c. omega arith)
+    (λ c. omega arith)
+    (λ c. omega arith)
+    (λ c. omega arith)
+    (λ c κs. (omega arith, tt))
+    (λ c. c .match4 .keys1)
+    (λ c. c .match4 .keys2)
     (read-expression-returns-5 t)
-    (read-expression-add-read-divisor t)
-    (read-expression-read-divisor-requires t)
-    (read-expression-word-reached-requires t)
+    (λ c. omega (arith, dividend-in t (c .before .before .before) _ (c .before .first2 .given .1)))
+    (λ c. omega (arith, dividend-in t (c .before .before .before) _ (c .before .first2 .given .1)))
+    (λ c. omega (arith, dividend-in t (c .before .before .before) _ (c .before .first2 .given .1)))
+    (λ c. omega arith)
+    (λ c κs. tt)
+    (λ c κs. tt)
+    (λ c. c .match5 .keys1)
+    (λ c. c .match5 .keys2)
     (read-expression-returns-6 t)
+    (read-expression-add-t32 t)
+    (read-expression-add-t38 t)
     (read-expression-returns-7 t)
     (read-expression-returns-8 t)
     (read-expression-returns-9 t)
     (read-expression-returns-10 t)
+    (read-expression-returns-11 t)

@@ -14,21 +14,9 @@ use Rattle.expr.proofs.expression.divide_by.Tie as tie
 -- the divisor that was read
 taken : (c : tie.After-known-told) →
     let start = c .before .before .before .before .before in
-    divisor (onward (start .args .s .now) (start .args .at))
+    divisor (start .args .s .now)
     ≡ got (c .before .w .given .0 .0) (onward (start .args .s .now) (c .before .w .given .0 .1 .0))
 taken c = answered (wordOf _) (c .before .before .before .read-divisor .ensures .0) (c .before .w .given .1)
-
-read-divisor-requires : tie.Need-read-divisor-requires
-read-divisor-requires c κs = search needs
-
-enum-known-w : tie.Need-enum-known-w
-enum-known-w c = search needs
-
-enum-told : tie.Need-enum-told
-enum-told c = search needs
-
-word-fault-requires : tie.Need-word-fault-requires
-word-fault-requires c κs = search needs
 
 returns : tie.Need-returns
 returns c =
@@ -37,9 +25,6 @@ returns c =
       handed-on wordFault (c .word-fault .ensures) (c .before .enum-told .given .1) (mapped-fault _ fails),
       omega arith,
     )
-
-divide-requires : tie.Need-divide-requires
-divide-requires c κs = search needs
 
 returns-2 : tie.Need-returns-2
 returns-2 c =
@@ -52,10 +37,10 @@ pub divide-by-spec : {M : Type 1} → statement M
 divide-by-spec =
     tie.close
     (tie.spec
-    read-divisor-requires
-    enum-known-w
-    enum-told
-    word-fault-requires
+    (λ c κs. search needs)
+    (λ c. search needs)
+    (λ c. search needs)
+    (λ c κs. search needs)
     returns
-    divide-requires
+    (λ c κs. search needs)
     returns-2)
