@@ -29,7 +29,8 @@ abbrev pub headerRefusal : HeaderRead → ℕ
 headerRefusal (Hd.Counts n) = 0
 headerRefusal (Hd.Refused k) = k
 
--- counts, offsets and tables of a chart that keeps the rules, whose records stand in the bytes
+-- counts, offsets and tables of a chart that keeps the rules, whose records stand in the bytes. By rule 11 a composite source has
+-- a declared exit, by which a step looks it up among the completed states
 pub record Ready (rest : List ℕ) (n : Counts) (offsets : List ℕ) (t : Tree) (c : Chart) : Type 0 where
   pub laid : Laid rest n offsets c
   pub tabled : Tabled c t

@@ -1,5 +1,5 @@
-// The chart file, its tree of states and its check. The operation is in `check`; what it answers with is there, in
-// `header`, `rule` and `table`. The machine and the flattener read a checked chart by `entry`, `state`, `table` and
-// `transition`.
+// The check of a chart file, which is an operation: `check` reads the records and tries the rules. The records, the tables
+// of states and the rules are those of chart_records, chart_tree and chart_rules; by the first two the machine and the
+// flattener read a checked file, from what `checked` hands over of it.
 pub mod check;
 mod transition_list;

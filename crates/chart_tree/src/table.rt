@@ -72,7 +72,8 @@ pub fn under(parents: &[u8], m: usize, s: usize) -> bool
     x == m
 }
 
-// Whether x, which is not the root, is a child of s.
+// Whether x, which is not the root, is a child of s. The rules, which are judged on the bytes of the file, and flattening, which
+// asks it also of the root, have functions of their own.
 pub fn is_child(parents: &[u8], s: usize, x: usize) -> bool
     ensures { λ r. ⌜ r ≡ eqb (getD (now (parents .entry)) x 0) s ⌝ }
 {

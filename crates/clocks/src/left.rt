@@ -1,4 +1,8 @@
 // The test of a bound, and the ticks left under it and under the bounds of a row.
+//
+// Bounds are tested nowhere else: `keeps`, and with it 17, 26 and 21, asks `ticks_left`. That a bound is kept just where the
+// clock is at most the bound is the law `kept-is`. A bound that is not there, 4,294,967,295, needs no case: it leaves what the
+// limit leaves. 22 is about the limit alone, and `later`, which computes the clocks after a wait, tells it.
 ghost use mathlib.Core.Path.{_≡_};
 ghost use Prim.Native.Nat.{ℕ, _-_, min};
 ghost use Rattle.reading.specs.Answer.{Answer};

@@ -1,4 +1,6 @@
-// The alternatives of an exit: sets of automata, as bits.
+// The alternatives of an exit: sets of automata, as bits. They are listed ascending and each once, and the listing stops counting
+// at 1,025. Each state below the source is met once, so that nothing grows with the number of choices, and a chart with too many
+// is refused as soon as they are.
 ghost use mathlib.Core.Path.{_≡_};
 ghost use mathlib.Core.Bool.{true, false, cond};
 ghost use mathlib.Core.List.{List, [], _++_, map, List·Memᴰ as Mem};

@@ -1,4 +1,5 @@
-// The edges of the network as they are gathered: of each the bytes of its record but for its label's body.
+// The edges of the network as they are gathered: of each the thirteen bytes of its record but for its label's body, which is
+// copied from the chart's file later. The table is lent down the walk over the places; 1,025 edges stand for too many.
 
 ghost use mathlib.Core.Path.{_≡_};
 ghost use mathlib.Core.List.{[], _∷_};

@@ -1,4 +1,6 @@
-// What is marked below states.
+// What is marked below states. One pass, `gathered`, serves all tables of bits: the exits marked below a state, the kinds below it
+// and the exits barred there (fixed.rt). The rows of bounds are joined by a pass of the same shape, `own_bounds` of
+// flatten_tables: there are no generics by which one loop could serve both.
 ghost use mathlib.Core.Path.{_≡_};
 ghost use lib.ListN.{length};
 ghost use Rattle.chart_records.specs.Chart.{Chart};

@@ -1,4 +1,5 @@
-// Flattening.
+// Flattening. The edges are gathered first; then the length is added up, 15 and 16 are judged, and only then is a byte of the
+// lent buffer written.
 ghost use mathlib.Core.Path.{_≡_};
 ghost use lib.ListN.{length};
 ghost use Rattle.chart_records.specs.Chart.{Chart};

@@ -1,4 +1,6 @@
-// The label of a transition or an edge: what stands from the signal on.
+// The label of a transition or an edge: what stands from the signal on. Of its body the place is kept: flattening copies the
+// bytes, and the network reads the same bytes, so that no law about printing expressions is needed. The pass that computes the
+// new variables tells also whether all updates stay in the range: one of its own for 28 would evaluate every expression twice.
 ghost use mathlib.Core.Path.{_≡_};
 ghost use mathlib.Core.Bool.{true, _&&_, _||_, not};
 ghost use lib.Dec.{eqb};

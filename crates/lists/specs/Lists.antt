@@ -70,7 +70,7 @@ padded n d l = l ++ replicate (n - length l) d
 unfoldable pub subset : ℕ → ℕ → ℕ → Bool
 subset w a b = all (λ i. implies (has a i) (has b i)) (below w)
 
--- rule 13: a receiver assigns, or a variable is assigned twice
+-- no number stands twice
 unfoldable pub distinct : List ℕ → Bool
 distinct [] = true
 distinct (x ∷ xs) = not (elem x xs) && distinct xs

@@ -1,4 +1,5 @@
-// The least of two numbers.
+// The least of two numbers, of places and counts. Bounds have a function of their own width (clocks): there are no generics, and
+// a cast to and fro would have to be proved at each call.
 ghost use mathlib.Core.Path.{_≡_};
 ghost use Prim.Native.Nat.{min};
 

@@ -1,4 +1,6 @@
-// The check of a network file: one pass over its records, then the rules.
+// The check of a network file: one pass over its records, then the rules. The table of the edges' offsets is lent. Handed back
+// by value it would be copied twice within a frame of the stack, between places 4 bytes apart modulo 4,096: a processor was
+// found that takes 1.4 microseconds for such a copy of 4 KB, where any other takes 50 ns.
 ghost use mathlib.Core.Path.{_≡_};
 ghost use mathlib.Core.Bool.{true};
 ghost use Prim.Native.Nat.{_<_, _^_};

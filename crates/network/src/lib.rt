@@ -1,5 +1,6 @@
-// The file of a network: its header, its locations and edges, and the check. The network machine reads a checked file
-// by `edge`, `initial`, `laid` and `location`. `bearing` answers which transitions of a chart the edges of a step bear.
+// The check of a network file, in `check`, and how a checked file is read beyond its single records, which network_records
+// has: `laid` gives its edges, `initial` where its automata start, `bearing` which transitions of a chart the edges of a step
+// bear.
 pub mod bearing;
 pub mod check;
 mod edge_list;

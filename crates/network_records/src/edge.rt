@@ -1,4 +1,5 @@
-// The edge records of a network file.
+// The edge records of a network file. The check keeps of an edge only whether rule 13 holds. Once a file is checked, each field
+// is read at its fixed place of the record (`kept-at` in proofs/Fields), and the body of the label after them.
 ghost use mathlib.Core.Path.{_≡_};
 ghost use mathlib.Core.Bool.{true, _&&_};
 ghost use Prim.Native.Nat.{ℕ, _+_, _^_};

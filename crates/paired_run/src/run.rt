@@ -1,5 +1,9 @@
 // Both machines at one moment of a run: of the chart in a file, and of the network whose bytes flattening wrote of it. Each
 // accepted call of the network is read as a call of the chart, or as none.
+//
+// The contracts are over any list of calls: if what is given stands for the run after them, what is answered stands for the run
+// with one call more. That the moves owed never pass 32, and so fit, follows from demand 3: where one is owed, no move that
+// carries a transition is accepted. Of bytes that flattening did not write nothing is said, and each call ends all the same.
 ghost use mathlib.Core.Path.{_≡_};
 ghost use mathlib.Core.List.{List, []};
 ghost use Prim.Native.Nat.{_-_, _≤_};

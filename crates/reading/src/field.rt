@@ -1,4 +1,8 @@
 // Fields of a record, read from left to right: one, two and four bytes, and the frame of a record.
+//
+// A reader of the definitions takes the bytes that are left, and gives a value with the rest or the first fault. A reader here
+// answers the next place in the slice that it is lent, which stands for the bytes from there on (specs/Places). So a chain of
+// `let .. else` is a chain of binds, and no arithmetic on places is needed.
 ghost use mathlib.Core.Path.{_≡_};
 ghost use Prim.Native.Nat.{ℕ, _+_, _*_, _-_, _≤_, _^_};
 ghost use lib.ListN.{length, getD};

@@ -1,4 +1,5 @@
-// What became of a check or of a call.
+// What became of a check or of a call: one enum for the check of a chart and for every call of both machines. It means
+// `verdictOf` of the definition's answer.
 ghost use mathlib.Core.Path.{_≡_};
 ghost use Rattle.reading.specs.Verdict.{verdictNumber};
 

@@ -1,4 +1,5 @@
-// The versions of a file, and what depends on them.
+// The versions of a file, and what depends on them. A version is read with the counts and stands in them; a reader that needs
+// it is given it. Guards are given none, so that they are the same in every version by their types.
 ghost use mathlib.Core.Path.{_≡_};
 ghost use Rattle.reading.specs.Version.{isVersion, hasAdvances};
 

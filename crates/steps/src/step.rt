@@ -1,4 +1,5 @@
-// What the steps of charts and networks share: which sets of transitions or edges are allowed.
+// What the steps of charts and networks share: which sets of transitions or edges are allowed, and a step's last tests. The loops
+// run over plain numbers: each machine collects the owners of its active receivers.
 ghost use mathlib.Core.Path.{_≡_};
 ghost use mathlib.Core.List.{map};
 ghost use Prim.Native.Nat.{_≤_};
@@ -228,6 +229,7 @@ pub fn maximal(receivers: &[u8], owners: &[u8]) -> bool
 }
 
 // What becomes of a step by its last three tests: its set is allowed, its updates stay in the range, the bounds after it are kept.
+// What a set leads to is computed before, also where the set is not allowed, and dropped where the step is refused.
 pub fn last_tests(allowed: bool, within: bool, kept: bool) -> Verdict
     ensures { λ r. ⌜ r ≡ lastTests allowed within kept ⌝ }
 {

@@ -1,4 +1,6 @@
-// Updates, which are assignments and advances: read as a file is checked, and carried out on variables.
+// Updates, which are assignments and advances: read as a file is checked, and carried out on variables. An update is read in two
+// parts: its form, an assignment's variable or a whole advance, and after that of an assignment its expression. The check notes
+// what a form writes in a table that is lent down; the machines carry the update out.
 ghost use mathlib.Core.Path.{_≡_};
 ghost use mathlib.Core.List.{[], _∷_, _++_};
 ghost use lib.ListN.{set};

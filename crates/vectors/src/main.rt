@@ -1,6 +1,9 @@
 // Answers requests from standard input until it ends: checks, flattening, calls of the machines, their longest waits, runs of
 // a chart and its network side by side, and counts of weft breaks. Input that is not made of whole requests ends with a line
 // that says so.
+//
+// Requests of every kind are answered by one program, so that the loop over them and its proof stand once. The input may have any
+// length: the whole requests in a window are answered, what is left of another is moved to its front, and it is filled again.
 mod answer;
 mod breaks_requests;
 mod chart_requests;
