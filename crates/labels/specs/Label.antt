@@ -51,6 +51,7 @@ label l channels = do
   r ← such byte (λ r. ltb r (2 ^ (l .clocks)))
   λ bytes. next (body l bytes) (λ b. yield (record { signal = s; channel = c; resets = r; body = b; bytes = bytes }))
 
+-- rule 13: a receiver has no update, and no variable is written twice
 unfoldable pub bodyOnce : ℕ → Body → Bool
 bodyOnce signal b = (not (eqb signal 2) || eqb (length (b .updates)) 0) && distinct (targets (b .updates))
 
