@@ -1,23 +1,23 @@
 //! Charts whose transitions all have composite sources: what they have, and which transitions are active
 //! when a basic state lacks exits.
 
-use reference::chart::{Chart, Kind, Transition};
-use reference::chart_machine::{self, ChartConfiguration};
-use reference::check::check;
-use reference::flatten::network_of;
-use reference::generate_completion::{
+use reference::forms::request::Request;
+use reference::generate::completion::{
     basic_states, completion_requests, configurations, few_completion_requests, fewer_marks,
     with_marks,
 };
-use reference::label::Signal;
-use reference::limits::{EXITS, STATES, TRANSITIONS};
-use reference::moves::{allowed, Member};
-use reference::refusal::Refusal;
-use reference::request::Request;
-use reference::special_completion::{
+use reference::generate::special_completion::{
     broadcast_list, broadcast_step, completion_charts, deep, plain_step, wide, EVERY_EXIT, LEVELS,
 };
-use reference::steps::number;
+use reference::model::chart::{Chart, Kind, Transition};
+use reference::model::chart_machine::{self, ChartConfiguration};
+use reference::model::check::check;
+use reference::model::flatten::network_of;
+use reference::model::label::Signal;
+use reference::model::limits::{EXITS, STATES, TRANSITIONS};
+use reference::model::moves::{allowed, Member};
+use reference::model::refusal::Refusal;
+use reference::runs::steps::number;
 
 /// How many transitions satisfy a condition.
 fn count(chart: &Chart, condition: impl Fn(&Transition) -> bool) -> usize {

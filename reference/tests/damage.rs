@@ -3,26 +3,26 @@
 
 use std::collections::BTreeMap;
 
-use reference::chart_machine;
-use reference::check::check;
-use reference::damage::{
+use reference::forms::request::{Request, Success};
+use reference::generate::charts::{chart_from_seed, chart_from_wish, Wish};
+use reference::generate::damage::{
     add_bytes, advance_places, change_advance, change_record_length, change_version, cut_off,
     damage_chart, damage_file, Form,
 };
-use reference::expression::Expression;
-use reference::faulty;
-use reference::flatten::{flatten, network_of};
-use reference::generate::{chart_from_seed, chart_from_wish, Wish};
-use reference::limits::{ADVANCE_BYTES, CHART_HEADER, NETWORK_HEADER};
-use reference::network::Network;
-use reference::network_machine;
-use reference::random::Random;
-use reference::refusal::Refusal;
-use reference::request::{Request, Success};
-use reference::special;
-use reference::update::Update;
-use reference::version::Version;
-use reference::walk::{chart_requests, network_requests};
+use reference::generate::faulty;
+use reference::generate::random::Random;
+use reference::generate::special;
+use reference::generate::walk::{chart_requests, network_requests};
+use reference::model::chart_machine;
+use reference::model::check::check;
+use reference::model::expression::Expression;
+use reference::model::flatten::{flatten, network_of};
+use reference::model::limits::{ADVANCE_BYTES, CHART_HEADER, NETWORK_HEADER};
+use reference::model::network::Network;
+use reference::model::network_machine;
+use reference::model::refusal::Refusal;
+use reference::model::update::Update;
+use reference::model::version::Version;
 
 /// How often each answer was given, 0 standing for acceptance.
 type Numbers = BTreeMap<u8, u64>;

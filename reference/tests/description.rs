@@ -1,15 +1,15 @@
 //! Charts and networks as text: what is written is read back to the same bytes, and mistakes are
 //! named with their line.
 
-use reference::chart::Chart;
-use reference::check::check;
-use reference::description::{assemble, disassemble};
-use reference::flatten::network_of;
-use reference::generate::chart_from_seed;
-use reference::network::Network;
-use reference::refusal::Refusal;
-use reference::text_form::request_from_text;
-use reference::version::Version;
+use reference::forms::description::{assemble, disassemble};
+use reference::forms::text::request_from_text;
+use reference::generate::charts::chart_from_seed;
+use reference::model::chart::Chart;
+use reference::model::check::check;
+use reference::model::flatten::network_of;
+use reference::model::network::Network;
+use reference::model::refusal::Refusal;
+use reference::model::version::Version;
 
 const REQUESTS: &str = include_str!("../vectors/text.requests");
 

@@ -2,21 +2,21 @@
 
 use std::collections::BTreeMap;
 
-use reference::chart::{Chart, Kind};
-use reference::chart_machine;
-use reference::check::check;
-use reference::expression::Expression;
-use reference::flatten::network_of;
-use reference::generate::{chart_from_seed, chart_from_wish, Wish};
-use reference::guard::Guard;
-use reference::label::Signal;
-use reference::limits::{CLOCKS, LEVELS, STATES, VARIABLES};
-use reference::network::Network;
-use reference::sensors::{has_sensors, is_in, is_sensor, plain_states};
-use reference::take_up::sole_advances;
-use reference::update::{Advance, Update};
-use reference::values::Bounds;
-use reference::version::Version;
+use reference::coverage::sensors::{has_sensors, is_in, is_sensor, plain_states};
+use reference::generate::charts::{chart_from_seed, chart_from_wish, Wish};
+use reference::model::chart::{Chart, Kind};
+use reference::model::chart_machine;
+use reference::model::check::check;
+use reference::model::expression::Expression;
+use reference::model::flatten::network_of;
+use reference::model::guard::Guard;
+use reference::model::label::Signal;
+use reference::model::limits::{CLOCKS, LEVELS, STATES, VARIABLES};
+use reference::model::network::Network;
+use reference::model::update::{Advance, Update};
+use reference::model::values::Bounds;
+use reference::model::version::Version;
+use reference::runs::take_up::sole_advances;
 
 const CHARTS: u64 = 4_000;
 
@@ -126,10 +126,8 @@ fn seeded_charts_pass_and_have_the_promised_features() {
         divisions += u64::from(has_division(&chart));
         parallel_roots += u64::from(chart.states[0].kind == Kind::Parallel);
         let bounded = |level: usize| {
-            (0..chart.states.len()).any(|state| {
-                levels[state] == level
-                    && chart.states[state].bounds != reference::values::Bounds::NONE
-            })
+            (0..chart.states.len())
+                .any(|state| levels[state] == level && chart.states[state].bounds != Bounds::NONE)
         };
         bounds_on_every_level += u64::from(deepest_here >= 3 && (0..=deepest_here).all(bounded));
         assert!(chart.declared.clocks <= CLOCKS && chart.declared.variables <= VARIABLES);

@@ -3,27 +3,27 @@
 
 mod committed;
 
-use reference::chart::{Chart, Kind};
-use reference::chart_machine::{self, active_bounds, ChartConfiguration};
-use reference::check::check;
-use reference::flatten::network_of;
-use reference::generate::chart_from_seed;
-use reference::generate_longest::{chart_longest_requests, network_longest_requests};
-use reference::label::{Declared, Label, Signal};
-use reference::limits::{LARGEST, NONE, NO_BOUND};
-use reference::longest::{is_longest_of_chart, is_longest_of_network, LongestWaits};
-use reference::longest_reason::Reason;
-use reference::longest_tally::LongestTally;
-use reference::network::Network;
-use reference::network_machine::{self, occupied_bounds, NetworkConfiguration};
-use reference::random::Random;
-use reference::refusal::Refusal;
-use reference::request::{Request, Success};
-use reference::side_by_side::{run_both_lists, Machines};
-use reference::special::{one_loop, sample_3, state};
-use reference::values::{ticks_left, Bounds};
-use reference::version::Version;
-use reference::walk::{chart_requests, network_requests};
+use reference::coverage::longest_reason::Reason;
+use reference::coverage::longest_tally::LongestTally;
+use reference::forms::request::{Request, Success};
+use reference::generate::charts::chart_from_seed;
+use reference::generate::longest::{chart_longest_requests, network_longest_requests};
+use reference::generate::random::Random;
+use reference::generate::special::{one_loop, sample_3, state};
+use reference::generate::walk::{chart_requests, network_requests};
+use reference::model::chart::{Chart, Kind, State};
+use reference::model::chart_machine::{self, active_bounds, ChartConfiguration};
+use reference::model::check::check;
+use reference::model::flatten::network_of;
+use reference::model::label::{Declared, Label, Signal};
+use reference::model::limits::{LARGEST, NONE, NO_BOUND};
+use reference::model::network::Network;
+use reference::model::network_machine::{self, occupied_bounds, NetworkConfiguration};
+use reference::model::refusal::Refusal;
+use reference::model::values::{ticks_left, Bounds};
+use reference::model::version::Version;
+use reference::runs::longest::{is_longest_of_chart, is_longest_of_network, LongestWaits};
+use reference::runs::side_by_side::{run_both_lists, Machines};
 
 use committed::vectors;
 
@@ -108,7 +108,7 @@ fn all_active_states_count() {
     }
 }
 
-fn chart_of(states: Vec<reference::chart::State>) -> Chart {
+fn chart_of(states: Vec<State>) -> Chart {
     let declared = Declared { clocks: 1, ..Declared::default() };
     let chart = Chart::new(Version::One, declared, 1, 0, states, Vec::new());
     check(&chart.write()).expect("the chart passes")

@@ -2,23 +2,23 @@
 
 use std::rc::Rc;
 
-use reference::chart::{Chart, Kind, Transition};
-use reference::chart_machine::{self, ChartConfiguration};
-use reference::check::check;
-use reference::damage::{advance_places, Form};
-use reference::expression::Expression;
-use reference::faulty::{all_faulty, ADVANCE};
-use reference::flatten::network_of;
-use reference::guard::{Guard, Relation};
-use reference::label::{Declared, Label, Signal};
-use reference::limits::{LARGEST, NONE};
-use reference::network::Network;
-use reference::network_machine::{self, NetworkConfiguration};
-use reference::refusal::Refusal;
-use reference::request::{Request, Success};
-use reference::special::{dense, nested_channel, one_pick, state, transition};
-use reference::update::Update;
-use reference::version::Version;
+use reference::forms::request::{Request, Success};
+use reference::generate::damage::{advance_places, Form};
+use reference::generate::faulty::{all_faulty, ADVANCE};
+use reference::generate::special::{dense, nested_channel, one_pick, state, transition};
+use reference::model::chart::{Chart, Kind, Transition};
+use reference::model::chart_machine::{self, ChartConfiguration};
+use reference::model::check::check;
+use reference::model::expression::Expression;
+use reference::model::flatten::network_of;
+use reference::model::guard::{Guard, Relation};
+use reference::model::label::{Declared, Label, Signal};
+use reference::model::limits::{LARGEST, NONE};
+use reference::model::network::Network;
+use reference::model::network_machine::{self, NetworkConfiguration};
+use reference::model::refusal::Refusal;
+use reference::model::update::Update;
+use reference::model::version::Version;
 
 /// Two sequential states in parallel. The first enters a composite state; the second has a
 /// transition to itself that resets the clock, one that does not and is guarded, and two with

@@ -4,17 +4,17 @@
 
 mod committed;
 
-use reference::compare::Agreed;
-use reference::generate_breaks::all_short_requests;
-use reference::generate_completion::completion_requests;
-use reference::proved;
-use reference::random::Random;
-use reference::refusal::Refusal;
-use reference::request::Request;
-use reference::special;
-use reference::special_breaks::{at_both_ends, long_lists, MILLION};
-use reference::special_completion::completion_charts;
-use reference::special_sensors;
+use reference::forms::request::Request;
+use reference::generate::breaks::all_short_requests;
+use reference::generate::completion::completion_requests;
+use reference::generate::random::Random;
+use reference::generate::special;
+use reference::generate::special_breaks::{at_both_ends, long_lists, MILLION};
+use reference::generate::special_completion::completion_charts;
+use reference::generate::special_sensors;
+use reference::model::refusal::Refusal;
+use reference::runs::compare::Agreed;
+use reference::runs::proved;
 
 use committed::vectors;
 

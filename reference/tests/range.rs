@@ -6,30 +6,30 @@ mod committed;
 use std::collections::BTreeSet;
 use std::rc::Rc;
 
-use reference::chart::Chart;
-use reference::chart_machine;
-use reference::check::check;
-use reference::expression::Expression;
-use reference::flatten::network_of;
-use reference::generate::{chart_from_seed, Wish};
-use reference::guard::{Guard, Relation};
-use reference::label::{Declared, Label, Signal};
-use reference::network::Network;
-use reference::network_machine;
-use reference::random::Random;
-use reference::range::{
+use reference::coverage::range::{
     chart_without_updates, has_no_value, holds_by, leaves, leaves_inside_only,
     network_without_updates, number_by, EXACT, WRAPPED,
 };
-use reference::refusal::Refusal;
-use reference::request::{Request, Success};
-use reference::side_by_side::{run_both_lists, Machines};
-use reference::special::{guarded_receiver, one_loop, rendezvous_with_swap};
-use reference::special_range::{at_the_ends, one_too_many, without_value};
-use reference::steps::Steps;
-use reference::update::{Assignment, Update};
-use reference::values::Values;
-use reference::version::Version;
+use reference::forms::request::{Request, Success};
+use reference::generate::charts::{chart_from_seed, Wish};
+use reference::generate::random::Random;
+use reference::generate::special::{guarded_receiver, one_loop, rendezvous_with_swap};
+use reference::generate::special_range::{at_the_ends, one_too_many, without_value};
+use reference::model::chart::Chart;
+use reference::model::chart_machine;
+use reference::model::check::check;
+use reference::model::expression::Expression;
+use reference::model::flatten::network_of;
+use reference::model::guard::{Guard, Relation};
+use reference::model::label::{Declared, Label, Signal};
+use reference::model::network::Network;
+use reference::model::network_machine;
+use reference::model::refusal::Refusal;
+use reference::model::update::{Assignment, Update};
+use reference::model::values::Values;
+use reference::model::version::Version;
+use reference::runs::side_by_side::{run_both_lists, Machines};
+use reference::runs::steps::Steps;
 
 use committed::vectors;
 

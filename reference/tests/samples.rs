@@ -1,22 +1,23 @@
 //! The samples S1 to S10 of the paper but for S9, which was withdrawn, and the sizes that it names.
 
-use reference::chart::{Chart, Kind};
-use reference::chart_machine;
-use reference::check::check;
-use reference::expression::Expression;
-use reference::flatten::{flatten, network_of};
-use reference::guard::{Guard, Relation};
-use reference::label::{Declared, Label, Signal};
-use reference::limits::VARIABLES;
-use reference::network_machine;
-use reference::refusal::Refusal;
-use reference::special::{
+use reference::generate::special::{
     self, broadcast_of_self_loops, chart_with_edges, chart_with_sequential_children, largest,
     longest_network, many_equal_choices, most_alternatives, most_levels, sample_1, sample_3, state,
     transition,
 };
-use reference::update::Update;
-use reference::version::Version;
+use reference::model::chart::{Chart, Kind};
+use reference::model::chart_machine;
+use reference::model::check::check;
+use reference::model::expression::Expression;
+use reference::model::flatten::{flatten, network_of};
+use reference::model::guard::{Guard, Relation};
+use reference::model::label::{Declared, Label, Signal};
+use reference::model::limits::VARIABLES;
+use reference::model::network::Network;
+use reference::model::network_machine;
+use reference::model::refusal::Refusal;
+use reference::model::update::Update;
+use reference::model::version::Version;
 
 const S1_CHART: [u8; 40] = [
     0x01, 0x00, 0x25, 0x03, 0x00, 0x00, 0x00, 0x00, 0x01, 0x00, 0x01, //
@@ -213,7 +214,7 @@ fn the_largest_chart_passes() {
     assert!(file.len() <= 65_536 && file.len() > 65_000);
     let mut buffer = vec![0; 200_000];
     let length = flatten(&file, &mut buffer).unwrap();
-    let network = reference::network::Network::read(&buffer[..length]).unwrap();
+    let network = Network::read(&buffer[..length]).unwrap();
     assert_eq!(network.edges.len(), 1024);
 }
 

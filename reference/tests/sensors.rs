@@ -1,24 +1,25 @@
 //! Basic states directly in parallel ones, and plain parallel states: what the check and flattening
 //! make of them, on charts made by hand.
 
-use reference::chart::{Chart, Kind};
-use reference::chart_machine;
-use reference::check::check;
-use reference::flatten::network_of;
-use reference::generate::chart_from_seed;
-use reference::layout::{Layout, Place};
-use reference::limits::NO_BOUND;
-use reference::network::{Edge, Network};
-use reference::network_machine;
-use reference::plain::Plain;
-use reference::refusal::Refusal;
-use reference::sensors::has_sensors;
-use reference::special::{chart_with_sequential_children, state};
-use reference::special_sensors::{
+use reference::coverage::sensors::has_sensors;
+use reference::generate::charts::chart_from_seed;
+use reference::generate::special::{chart_with_sequential_children, state};
+use reference::generate::special_sensors::{
     most_sensors, no_sequential_state, plain_between, plain_in_a_choice, sensor_in_a_choice,
     sensors_in_the_root, with_sensors,
 };
-use reference::version::Version;
+use reference::model::chart::{Chart, Kind};
+use reference::model::chart_machine;
+use reference::model::check::check;
+use reference::model::flatten::network_of;
+use reference::model::label::Signal;
+use reference::model::layout::{Layout, Place};
+use reference::model::limits::NO_BOUND;
+use reference::model::network::{Edge, Network};
+use reference::model::network_machine;
+use reference::model::plain::Plain;
+use reference::model::refusal::Refusal;
+use reference::model::version::Version;
 
 fn refusal(chart: &Chart) -> Refusal {
     check(&chart.write()).map(|_| ()).unwrap_err()
@@ -171,8 +172,7 @@ fn a_plain_state_counts_as_a_basic_one_with_the_exits_that_its_states_share() {
     let layout = Layout::of(&chart);
     let heard = layout.exit_channel[&(1, 1)];
     let hears = |edge: &&Edge| {
-        edge.label.signal == reference::label::Signal::Receive(heard)
-            && edge.source == layout.location_of_child(3)
+        edge.label.signal == Signal::Receive(heard) && edge.source == layout.location_of_child(3)
     };
     assert_eq!(network.edges.iter().filter(hears).count(), 1);
 }

@@ -3,30 +3,31 @@
 use std::collections::BTreeMap;
 use std::rc::Rc;
 
-use reference::chart::{Chart, Kind};
-use reference::chart_machine;
-use reference::check::check;
-use reference::damage::damage_chart;
-use reference::flatten::network_of;
-use reference::generate::chart_from_seed;
-use reference::guard::Relation;
-use reference::label::{Label, Signal};
-use reference::layout::{Layout, Place};
-use reference::limits::NONE;
-use reference::longest_reason::Reason;
-use reference::longest_tally::LongestTally;
-use reference::network_machine;
-use reference::random::Random;
-use reference::range_tally::RangeTally;
-use reference::refusal::Refusal;
-use reference::sensors::{has_sensors, plain_states, with_marked_choices};
-use reference::side_by_side::{run_both_lists, Failure, Machines, Tally};
-use reference::special;
-use reference::special_completion;
-use reference::special_sensors;
-use reference::update::{Advance, Update};
-use reference::values::Bounds;
-use reference::version::Version;
+use reference::coverage::longest_reason::Reason;
+use reference::coverage::longest_tally::LongestTally;
+use reference::coverage::range_tally::RangeTally;
+use reference::coverage::sensors::{has_sensors, plain_states, with_marked_choices};
+use reference::generate::charts::chart_from_seed;
+use reference::generate::damage::damage_chart;
+use reference::generate::random::Random;
+use reference::generate::special;
+use reference::generate::special_completion;
+use reference::generate::special_sensors;
+use reference::model::chart::{Chart, Kind};
+use reference::model::chart_machine;
+use reference::model::check::check;
+use reference::model::flatten::network_of;
+use reference::model::guard::Relation;
+use reference::model::label::{Label, Signal};
+use reference::model::layout::{Layout, Place};
+use reference::model::limits::NONE;
+use reference::model::network::Edge;
+use reference::model::network_machine;
+use reference::model::refusal::Refusal;
+use reference::model::update::{Advance, Update};
+use reference::model::values::Bounds;
+use reference::model::version::Version;
+use reference::runs::side_by_side::{run_both_lists, Failure, Machines, Tally};
 
 const CHARTS: u64 = 2_000;
 const CALLS: usize = 40;
@@ -339,7 +340,7 @@ fn keep_every_choice(machines: &mut Machines) {
     let edges = &mut machines.network.edges;
     edges.retain(|edge| edge.transition.is_none());
     edges.extend(marked.edges.into_iter().filter(|edge| edge.transition.is_some()));
-    edges.sort_by_key(reference::network::Edge::sort_key);
+    edges.sort_by_key(Edge::sort_key);
 }
 
 #[test]
@@ -413,7 +414,7 @@ fn exits_that_one_state_lacks_are_noticed() {
 fn bounds_missing_from_pre_and_post_are_noticed() {
     let shown = seeds_that_show(|machines| {
         for location in machines.network.locations.iter_mut().filter(|location| location.urgent) {
-            location.bounds = reference::values::Bounds::NONE;
+            location.bounds = Bounds::NONE;
         }
     });
     assert!(shown > 0, "{shown}");

@@ -2,14 +2,14 @@
 
 use std::collections::BTreeSet;
 
-use reference::chart::Chart;
-use reference::coverage::{features, operation_name, Features};
-use reference::faulty::all_faulty;
-use reference::longest_reason::Reason;
-use reference::refusal::Refusal;
-use reference::request::Request;
-use reference::special_sensors;
-use reference::text_form::{answer_line, request_from_text, request_to_text, MALFORMED};
+use reference::coverage::features::{features, operation_name, Features};
+use reference::coverage::longest_reason::Reason;
+use reference::forms::request::Request;
+use reference::forms::text::{answer_line, request_from_text, request_to_text, MALFORMED};
+use reference::generate::faulty::all_faulty;
+use reference::generate::special_sensors;
+use reference::model::chart::Chart;
+use reference::model::refusal::Refusal;
 
 const REQUESTS: &str = include_str!("../vectors/text.requests");
 const ANSWERS: &str = include_str!("../vectors/text.answers");

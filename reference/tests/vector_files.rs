@@ -8,16 +8,16 @@ use std::fs;
 use std::path::Path;
 use std::sync::OnceLock;
 
-use reference::binary_form::{
+use reference::coverage::features::Counts;
+use reference::coverage::longest_reason::Reason;
+use reference::forms::binary::{
     answer_to_lines, any_request_to_bytes, requests_from_bytes, AnyRequest,
 };
-use reference::coverage::Counts;
-use reference::faulty::{all_faulty, Faulty};
-use reference::generate_completion::few_completion_requests;
-use reference::longest_reason::Reason;
-use reference::refusal::Refusal;
-use reference::request::Request;
-use reference::vector_files::{
+use reference::forms::request::Request;
+use reference::generate::completion::few_completion_requests;
+use reference::generate::faulty::{all_faulty, Faulty};
+use reference::model::refusal::Refusal;
+use reference::runs::vector_files::{
     vector_file, Part, VectorFile, MOST_INPUT_BYTES, MOST_OUTPUT_BYTES, MOST_TICKS, WINDOW,
 };
 

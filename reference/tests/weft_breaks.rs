@@ -3,17 +3,17 @@
 
 mod committed;
 
-use reference::binary_form::{any_request_to_bytes, requests_from_bytes, AnyRequest};
-use reference::coverage::{features, Features};
-use reference::generate_breaks::{all_short_requests, breaks_requests};
-use reference::random::Random;
-use reference::refusal::Refusal;
-use reference::request::{Request, Success};
-use reference::special_breaks::{
+use reference::coverage::features::{features, Features};
+use reference::forms::binary::{any_request_to_bytes, requests_from_bytes, AnyRequest};
+use reference::forms::request::{Request, Success};
+use reference::forms::text::{answer_line, request_to_text, MALFORMED};
+use reference::generate::breaks::{all_short_requests, breaks_requests};
+use reference::generate::random::Random;
+use reference::generate::special_breaks::{
     at_both_ends, denser, evenly_apart, examples, long_lists, Example, APART, MILLION,
 };
-use reference::text_form::{answer_line, request_to_text, MALFORMED};
-use reference::weft_breaks::{weft_breaks, Breaks};
+use reference::model::refusal::Refusal;
+use reference::model::weft_breaks::{weft_breaks, Breaks};
 
 use committed::vectors;
 

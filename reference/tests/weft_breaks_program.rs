@@ -9,12 +9,14 @@ use std::process::{Child, Command, Stdio};
 use std::thread::sleep;
 use std::time::Duration;
 
-use reference::generate_breaks::breaks_requests;
-use reference::random::Random;
-use reference::refusal::Refusal;
-use reference::request::Request;
-use reference::special_breaks::{at_both_ends, evenly_apart, examples, long_lists, APART, MILLION};
-use reference::weft_breaks::{weft_breaks, Breaks};
+use reference::forms::request::Request;
+use reference::generate::breaks::breaks_requests;
+use reference::generate::random::Random;
+use reference::generate::special_breaks::{
+    at_both_ends, evenly_apart, examples, long_lists, APART, MILLION,
+};
+use reference::model::refusal::Refusal;
+use reference::model::weft_breaks::{weft_breaks, Breaks};
 
 /// How many breaks the program counts in a window at most.
 const ROOM: usize = 65_536;

@@ -2,10 +2,12 @@
 
 use std::io::{self, BufRead, BufWriter, Write};
 
+use reference::forms::text::answer_line;
+
 fn main() -> io::Result<()> {
     let mut output = BufWriter::new(io::stdout().lock());
     for line in io::stdin().lock().lines() {
-        writeln!(output, "{}", reference::text_form::answer_line(&line?))?;
+        writeln!(output, "{}", answer_line(&line?))?;
     }
     output.flush()
 }

@@ -3,7 +3,7 @@
 use std::io::{self, Read, Write};
 use std::process::ExitCode;
 
-use reference::description::assemble;
+use reference::forms::description::assemble;
 
 fn main() -> io::Result<ExitCode> {
     let mut text = String::new();

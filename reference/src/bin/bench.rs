@@ -16,20 +16,22 @@ use std::hint::black_box;
 use std::process::ExitCode;
 use std::time::{Duration, Instant};
 
-use reference::chart::Chart;
-use reference::check::check;
-use reference::coverage::operation_name;
-use reference::flatten::{flatten, network_of};
-use reference::generate::{chart_from_wish, Wish};
-use reference::random::Random;
-use reference::refusal::Refusal;
-use reference::request::{Request, Success};
-use reference::special;
-use reference::special_breaks::{long_lists, MILLION};
-use reference::special_completion::{broadcast_step, completion_charts, plain_step};
-use reference::special_sensors;
-use reference::walk::{chart_requests, network_requests};
-use reference::weft_breaks::{weft_breaks, Breaks};
+use reference::coverage::features::operation_name;
+use reference::forms::request::{Request, Success};
+use reference::generate::charts::{chart_from_wish, Wish};
+use reference::generate::random::Random;
+use reference::generate::special;
+use reference::generate::special_breaks::{long_lists, MILLION};
+use reference::generate::special_completion::{broadcast_step, completion_charts, plain_step};
+use reference::generate::special_sensors;
+use reference::generate::walk::{chart_requests, network_requests};
+use reference::model::chart::Chart;
+use reference::model::check::check;
+use reference::model::flatten::{flatten, network_of};
+use reference::model::refusal::Refusal;
+use reference::model::weft_breaks::{weft_breaks, Breaks};
+#[cfg(feature = "proved")]
+use reference::runs::proved;
 
 /// Something that answers requests, flattens into a buffer, and counts weft breaks.
 struct Implementation {
@@ -44,9 +46,9 @@ const IMPLEMENTATIONS: &[Implementation] = &[
     #[cfg(feature = "proved")]
     Implementation {
         name: "proved",
-        answer: reference::proved::answer,
-        flatten: reference::proved::flatten,
-        weft_breaks: reference::proved::weft_breaks,
+        answer: proved::answer,
+        flatten: proved::flatten,
+        weft_breaks: proved::weft_breaks,
     },
 ];
 

@@ -7,7 +7,7 @@
 use std::env;
 use std::process::ExitCode;
 
-use reference::compare::Agreed;
+use reference::runs::compare::Agreed;
 
 /// Requests of each kind for one seed.
 const REQUESTS: usize = 20;

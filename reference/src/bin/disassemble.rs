@@ -3,7 +3,7 @@
 use std::io::{self, Read};
 use std::process::ExitCode;
 
-use reference::description::disassemble;
+use reference::forms::description::disassemble;
 
 fn main() -> io::Result<ExitCode> {
     let mut file = Vec::new();

@@ -8,9 +8,9 @@
 use std::env;
 use std::process::ExitCode;
 
-use reference::generate::chart_from_seed;
-use reference::random::Random;
-use reference::side_by_side::{run_both_lists, Machines, Tally};
+use reference::generate::charts::chart_from_seed;
+use reference::generate::random::Random;
+use reference::runs::side_by_side::{run_both_lists, Machines, Tally};
 
 /// Calls of each run.
 const CALLS: usize = 40;

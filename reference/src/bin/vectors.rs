@@ -7,7 +7,7 @@ use std::path::Path;
 use std::process::ExitCode;
 use std::{env, fs, io};
 
-use reference::vector_files::{vector_file, VectorFile};
+use reference::runs::vector_files::{vector_file, VectorFile};
 
 fn main() -> ExitCode {
     let arguments: Vec<String> = env::args().skip(1).collect();

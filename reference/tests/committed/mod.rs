@@ -1,8 +1,8 @@
 //! The committed vectors, as requests.
 
-use reference::binary_form::{requests_from_bytes, AnyRequest};
-use reference::request::Request;
-use reference::text_form::request_from_text;
+use reference::forms::binary::{requests_from_bytes, AnyRequest};
+use reference::forms::request::Request;
+use reference::forms::text::request_from_text;
 
 /// The requests of the text form, and those of the binary form without its runs.
 pub fn vectors() -> [(&'static str, Vec<Request>); 2] {

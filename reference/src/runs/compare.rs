@@ -1,0 +1,142 @@
+//! Requests answered by this implementation and by the proved one, those on networks by both sets
+//! of its functions. The first on which they differ stops the program.
+
+use std::collections::BTreeMap;
+use std::fmt;
+
+use crate::coverage::features::operation_name;
+use crate::forms::request::Request;
+use crate::forms::text::request_to_text;
+use crate::generate::breaks::breaks_requests;
+use crate::generate::charts::chart_from_seed;
+use crate::generate::damage::{damage_chart, damage_file, Form};
+use crate::generate::longest::{chart_longest_requests, network_longest_requests};
+use crate::generate::random::Random;
+use crate::generate::range::{chart_end_requests, network_end_requests};
+use crate::generate::walk::{chart_requests, network_requests};
+use crate::model::chart::Chart;
+use crate::model::chart_machine;
+use crate::model::check::check;
+use crate::model::flatten::network_of;
+use crate::model::network::Network;
+use crate::model::network_machine;
+use crate::model::refusal::Refusal;
+use crate::runs::proved;
+
+/// How many answers agreed, for each operation.
+#[derive(Default)]
+pub struct Agreed {
+    accepted: BTreeMap<&'static str, u64>,
+    refused: BTreeMap<&'static str, u64>,
+    /// How many were refused, for each number.
+    numbers: BTreeMap<u8, u64>,
+}
+
+impl Agreed {
+    pub fn total(&self) -> u64 {
+        self.accepted.values().chain(self.refused.values()).sum()
+    }
+
+    /// How many answers with this number agreed.
+    pub fn refused_with(&self, refusal: Refusal) -> u64 {
+        self.numbers.get(&refusal.number()).copied().unwrap_or(0)
+    }
+
+    pub fn compare(&mut self, request: &Request) {
+        let expected = request.answer();
+        let answer = proved::answer(request);
+        for given in proved::answer_in_place(request).iter().chain([&answer]) {
+            if *given != expected {
+                panic!("{given:?} to\n{}", request_to_text(request));
+            }
+        }
+        if let Err(refusal) = &answer {
+            *self.numbers.entry(refusal.number()).or_insert(0) += 1;
+        }
+        let counts = if answer.is_ok() { &mut self.accepted } else { &mut self.refused };
+        *counts.entry(operation_name(request)).or_insert(0) += 1;
+    }
+
+    /// A chart, runs of it and of its network, longest waits and steps with variables at the ends of
+    /// the range along them, and damaged files: some 19 times `count` requests.
+    pub fn compare_chart(&mut self, chart: &Chart, count: usize, random: &mut Random) {
+        let file = chart.write();
+        self.compare(&Request::Check(file.clone()));
+        let run = chart_requests(chart, count, random);
+        let longest = chart_longest_requests(chart, &run, random);
+        let ends = chart_end_requests(chart, &run, random);
+        for request in run.iter().chain(&longest).chain(&ends) {
+            self.compare(request);
+        }
+        self.compare_flattening(&file, random);
+        for _ in 0..count {
+            let damaged = damage_file(Form::Chart, &file, random);
+            self.compare(&Request::Check(damaged.clone()));
+            self.compare(&Request::ChartStart(damaged.clone()));
+            let start = chart_machine::start(chart);
+            self.compare(&Request::ChartLongest(damaged.clone(), start));
+            self.compare(&Request::Flatten(damaged, random.below(6_000) as u32));
+            let damaged = damage_chart(chart, random).write();
+            self.compare(&Request::Check(damaged.clone()));
+            self.compare_flattening(&damaged, random);
+        }
+        if let Ok(network) = network_of(chart) {
+            self.compare_network(&network, count, random);
+        }
+    }
+
+    /// Flattening of a file into buffers that just fit, are too short, and are longer.
+    fn compare_flattening(&mut self, file: &[u8], random: &mut Random) {
+        let length = match check(file).and_then(|chart| network_of(&chart)) {
+            Ok(network) => network.write().len(),
+            Err(_) => 0,
+        };
+        let shorter = random.below(length + 1);
+        let longer = length + random.below(300);
+        for room in [length, length.saturating_sub(1), shorter, longer] {
+            self.compare(&Request::Flatten(file.to_vec(), room as u32));
+        }
+    }
+
+    fn compare_network(&mut self, network: &Network, count: usize, random: &mut Random) {
+        let file = network.write();
+        let run = network_requests(network, count, random);
+        let longest = network_longest_requests(network, &run, random);
+        let ends = network_end_requests(network, &run, random);
+        for request in run.iter().chain(&longest).chain(&ends) {
+            self.compare(request);
+        }
+        for _ in 0..count {
+            let damaged = damage_file(Form::Network, &file, random);
+            self.compare(&Request::NetworkStart(damaged.clone()));
+            let start = network_machine::start(network);
+            self.compare(&Request::NetworkLongest(damaged, start));
+        }
+    }
+
+    /// So many random lists of weft breaks.
+    pub fn compare_breaks(&mut self, count: usize, random: &mut Random) {
+        for request in breaks_requests(count, random) {
+            self.compare(&request);
+        }
+    }
+
+    /// The chart of a seed with what `compare_chart` makes of it, and lists of weft breaks.
+    pub fn compare_seed(&mut self, seed: u64, count: usize) {
+        let mut random = Random::new(seed);
+        self.compare_chart(&chart_from_seed(seed), count, &mut random);
+        self.compare_breaks(count, &mut random);
+    }
+}
+
+impl fmt::Display for Agreed {
+    fn fmt(&self, formatter: &mut fmt::Formatter) -> fmt::Result {
+        writeln!(formatter, "{:<20}{:>12}{:>12}", "operation", "accepted", "refused")?;
+        for (name, accepted) in &self.accepted {
+            let refused = self.refused.get(name).unwrap_or(&0);
+            writeln!(formatter, "{name:<20}{accepted:>12}{refused:>12}")?;
+        }
+        writeln!(formatter, "refused, by number: {:?}", self.numbers)?;
+        write!(formatter, "{} calls agreed", self.total())
+    }
+}
