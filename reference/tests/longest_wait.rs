@@ -23,7 +23,8 @@ use reference::model::refusal::Refusal;
 use reference::model::values::{ticks_left, Bounds};
 use reference::model::version::Version;
 use reference::runs::longest::{is_longest_of_chart, is_longest_of_network, LongestWaits};
-use reference::runs::side_by_side::{run_both_lists, Machines};
+use reference::runs::moment::Machines;
+use reference::runs::side_by_side::run_both_lists;
 
 use committed::vectors;
 

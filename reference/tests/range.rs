@@ -28,7 +28,8 @@ use reference::model::refusal::Refusal;
 use reference::model::update::{Assignment, Update};
 use reference::model::values::Values;
 use reference::model::version::Version;
-use reference::runs::side_by_side::{run_both_lists, Machines};
+use reference::runs::moment::Machines;
+use reference::runs::side_by_side::run_both_lists;
 use reference::runs::steps::Steps;
 
 use committed::vectors;

@@ -7,6 +7,7 @@ use reference::coverage::longest_reason::Reason;
 use reference::coverage::longest_tally::LongestTally;
 use reference::coverage::range_tally::RangeTally;
 use reference::coverage::sensors::{has_sensors, plain_states, with_marked_choices};
+use reference::coverage::tally::Tally;
 use reference::generate::charts::chart_from_seed;
 use reference::generate::damage::damage_chart;
 use reference::generate::random::Random;
@@ -27,7 +28,9 @@ use reference::model::refusal::Refusal;
 use reference::model::update::{Advance, Update};
 use reference::model::values::Bounds;
 use reference::model::version::Version;
-use reference::runs::side_by_side::{run_both_lists, Failure, Machines, Tally};
+use reference::runs::clauses::Failure;
+use reference::runs::moment::Machines;
+use reference::runs::side_by_side::run_both_lists;
 
 const CHARTS: u64 = 2_000;
 const CALLS: usize = 40;

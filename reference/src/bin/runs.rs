@@ -8,9 +8,11 @@
 use std::env;
 use std::process::ExitCode;
 
+use reference::coverage::tally::Tally;
 use reference::generate::charts::chart_from_seed;
 use reference::generate::random::Random;
-use reference::runs::side_by_side::{run_both_lists, Machines, Tally};
+use reference::runs::moment::Machines;
+use reference::runs::side_by_side::run_both_lists;
 
 /// Calls of each run.
 const CALLS: usize = 40;

@@ -22,7 +22,7 @@ use crate::model::network_machine;
 use crate::model::refusal::Refusal;
 use crate::model::update::{Advance, Update};
 use crate::model::values::Values;
-use crate::runs::side_by_side::{Call, Machines};
+use crate::runs::moment::{Call, Machines};
 
 /// A set of features, each in words.
 pub type Features = BTreeSet<String>;

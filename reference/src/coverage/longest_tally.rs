@@ -6,7 +6,7 @@ use crate::coverage::longest_reason::{less_by_inactive_state, Reason};
 use crate::model::chart::Chart;
 use crate::model::chart_machine::ChartConfiguration;
 use crate::model::network::Network;
-use crate::model::network_machine::NetworkConfiguration;
+use crate::model::network_machine::{self, NetworkConfiguration};
 
 /// Counts, each over some runs.
 #[derive(Clone, PartialEq, Eq, Debug, Default)]
@@ -44,6 +44,26 @@ impl LongestTally {
         *self.of_networks.entry(reason).or_insert(0) += 1;
     }
 
+    /// Counts an accepted wait of a network.
+    pub fn count_accepted_wait(
+        &mut self,
+        network: &Network,
+        given: &NetworkConfiguration,
+        ticks: u32,
+    ) {
+        self.waited += u64::from(is_longest_with(0, network, given, ticks));
+    }
+
+    /// Counts a refused wait of a network.
+    pub fn count_refused_wait(
+        &mut self,
+        network: &Network,
+        given: &NetworkConfiguration,
+        ticks: u32,
+    ) {
+        self.one_more_refused += u64::from(is_longest_with(1, network, given, ticks));
+    }
+
     pub fn add(&mut self, other: &LongestTally) {
         add_counts(&mut self.of_charts, &other.of_charts);
         add_counts(&mut self.of_networks, &other.of_networks);
@@ -54,6 +74,12 @@ impl LongestTally {
         self.waited += other.waited;
         self.one_more_refused += other.one_more_refused;
     }
+}
+
+/// Whether ticks are so many more than a network's longest wait.
+fn is_longest_with(more: u32, network: &Network, given: &NetworkConfiguration, ticks: u32) -> bool {
+    let longest = network_machine::longest_wait(network, given);
+    ticks == longest.map_or(0, |longest| longest.saturating_add(more))
 }
 
 fn add_counts(counts: &mut BTreeMap<Reason, u64>, others: &BTreeMap<Reason, u64>) {

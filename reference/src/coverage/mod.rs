@@ -12,3 +12,4 @@ pub mod range_tally;
 pub mod sensor_features;
 pub mod sensor_tally;
 pub mod sensors;
+pub mod tally;

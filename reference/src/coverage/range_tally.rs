@@ -11,9 +11,11 @@ use crate::model::chart_machine::{self, ChartConfiguration};
 use crate::model::expression::Expression;
 use crate::model::guard::{Guard, Relation};
 use crate::model::label::{Label, Signal};
+use crate::model::network_machine::NetworkConfiguration;
 use crate::model::refusal::Refusal;
 use crate::model::update::Update;
 use crate::model::values::Values;
+use crate::runs::moment::Machines;
 
 /// Counts, each over some runs. Where a clause is tested after every call, each test counts.
 #[derive(Clone, PartialEq, Eq, Debug, Default)]
@@ -107,9 +109,22 @@ impl RangeTally {
         self.guards_of_receivers += other.guards_of_receivers;
     }
 
-    /// Counts a list of transitions that is matched by one of edges, with the answer of both.
-    pub fn count_matched(&mut self, number: u8) {
+    /// Counts a list of transitions that is matched by one of edges, with the number that both get.
+    pub fn count_matched(
+        &mut self,
+        machines: &Machines,
+        given: &ChartConfiguration,
+        list: &[u16],
+        number: u8,
+    ) {
         add_one(&mut self.matched, number);
+        let labels = machines.chart_labels(list);
+        if number == Refusal::RangeLeft.number() {
+            let bound_broken = machines.range.breaks_bound(given, list);
+            self.count_range_left(&labels, &given.values, bound_broken);
+        } else if number == 0 {
+            self.count_accepted(&labels, &given.values);
+        }
     }
 
     pub fn count_matched_from_chart(&mut self, number: u8) {
@@ -117,7 +132,7 @@ impl RangeTally {
     }
 
     /// Counts why the updates of these labels, which are those of one list, are refused with 28.
-    pub fn count_refused(&mut self, labels: &[&Label], values: &Values, bound_broken: bool) {
+    fn count_range_left(&mut self, labels: &[&Label], values: &Values, bound_broken: bool) {
         self.bound_broken_too += u64::from(bound_broken);
         let updates = labels.iter().flat_map(|label| &label.updates);
         for update in updates.filter(|update| leaves(update, values)) {
@@ -133,7 +148,7 @@ impl RangeTally {
     }
 
     /// Counts the advances of an accepted list.
-    pub fn count_accepted(&mut self, labels: &[&Label], values: &Values) {
+    fn count_accepted(&mut self, labels: &[&Label], values: &Values) {
         let updates = labels.iter().flat_map(|label| &label.updates);
         let passes = |update: &&Update| {
             let advance = update.as_advance();
@@ -142,8 +157,42 @@ impl RangeTally {
         self.sums_passed += u64::from(updates.filter(passes).count() > 0);
     }
 
-    /// Counts the guards of a transition whose source is active.
-    pub fn count_guards(&mut self, label: &Label, values: &Values) {
+    /// Counts a list of transitions that the chart refuses.
+    pub fn count_refused_of_chart(
+        &mut self,
+        machines: &Machines,
+        given: &ChartConfiguration,
+        list: &[u16],
+        refusal: Refusal,
+    ) {
+        let leaves = refusal == Refusal::NotAllowed
+            && any_leaves(machines.chart_labels(list), &given.values);
+        self.not_allowed_of_chart += u64::from(leaves);
+    }
+
+    /// Counts a list of edges that the network refuses.
+    pub fn count_refused_of_network(
+        &mut self,
+        machines: &Machines,
+        given: &NetworkConfiguration,
+        list: &[u16],
+        refusal: Refusal,
+    ) {
+        let leaves = refusal == Refusal::NotAllowed
+            && any_leaves(machines.network_labels(list), &given.values);
+        self.not_allowed_of_network += u64::from(leaves);
+    }
+
+    /// Counts the guards that do not hold because of the range, of transitions whose source is active.
+    pub fn count_active_guards(&mut self, chart: &Chart, given: &ChartConfiguration) {
+        for transition in &chart.transitions {
+            if given.active[transition.source] {
+                self.count_guards(&transition.label, &given.values);
+            }
+        }
+    }
+
+    fn count_guards(&mut self, label: &Label, values: &Values) {
         for guard in label.guards.iter().filter(|guard| has_no_value(guard, values)) {
             let Guard::Data { relation, left, right } = guard else {
                 continue;
@@ -181,6 +230,6 @@ impl RangeFacts {
 }
 
 /// Whether some update of these labels would leave the range.
-pub fn any_leaves<'a>(labels: impl IntoIterator<Item = &'a Label>, values: &Values) -> bool {
+fn any_leaves(labels: Vec<&Label>, values: &Values) -> bool {
     labels.into_iter().any(|label| label_leaves(label, values))
 }

@@ -13,7 +13,7 @@ use crate::model::layout::{Layout, Place};
 use crate::model::network::{Edge, Network};
 use crate::model::refusal::Refusal;
 use crate::model::values::Bounds;
-use crate::runs::side_by_side::{Call, Machines};
+use crate::runs::moment::{Call, Machines};
 
 /// The states of a chart that passes.
 pub fn add_states(chart: &Chart, found: &mut Features) {

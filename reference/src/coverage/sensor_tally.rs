@@ -7,7 +7,9 @@ use crate::coverage::sensors::{
 use crate::model::chart::{Chart, Kind, Transition, ROOT};
 use crate::model::chart_machine::{self, ChartConfiguration};
 use crate::model::network::Network;
+use crate::model::refusal::Refusal;
 use crate::model::values::Bounds;
+use crate::runs::moment::Machines;
 
 /// Counts, each over some runs.
 #[derive(Clone, PartialEq, Eq, Debug, Default)]
@@ -55,6 +57,36 @@ impl SensorTally {
         self.plain_exits_shut += other.plain_exits_shut;
         self.exits_shut += other.exits_shut;
         self.waits_refused += other.waits_refused;
+    }
+
+    /// Counts an accepted move, by its edges and by the transitions that they carry.
+    pub fn count_move(&mut self, machines: &Machines, list: &[u16], carried: &[u16]) {
+        let Machines { chart, network, sensors, .. } = machines;
+        let tests_nothing =
+            |&number: &u16| tests_nothing(chart, &network.edges[usize::from(number)]);
+        let to_plain = |&number: &u16| sensors.leads_to_plain(chart, usize::from(number));
+        self.moves_without_test += u64::from(list.iter().any(tests_nothing));
+        self.moves_to_plain += u64::from(carried.iter().any(to_plain));
+    }
+
+    /// Counts the exits that sensors keep shut in a configuration of the chart.
+    pub fn count_exits_shut(&mut self, machines: &Machines, given: &ChartConfiguration) {
+        let (of_plain, of_others) = machines.sensors.exits_shut(&machines.chart, given);
+        self.plain_exits_shut += of_plain;
+        self.exits_shut += of_others;
+    }
+
+    /// Counts a wait that is refused in a configuration of the chart, if that is for a bound.
+    pub fn count_refused_wait(
+        &mut self,
+        machines: &Machines,
+        given: &ChartConfiguration,
+        ticks: u32,
+        refusal: Refusal,
+    ) {
+        let by_sensor =
+            refusal == Refusal::BoundBroken && machines.sensors.refuse_wait(given, ticks);
+        self.waits_refused += u64::from(by_sensor);
     }
 }
 

@@ -12,7 +12,7 @@ use crate::model::network_machine::NetworkConfiguration;
 use crate::model::reader::{Fault, Reader};
 use crate::model::refusal::Refusal;
 use crate::model::values::Values;
-use crate::runs::side_by_side::Call;
+use crate::runs::moment::Call;
 
 /// The operation that runs a chart and its network side by side.
 const RUN: u8 = 8;

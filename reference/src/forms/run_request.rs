@@ -5,7 +5,7 @@ use crate::model::chart_machine::ChartConfiguration;
 use crate::model::check::check;
 use crate::model::network_machine::NetworkConfiguration;
 use crate::model::refusal::Refusal;
-use crate::runs::side_by_side::{Call, Machines, Moment};
+use crate::runs::moment::{Call, Machines, Moment};
 
 /// The length of the buffer that the network is written to.
 const ROOM: u32 = 65_536;

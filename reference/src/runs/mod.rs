@@ -2,9 +2,11 @@
 //! tested; the choice of the vectors for programs; and, with the feature `proved`, the proved
 //! implementation and its comparison with this one.
 
+pub mod clauses;
 #[cfg(feature = "proved")]
 pub mod compare;
 pub mod longest;
+pub mod moment;
 #[cfg(feature = "proved")]
 pub mod proved;
 pub mod side_by_side;

@@ -29,7 +29,8 @@ use crate::model::limits::{ADVANCE_BYTES, LIST};
 use crate::model::network_machine::{self, NetworkConfiguration};
 use crate::model::update::{Advance, Update};
 use crate::model::values::Values;
-use crate::runs::side_by_side::{random_network_list, Call, Machines};
+use crate::runs::moment::{Call, Machines};
+use crate::runs::side_by_side::random_network_list;
 
 /// How many bytes the program holds at a time.
 pub const WINDOW: usize = 131_072;
