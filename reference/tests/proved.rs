@@ -6,6 +6,7 @@ mod committed;
 
 use reference::forms::request::Request;
 use reference::generate::breaks::all_short_requests;
+use reference::generate::charts::chart_from_seed;
 use reference::generate::completion::completion_requests;
 use reference::generate::random::Random;
 use reference::generate::special;
@@ -61,6 +62,21 @@ fn charts_at_the_limits_agree() {
     agreed.compare(&Request::Flatten(refused.clone(), 1_000));
     agreed.compare(&Request::ChartStart(refused));
     println!("{agreed}");
+}
+
+/// A byte other than 0 and 1 for a state is 17, after the refusals of the check, and what was lent stays as
+/// it was.
+#[test]
+fn bytes_of_active_states_agree() {
+    let mut agreed = Agreed::default();
+    let charts = [special::sample_1(), special::dense()];
+    for chart in charts.into_iter().chain((0..40).map(chart_from_seed)) {
+        agreed.compare_run_with_bytes(&chart, 10, &mut Random::new(1));
+    }
+    println!("{agreed}");
+    assert!(agreed.refused_with(Refusal::ChartConfiguration) > 100_000);
+    let by_check = Refusal::ALL.into_iter().filter(|refusal| refusal.number() <= 14);
+    assert!(by_check.map(|refusal| agreed.refused_with(refusal)).sum::<u64>() > 100_000);
 }
 
 /// Every basic state of the deep and of the wide chart lacks exits in turn.

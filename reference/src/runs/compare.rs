@@ -5,7 +5,7 @@ use std::collections::BTreeMap;
 use std::fmt;
 
 use crate::coverage::features::operation_name;
-use crate::forms::request::Request;
+use crate::forms::request::{Request, Success};
 use crate::forms::text::request_to_text;
 use crate::generate::breaks::breaks_requests;
 use crate::generate::charts::chart_from_seed;
@@ -18,6 +18,7 @@ use crate::model::chart::Chart;
 use crate::model::chart_machine;
 use crate::model::check::check;
 use crate::model::flatten::network_of;
+use crate::model::limits::STATES;
 use crate::model::network::Network;
 use crate::model::network_machine;
 use crate::model::refusal::Refusal;
@@ -50,7 +51,11 @@ impl Agreed {
                 panic!("{given:?} to\n{}", request_to_text(request));
             }
         }
-        if let Err(refusal) = &answer {
+        self.count(request, &answer);
+    }
+
+    fn count(&mut self, request: &Request, answer: &Result<Success, Refusal>) {
+        if let Err(refusal) = answer {
             *self.numbers.entry(refusal.number()).or_insert(0) += 1;
         }
         let counts = if answer.is_ok() { &mut self.accepted } else { &mut self.refused };
@@ -114,6 +119,46 @@ impl Agreed {
         }
     }
 
+    /// Requests of a run of a chart, as `compare_bytes` makes them, of its file and of a damaged one, and
+    /// starts, which take any bytes.
+    pub fn compare_run_with_bytes(&mut self, chart: &Chart, count: usize, random: &mut Random) {
+        let run = chart_requests(chart, count, random);
+        let longest = chart_longest_requests(chart, &run, random);
+        for request in run.iter().chain(&longest) {
+            self.compare_bytes(request);
+            let damaged = damage_file(Form::Chart, &chart.write(), random);
+            self.compare_bytes(&with_file(request, damaged));
+        }
+    }
+
+    /// A request with a chart's configuration, where in turn each state, active or not and declared or not,
+    /// has a byte that is neither 0 nor 1. It is refused as the check refuses the file, else with 17; a start
+    /// is answered as ever. Other requests are left out.
+    fn compare_bytes(&mut self, request: &Request) {
+        let (given, expected) = match request {
+            Request::ChartStart(_) => ([false; STATES], request.answer()),
+            Request::ChartStep(file, given, _)
+            | Request::ChartWait(file, given, _)
+            | Request::ChartLongest(file, given) => {
+                let refusal = check(file).err().unwrap_or(Refusal::ChartConfiguration);
+                (given.active, Err(refusal))
+            }
+            _ => return,
+        };
+        for place in 0..STATES {
+            for byte in [2, 3, 128, 255] {
+                let mut active = given.map(u8::from);
+                active[place] = byte;
+                let answer = proved::answer_with_bytes(request, active);
+                if answer != expected {
+                    let request = request_to_text(request);
+                    panic!("{answer:?} with {byte} for state {place} to\n{request}");
+                }
+                self.count(request, &answer);
+            }
+        }
+    }
+
     /// So many random lists of weft breaks.
     pub fn compare_breaks(&mut self, count: usize, random: &mut Random) {
         for request in breaks_requests(count, random) {
@@ -127,6 +172,19 @@ impl Agreed {
         self.compare_chart(&chart_from_seed(seed), count, &mut random);
         self.compare_breaks(count, &mut random);
     }
+}
+
+/// A request with a chart's configuration, of another file.
+fn with_file(request: &Request, other: Vec<u8>) -> Request {
+    let mut request = request.clone();
+    if let Request::ChartStart(file)
+    | Request::ChartStep(file, ..)
+    | Request::ChartWait(file, ..)
+    | Request::ChartLongest(file, ..) = &mut request
+    {
+        *file = other;
+    }
+    request
 }
 
 impl fmt::Display for Agreed {
