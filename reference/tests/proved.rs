@@ -69,7 +69,7 @@ fn charts_at_the_limits_agree() {
 #[test]
 fn bytes_of_active_states_agree() {
     let mut agreed = Agreed::default();
-    let charts = [special::sample_1(), special::dense()];
+    let charts = [special::sample_1(), special::dense(), special_sensors::most_sensors()];
     for chart in charts.into_iter().chain((0..40).map(chart_from_seed)) {
         agreed.compare_run_with_bytes(&chart, 10, &mut Random::new(1));
     }
