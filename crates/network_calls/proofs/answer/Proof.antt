@@ -10,40 +10,10 @@ use borrow.Author.Needs.{needs}
 use Rattle.network_calls.proofs.answer.Statement.{statement}
 use Rattle.network_calls.proofs.answer.Tie as tie
 
-least-requires : tie.Need-least-requires
-least-requires c κs = search needs
-
-enum-told : tie.Need-enum-told
-enum-told c = search needs
-
-start-requires : tie.Need-start-requires
-start-requires c κs = search needs
-
-enum-told-2 : tie.Need-enum-told-2
-enum-told-2 c = search needs
-
-sub-step : tie.Need-sub-step
-sub-step c = search needs
-
-part-step-start : tie.Need-part-step-start
-part-step-start c = search needs
-
 part-step-end : tie.Need-part-step-end
 part-step-end c =
     let e : length (c .before .before .before .before .before .before .args .line .list) ≡ 17 = search needs in
     omega (arith, e, c .before .before .before .least .ensures)
-
-step-requires : tie.Need-step-requires
-step-requires c κs = search needs
-
-enum-known-call : tie.Need-enum-known-call
-enum-known-call c = search needs
-
-wait-requires : tie.Need-wait-requires
-wait-requires c κs = search needs
-
-wait-requires-2 : tie.Need-wait-requires-2
-wait-requires-2 c κs = search needs
 
 returns : tie.Need-returns
 returns c = let a = c .before .before .before .before .before .before .args in
@@ -70,17 +40,17 @@ pub answer-spec : {M : Type 1} → statement M
 answer-spec =
     tie.close
     (tie.spec
-    least-requires
-    enum-told
-    start-requires
-    enum-told-2
-    sub-step
-    part-step-start
+    (λ c κs. search needs)
+    (λ c. search needs)
+    (λ c κs. search needs)
+    (λ c. search needs)
+    (λ c. search needs)
+    (λ c. search needs)
     part-step-end
-    step-requires
-    enum-known-call
-    wait-requires
-    wait-requires-2
+    (λ c κs. search needs)
+    (λ c. search needs)
+    (λ c κs. search needs)
+    (λ c κs. search needs)
     returns
     returns-2
     returns-3

@@ -10,34 +10,16 @@ use borrow.Author.Needs.{needs}
 use Rattle.run_network.proofs.take_line.Statement.{statement}
 use Rattle.run_network.proofs.take_line.Tie as tie
 
-read-line-requires : tie.Need-read-line-requires
-read-line-requires c κs = search needs
-
-is-call-requires : tie.Need-is-call-requires
-is-call-requires c κs = search needs
-
 returns : tie.Need-returns
 returns c =
     let read = c .before .before .read-line in
     let none = sym (c .before .is-call .ensures) ∙ not-true _ (c .if1 .taken) in
     sym (cond-no _ _ (ap (λ (l : Line). moves (l .call)) (sym (read .ensures)) ∙ unmoved (read .result .call) none))
 
-enum-told : tie.Need-enum-told
-enum-told c = search needs
-
-show-longest-requires : tie.Need-show-longest-requires
-show-longest-requires c κs = search needs
-
 returns-2 : tie.Need-returns-2
 returns-2 c =
     let line = c .before .before .before .before .before .read-line .ensures in
     sym (cond-no _ _ (ap (λ (l : Line). moves (l .call)) (sym line) ∙ ap moves (c .before .enum-told .given .1)))
-
-answer-requires : tie.Need-answer-requires
-answer-requires c κs = search needs
-
-shown-requires : tie.Need-shown-requires
-shown-requires c κs = search needs
 
 returns-3 : tie.Need-returns-3
 returns-3 c =
@@ -54,12 +36,12 @@ pub take-line-spec : {M : Type 1} → statement M
 take-line-spec =
     tie.close
     (tie.spec
-    read-line-requires
-    is-call-requires
+    (λ c κs. search needs)
+    (λ c κs. search needs)
     returns
-    enum-told
-    show-longest-requires
+    (λ c. search needs)
+    (λ c κs. search needs)
     returns-2
-    answer-requires
-    shown-requires
+    (λ c κs. search needs)
+    (λ c κs. search needs)
     returns-3)

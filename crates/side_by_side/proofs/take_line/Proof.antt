@@ -8,24 +8,12 @@ use borrow.Author.Needs.{needs}
 use Rattle.side_by_side.proofs.take_line.Statement.{statement}
 use Rattle.side_by_side.proofs.take_line.Tie as tie
 
-read-line-requires : tie.Need-read-line-requires
-read-line-requires c κs = search needs
-
-is-call-requires : tie.Need-is-call-requires
-is-call-requires c κs = search needs
-
 returns : tie.Need-returns
 returns c = λ d n F.
     let a = c .before .before .before .before .before .before .args in
     let line = lineOf (a .text .now) in
     after-none d n (a .r) (line .call) (numbersOf line)
     (ap (λ (l : Line). isCall (l .call)) (sym (c .before .before .read-line .ensures)) ∙ sym (c .before .is-call .ensures) ∙ not-true _ (c .if1 .taken))
-
-after-call-requires : tie.Need-after-call-requires
-after-call-requires c κs = search needs
-
-show-chart-requires : tie.Need-show-chart-requires
-show-chart-requires c κs = search needs
 
 returns-2 : tie.Need-returns-2
 returns-2 c =
@@ -36,4 +24,4 @@ returns-2 c =
 pub take-line-spec : {M : Type 1} → statement M
 take-line-spec =
     tie.close
-    (tie.spec read-line-requires is-call-requires returns after-call-requires show-chart-requires returns-2)
+    (tie.spec (λ c κs. search needs) (λ c κs. search needs) returns (λ c κs. search needs) (λ c κs. search needs) returns-2)

@@ -19,32 +19,11 @@ ends c = let q = c .before .before .q .given .1 in
     let r = c .before .before .before .before .read-request .ensures in
     (subst (Beyond _) q (r .1 .1), omega (arith, ap requestEnd q, r .1 .0))
 
-loop-holds : tie.Need-loop-holds Inv-loop μ-loop
-loop-holds c = omega arith
-
-read-request-requires : tie.Need-read-request-requires Inv-loop μ-loop
-read-request-requires c κs = search needs
-
-enum-known-q : tie.Need-enum-known-q Inv-loop μ-loop
-enum-known-q c = search needs
-
-answer-requires : tie.Need-answer-requires Inv-loop μ-loop
-answer-requires c κs = search needs
-
 loop-less : tie.Need-loop-less Inv-loop μ-loop
 loop-less c = omega (arith, ends c)
 
 loop-again : tie.Need-loop-again Inv-loop μ-loop
 loop-again c = ends c .1
-
-enum-known-q-2 : tie.Need-enum-known-q-2 Inv-loop μ-loop
-enum-known-q-2 c = search needs
-
-stopped-requires : tie.Need-stopped-requires Inv-loop μ-loop
-stopped-requires c κs = search needs
-
-returns : tie.Need-returns Inv-loop μ-loop
-returns c = omega arith
 
 returns-2 : tie.Need-returns-2 Inv-loop μ-loop
 returns-2 c = c .before .loop .inv
@@ -55,13 +34,13 @@ answer-whole-spec =
     (tie.spec
     Inv-loop
     μ-loop
-    loop-holds
-    read-request-requires
-    enum-known-q
-    answer-requires
+    (λ c. omega arith)
+    (λ c κs. search needs)
+    (λ c. search needs)
+    (λ c κs. search needs)
     loop-less
     loop-again
-    enum-known-q-2
-    stopped-requires
-    returns
+    (λ c. search needs)
+    (λ c κs. search needs)
+    (λ c. omega arith)
     returns-2)

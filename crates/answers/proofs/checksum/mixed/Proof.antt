@@ -15,11 +15,5 @@ cast-y c = record { fits = omega (arith, small c) }
 mul-y : tie.Need-mul-y
 mul-y c = record { fits = omega (arith, small c) }
 
-cast-result : tie.Need-cast-result
-cast-result c = search needs
-
-returns : tie.Need-returns
-returns c = search needs
-
 pub mixed-spec : {M : Type 1} → statement M
-mixed-spec = tie.close (tie.spec cast-y mul-y cast-result returns)
+mixed-spec = tie.close (tie.spec cast-y mul-y (λ c. search needs) (λ c. search needs))

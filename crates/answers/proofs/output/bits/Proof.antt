@@ -9,15 +9,6 @@ use borrow.Author.Needs.{needs}
 use Rattle.answers.proofs.output.bits.Statement.{statement}
 use Rattle.answers.proofs.output.bits.Tie as tie
 
-absolute-requires : tie.Need-absolute-requires
-absolute-requires c κs = search needs
-
-is-negative-requires : tie.Need-is-negative-requires
-is-negative-requires c κs = search needs
-
-sub-result : tie.Need-sub-result
-sub-result c = search needs
-
 -- what is known of the number and its size
 size : (c : tie.After-is-negative) → c .before .absolute .result ≡ natAbs (c .before .before .args .z)
 size c = let s = c .before .before in
@@ -39,4 +30,4 @@ returns-2 c = bits-not _ (c .before .before .before .fits .z .sfits) (sym (sign 
 pub bits-spec : {M : Type 1} → statement M
 bits-spec =
     tie.close
-    (tie.spec absolute-requires is-negative-requires sub-result add-result returns returns-2)
+    (tie.spec (λ c κs. search needs) (λ c κs. search needs) (λ c. search needs) add-result returns returns-2)

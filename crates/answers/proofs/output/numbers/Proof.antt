@@ -14,21 +14,6 @@ abbrev μ-loop : tie.MeasureT-loop
 loop-holds : tie.Need-loop-holds Inv-loop μ-loop
 loop-holds c = tt
 
-mul-listed : tie.Need-mul-listed Inv-loop μ-loop
-mul-listed c = search needs
-
-shared-slice-read-listed : tie.Need-shared-slice-read-listed Inv-loop μ-loop
-shared-slice-read-listed c = search needs
-
-listed-requires : tie.Need-listed-requires Inv-loop μ-loop
-listed-requires c κs = search needs
-
-add-i : tie.Need-add-i Inv-loop μ-loop
-add-i c = omega arith
-
-loop-less : tie.Need-loop-less Inv-loop μ-loop
-loop-less c = omega arith
-
 loop-again : tie.Need-loop-again Inv-loop μ-loop
 loop-again c = tt
 
@@ -42,10 +27,10 @@ numbers-spec =
     Inv-loop
     μ-loop
     loop-holds
-    mul-listed
-    shared-slice-read-listed
-    listed-requires
-    add-i
-    loop-less
+    (λ c. search needs)
+    (λ c. search needs)
+    (λ c κs. search needs)
+    (λ c. omega arith)
+    (λ c. omega arith)
     loop-again
     returns)

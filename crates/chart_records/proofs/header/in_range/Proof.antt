@@ -6,15 +6,6 @@ use borrow.Author.Needs.{needs}
 use Rattle.chart_records.proofs.header.in_range.Statement.{statement}
 use Rattle.chart_records.proofs.header.in_range.Tie as tie
 
-cast-channels : tie.Need-cast-channels
-cast-channels c = search needs
-
-cast-channels-2 : tie.Need-cast-channels-2
-cast-channels-2 c = search needs
-
-add-channels : tie.Need-add-channels
-add-channels c = search needs
-
 returns : tie.Need-returns
 returns c = sym (fails _ (λ t. let r = counts-range _ t in omega arith))
 
@@ -49,9 +40,9 @@ pub in-range-spec : {M : Type 1} → statement M
 in-range-spec =
     tie.close
     (tie.spec
-    cast-channels
-    cast-channels-2
-    add-channels
+    (λ c. search needs)
+    (λ c. search needs)
+    (λ c. search needs)
     returns
     returns-2
     returns-3

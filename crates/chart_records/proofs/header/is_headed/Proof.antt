@@ -13,12 +13,6 @@ returns-2 : tie.Need-returns-2
 unfolding headed
 returns-2 c = rw (le-leb 11 _ (c .before .if1 .left), lt-leb _ 65536 (c .if2 .taken))
 
-shared-slice-read-is-version : tie.Need-shared-slice-read-is-version
-shared-slice-read-is-version c = search needs
-
-is-version-requires : tie.Need-is-version-requires
-is-version-requires c κs = search needs
-
 returns-3 : tie.Need-returns-3
 unfolding headed
 returns-3 c =
@@ -28,21 +22,6 @@ returns-3 c =
       le-leb _ 65536 (at-version .before .before .if2 .left),
       sym (at-version .is-version .ensures) ∙ not-true _ (c .if3 .taken),
     )
-
-shared-slice-read-short-of : tie.Need-shared-slice-read-short-of
-shared-slice-read-short-of c = search needs
-
-shared-slice-read-short-of-2 : tie.Need-shared-slice-read-short-of-2
-shared-slice-read-short-of-2 c = search needs
-
-short-of-requires : tie.Need-short-of-requires
-short-of-requires c κs = search needs
-
-cast-size : tie.Need-cast-size
-cast-size c = search needs
-
-sub-result : tie.Need-sub-result
-sub-result c = search needs
 
 returns-4 : tie.Need-returns-4
 unfolding headed
@@ -62,12 +41,12 @@ is-headed-spec =
     (tie.spec
     returns
     returns-2
-    shared-slice-read-is-version
-    is-version-requires
+    (λ c. search needs)
+    (λ c κs. search needs)
     returns-3
-    shared-slice-read-short-of
-    shared-slice-read-short-of-2
-    short-of-requires
-    cast-size
-    sub-result
+    (λ c. search needs)
+    (λ c. search needs)
+    (λ c κs. search needs)
+    (λ c. search needs)
+    (λ c. search needs)
     returns-4)

@@ -8,18 +8,9 @@ use borrow.Author.Needs.{needs}
 use Rattle.chart_records.proofs.header.read_header.Statement.{statement}
 use Rattle.chart_records.proofs.header.read_header.Tie as tie
 
-is-headed-requires : tie.Need-is-headed-requires
-is-headed-requires c κs = search needs
-
 returns : tie.Need-returns
 unfolding countsOf unless
 returns c = (rw (sym (c .before .is-headed .ensures) ∙ not-true _ (c .if1 .taken)), λ n e. refused-not e)
-
-counts-at-requires : tie.Need-counts-at-requires
-counts-at-requires c κs = search needs
-
-in-range-requires : tie.Need-in-range-requires
-in-range-requires c κs = search needs
 
 returns-2 : tie.Need-returns-2
 unfolding countsOf unless
@@ -35,4 +26,4 @@ returns-3 c = let k = c .before .before in
 pub read-header-spec : {M : Type 1} → statement M
 read-header-spec =
     tie.close
-    (tie.spec is-headed-requires returns counts-at-requires in-range-requires returns-2 returns-3)
+    (tie.spec (λ c κs. search needs) returns (λ c κs. search needs) (λ c κs. search needs) returns-2 returns-3)

@@ -7,22 +7,10 @@ use borrow.Author.Needs.{needs}
 use Rattle.chart_records.proofs.state.bounds_of.Statement.{statement}
 use Rattle.chart_records.proofs.state.bounds_of.Tie as tie
 
-state-place-requires : tie.Need-state-place-requires
-state-place-requires c κs = search needs
-
-add-read-row : tie.Need-add-read-row
-add-read-row c = search needs
-
-cast-read-row : tie.Need-cast-read-row
-cast-read-row c = search needs
-
-read-row-requires : tie.Need-read-row-requires
-read-row-requires c κs = search needs
-
 returns : tie.Need-returns
 returns c = λ k S l. reached-value _ (c .before .read-row .result .row) (c .before .read-row .result .reached) (c .before .read-row .ensures ∙ row-few _ _ (counts-range _ (S .in-range) .clocks-few) ∙ bounds-here S _ l _ (c .before .before .before .state-place .ensures .0))
 
 pub bounds-of-spec : {M : Type 1} → statement M
 bounds-of-spec =
     tie.close
-    (tie.spec state-place-requires add-read-row cast-read-row read-row-requires returns)
+    (tie.spec (λ c κs. search needs) (λ c. search needs) (λ c. search needs) (λ c κs. search needs) returns)

@@ -8,18 +8,9 @@ use Rattle.chart_records.proofs.state.entries_of.Tie as tie
 returns : tie.Need-returns
 returns c = λ k S. sym (ap (λ (x : State). x .entries) (unknown S _ (c .if1 .taken)))
 
-state-place-requires : tie.Need-state-place-requires
-state-place-requires c κs = search needs
-
-add-short-at : tie.Need-add-short-at
-add-short-at c = search needs
-
-short-at-requires : tie.Need-short-at-requires
-short-at-requires c κs = search needs
-
 returns-2 : tie.Need-returns-2
 returns-2 c = λ k S. c .short-at .ensures _ _ (entries-here S _ (c .before .before .if1 .left) _ (c .before .state-place .ensures .0))
 
 pub entries-of-spec : {M : Type 1} → statement M
 entries-of-spec =
-    tie.close (tie.spec returns state-place-requires add-short-at short-at-requires returns-2)
+    tie.close (tie.spec returns (λ c κs. search needs) (λ c. search needs) (λ c κs. search needs) returns-2)

@@ -8,18 +8,9 @@ use Rattle.chart_records.proofs.state.kind_of.Tie as tie
 returns : tie.Need-returns
 returns c = λ k S. sym (ap (λ (x : State). x .kind) (unknown S _ (c .if1 .taken)))
 
-state-place-requires : tie.Need-state-place-requires
-state-place-requires c κs = search needs
-
-add-byte-at : tie.Need-add-byte-at
-add-byte-at c = search needs
-
-byte-at-requires : tie.Need-byte-at-requires
-byte-at-requires c κs = search needs
-
 returns-2 : tie.Need-returns-2
 returns-2 c = λ k S. c .byte-at .ensures ∙ kind-here S _ (c .before .before .if1 .left) _ (c .before .state-place .ensures .0)
 
 pub kind-of-spec : {M : Type 1} → statement M
 kind-of-spec =
-    tie.close (tie.spec returns state-place-requires add-byte-at byte-at-requires returns-2)
+    tie.close (tie.spec returns (λ c κs. search needs) (λ c. search needs) (λ c κs. search needs) returns-2)

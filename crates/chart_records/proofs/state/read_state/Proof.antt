@@ -8,34 +8,10 @@ use borrow.Author.Needs.{needs}
 use Rattle.chart_records.proofs.state.read_state.Statement.{statement}
 use Rattle.chart_records.proofs.state.read_state.Tie as tie
 
-read-byte-requires : tie.Need-read-byte-requires
-read-byte-requires c κs = search needs
-
-enum-known-p : tie.Need-enum-known-p
-enum-known-p c = search needs
-
-enum-told : tie.Need-enum-told
-enum-told c = search needs
-
-byte-fault-requires : tie.Need-byte-fault-requires
-byte-fault-requires c κs = search needs
-
 returns : tie.Need-returns
 unfolding state skipped
 returns c = rw (c .byte-fault .ensures ∙ ap byteFault (c .before .enum-told .given .1))
     (sym (mapped-fault _ (bind-fault _ _ _ (answered (byteOf _) (c .before .before .before .read-byte .ensures .0) (c .before .enum-told .given .1)))))
-
-read-byte-below-requires : tie.Need-read-byte-below-requires
-read-byte-below-requires c κs = search needs
-
-enum-known-k : tie.Need-enum-known-k
-enum-known-k c = search needs
-
-enum-told-2 : tie.Need-enum-told-2
-enum-told-2 c = search needs
-
-byte-fault-requires-2 : tie.Need-byte-fault-requires-2
-byte-fault-requires-2 c κs = search needs
 
 returns-2 : tie.Need-returns-2
 unfolding state skipped
@@ -43,36 +19,12 @@ returns-2 c = rw (c .byte-fault2 .ensures ∙ ap byteFault (c .before .enum-told
     (sym (mapped-fault _ (bind-got _ _ _ (answered (byteOf _) (c .before .before .before .before .before .before .before .read-byte .ensures .0) (c .before .before .before .before .before .p .given .1))
     ∙ bind-fault _ _ _ (answered (byteOf _) (c .before .before .before .read-byte-below .ensures) (c .before .enum-told2 .given .1)))))
 
-read-long-marks-requires : tie.Need-read-long-marks-requires
-read-long-marks-requires c κs = search needs
-
-enum-known-i : tie.Need-enum-known-i
-enum-known-i c = search needs
-
-enum-told-3 : tie.Need-enum-told-3
-enum-told-3 c = search needs
-
-short-fault-requires : tie.Need-short-fault-requires
-short-fault-requires c κs = search needs
-
 returns-3 : tie.Need-returns-3
 unfolding state skipped
 returns-3 c = rw (c .short-fault .ensures ∙ ap shortFault (c .before .enum-told3 .given .1))
     (sym (mapped-fault _ (bind-got _ _ _ (answered (byteOf _) (c .before .before .before .before .before .before .before .before .before .before .before .read-byte .ensures .0) (c .before .before .before .before .before .before .before .before .before .p .given .1))
     ∙ bind-got _ _ _ (answered (byteOf _) (c .before .before .before .before .before .before .before .read-byte-below .ensures) (c .before .before .before .before .before .k .given .1))
     ∙ bind-fault _ _ _ (answered (shortOf _) (c .before .before .before .read-long-marks .ensures) (c .before .enum-told3 .given .1)))))
-
-read-marks-requires : tie.Need-read-marks-requires
-read-marks-requires c κs = search needs
-
-enum-known-o : tie.Need-enum-known-o
-enum-known-o c = search needs
-
-enum-told-4 : tie.Need-enum-told-4
-enum-told-4 c = search needs
-
-byte-fault-requires-3 : tie.Need-byte-fault-requires-3
-byte-fault-requires-3 c κs = search needs
 
 returns-4 : tie.Need-returns-4
 unfolding state skipped
@@ -92,9 +44,6 @@ returns-4 c =
     ∙ bind-got _ _ _ (answered (byteOf _) (read-byte-below .ensures) (k .given .1))
     ∙ bind-got _ _ _ (answered (shortOf _) (read-long-marks .ensures) (i .given .1))
     ∙ bind-fault _ _ _ (answered (byteOf _) (read-marks .ensures) (c .before .enum-told4 .given .1)))))
-
-read-bounds-requires : tie.Need-read-bounds-requires
-read-bounds-requires c κs = search needs
 
 returns-5 : tie.Need-returns-5
 unfolding state skipped
@@ -118,25 +67,25 @@ pub read-state-spec : {M : Type 1} → statement M
 read-state-spec =
     tie.close
     (tie.spec
-    read-byte-requires
-    enum-known-p
-    enum-told
-    byte-fault-requires
+    (λ c κs. search needs)
+    (λ c. search needs)
+    (λ c. search needs)
+    (λ c κs. search needs)
     returns
-    read-byte-below-requires
-    enum-known-k
-    enum-told-2
-    byte-fault-requires-2
+    (λ c κs. search needs)
+    (λ c. search needs)
+    (λ c. search needs)
+    (λ c κs. search needs)
     returns-2
-    read-long-marks-requires
-    enum-known-i
-    enum-told-3
-    short-fault-requires
+    (λ c κs. search needs)
+    (λ c. search needs)
+    (λ c. search needs)
+    (λ c κs. search needs)
     returns-3
-    read-marks-requires
-    enum-known-o
-    enum-told-4
-    byte-fault-requires-3
+    (λ c κs. search needs)
+    (λ c. search needs)
+    (λ c. search needs)
+    (λ c κs. search needs)
     returns-4
-    read-bounds-requires
+    (λ c κs. search needs)
     returns-5)

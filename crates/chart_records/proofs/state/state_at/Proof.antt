@@ -13,18 +13,6 @@ fits : (c : tie.After-known-told) →
     (p .0 ≤ p .1 .0) × (p .1 .0 ≤ length (c .before .before .before .before .before .args .s .now))
 fits c = frame-fits _ (c .before .before .before .read-frame .ensures .1) (c .before .p .given .1)
 
-read-frame-requires : tie.Need-read-frame-requires
-read-frame-requires c κs = search needs
-
-enum-known-p : tie.Need-enum-known-p
-enum-known-p c = search needs
-
-enum-told : tie.Need-enum-told
-enum-told c = search needs
-
-frame-fault-requires : tie.Need-frame-fault-requires
-frame-fault-requires c κs = search needs
-
 returns : tie.Need-returns
 unfolding skipped
 returns c =
@@ -40,14 +28,8 @@ part-read-state-start c = omega (arith, fits c)
 part-read-state-end : tie.Need-part-read-state-end
 part-read-state-end c = omega (arith, fits c)
 
-read-state-requires : tie.Need-read-state-requires
-read-state-requires c κs = search needs
-
 sub-whole : tie.Need-sub-whole
 sub-whole c = fits (c .before .before) .0
-
-whole-requires : tie.Need-whole-requires
-whole-requires c κs = search needs
 
 returns-2 : tie.Need-returns-2
 unfolding skipped
@@ -61,15 +43,15 @@ pub state-at-spec : {M : Type 1} → statement M
 state-at-spec =
     tie.close
     (tie.spec
-    read-frame-requires
-    enum-known-p
-    enum-told
-    frame-fault-requires
+    (λ c κs. search needs)
+    (λ c. search needs)
+    (λ c. search needs)
+    (λ c κs. search needs)
     returns
     sub-read-state
     part-read-state-start
     part-read-state-end
-    read-state-requires
+    (λ c κs. search needs)
     sub-whole
-    whole-requires
+    (λ c κs. search needs)
     returns-2)

@@ -4,11 +4,8 @@ use borrow.Author.Needs.{needs}
 use Rattle.chart_records.proofs.transition.channel_of.Statement.{statement}
 use Rattle.chart_records.proofs.transition.channel_of.Tie as tie
 
-field-at-requires : tie.Need-field-at-requires
-field-at-requires c κs = search needs
-
 returns : tie.Need-returns
 returns c = λ k n L h. c .field-at .ensures ∙ laid-parts L _ h .channel
 
 pub channel-of-spec : {M : Type 1} → statement M
-channel-of-spec = tie.close (tie.spec field-at-requires returns)
+channel-of-spec = tie.close (tie.spec (λ c κs. search needs) returns)

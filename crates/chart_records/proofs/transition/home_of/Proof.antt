@@ -4,15 +4,9 @@ use borrow.Author.Needs.{needs}
 use Rattle.chart_records.proofs.transition.home_of.Statement.{statement}
 use Rattle.chart_records.proofs.transition.home_of.Tie as tie
 
-source-of-requires : tie.Need-source-of-requires
-source-of-requires c κs = search needs
-
-parent-of-requires : tie.Need-parent-of-requires
-parent-of-requires c κs = search needs
-
 returns : tie.Need-returns
 unfolding home parentOf
 returns c = λ k L h. c .parent-of .ensures k (L .stated) ∙ ap (parentOf k) (c .before .source-of .ensures k _ L h)
 
 pub home-of-spec : {M : Type 1} → statement M
-home-of-spec = tie.close (tie.spec source-of-requires parent-of-requires returns)
+home-of-spec = tie.close (tie.spec (λ c κs. search needs) (λ c κs. search needs) returns)

@@ -19,20 +19,8 @@ abbrev μ-loop : tie.MeasureT-loop
 loop-holds : tie.Need-loop-holds Inv-loop μ-loop
 loop-holds c = (omega arith, seen-none _ _ _)
 
-is-child-requires : tie.Need-is-child-requires Inv-loop μ-loop
-is-child-requires c κs = search needs
-
-entries-of-requires : tie.Need-entries-of-requires Inv-loop μ-loop
-entries-of-requires c κs = search needs
-
 returns : tie.Need-returns Inv-loop μ-loop
 returns c = seen-stop _ _ _ _ (c .before .before .before .before .before .before .loop .inv .1) (c .before .before .before .before .if1 .taken) (c .before .before .before .is-child .ensures) (c .before .before .if2 .taken) (c .before .entries-of .ensures) (c .if3 .taken)
-
-add-s : tie.Need-add-s Inv-loop μ-loop
-add-s c = omega arith
-
-loop-less : tie.Need-loop-less Inv-loop μ-loop
-loop-less c = omega arith
 
 loop-again : tie.Need-loop-again Inv-loop μ-loop
 loop-again c =
@@ -43,18 +31,6 @@ loop-again c =
     (λ w. (rw (w .3) (or-lt 16 _ _ (l .0) (omega (arith, w .1 .ok))), seen-more _ _ _ _ (l .1) h f (w .0 .taken) (w .1 .ensures) (w .2 .left) (w .3)))
     (λ w. (omega (arith, w .1), seen-left _ _ _ _ (l .1) h f (w .0 .left) (w .1)))
     (c .if2 .came)
-
-entries-of-requires-2 : tie.Need-entries-of-requires-2 Inv-loop μ-loop
-entries-of-requires-2 c κs = search needs
-
-cast-subset : tie.Need-cast-subset Inv-loop μ-loop
-cast-subset c = omega arith
-
-cast-subset-2 : tie.Need-cast-subset-2 Inv-loop μ-loop
-cast-subset-2 c = omega arith
-
-subset-requires : tie.Need-subset-requires Inv-loop μ-loop
-subset-requires c κs = search needs
 
 returns-2 : tie.Need-returns-2 Inv-loop μ-loop
 returns-2 c = λ k S.
@@ -72,14 +48,14 @@ children-marked-spec =
     Inv-loop
     μ-loop
     loop-holds
-    is-child-requires
-    entries-of-requires
+    (λ c κs. search needs)
+    (λ c κs. search needs)
     returns
-    add-s
-    loop-less
+    (λ c. omega arith)
+    (λ c. omega arith)
     loop-again
-    entries-of-requires-2
-    cast-subset
-    cast-subset-2
-    subset-requires
+    (λ c κs. search needs)
+    (λ c. omega arith)
+    (λ c. omega arith)
+    (λ c κs. search needs)
     returns-2)

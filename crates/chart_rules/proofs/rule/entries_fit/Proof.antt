@@ -6,21 +6,12 @@ use borrow.Author.Needs.{needs}
 use Rattle.chart_rules.proofs.rule.entries_fit.Statement.{statement}
 use Rattle.chart_rules.proofs.rule.entries_fit.Tie as tie
 
-inherits-requires : tie.Need-inherits-requires
-inherits-requires c κs = search needs
-
 returns : tie.Need-returns
 returns c = λ k S. rw (sym (c .before .inherits .ensures k S) ∙ not-true _ (c .if1 .taken))
-
-kind-of-requires : tie.Need-kind-of-requires
-kind-of-requires c κs = search needs
 
 returns-2 : tie.Need-returns-2
 unfolding sequential implies
 returns-2 c = λ k S. rw (sym (c .before .before .before .inherits .ensures k S) ∙ not-false _ (c .before .before .if1 .left), ← c .before .kind-of .ensures k S, ne-eqb _ 1 (c .if2 .taken))
-
-children-marked-requires : tie.Need-children-marked-requires
-children-marked-requires c κs = search needs
 
 returns-3 : tie.Need-returns-3
 unfolding sequential implies
@@ -30,9 +21,9 @@ pub entries-fit-spec : {M : Type 1} → statement M
 entries-fit-spec =
     tie.close
     (tie.spec
-    inherits-requires
+    (λ c κs. search needs)
     returns
-    kind-of-requires
+    (λ c κs. search needs)
     returns-2
-    children-marked-requires
+    (λ c κs. search needs)
     returns-3)

@@ -13,9 +13,6 @@ Inv-loop rest counts s₀ s = Tested entriesFit rest counts s
 abbrev μ-loop : tie.MeasureT-loop
 μ-loop rest counts s₀ s = counts .states - s
 
-entries-of-requires : tie.Need-entries-of-requires Inv-loop μ-loop
-entries-of-requires c κs = search needs
-
 returns : tie.Need-returns Inv-loop μ-loop
 unfolding entryMarks
 returns c = λ k S. rw (← c .before .entries-of .ensures k S, ne-eqb _ 1 (c .if1 .taken))
@@ -23,19 +20,10 @@ returns c = λ k S. rw (← c .before .entries-of .ensures k S, ne-eqb _ 1 (c .i
 loop-holds : tie.Need-loop-holds Inv-loop μ-loop
 loop-holds c = tested-none entriesFit _ _
 
-entries-fit-requires : tie.Need-entries-fit-requires Inv-loop μ-loop
-entries-fit-requires c κs = search needs
-
 returns-2 : tie.Need-returns-2 Inv-loop μ-loop
 unfolding entryMarks
 returns-2 c = λ k S. rw (← c .before .before .before .before .before .before .entries-of .ensures k S, eq-eqb _ 1 (c .before .before .before .before .before .if1 .left))
     (tested-stop entriesFit _ _ (c .before .before .before .before .loop .inv) (c .before .before .if2 .taken) (c .before .entries-fit .ensures) (not-true _ (c .if3 .taken)) k S)
-
-add-s : tie.Need-add-s Inv-loop μ-loop
-add-s c = omega arith
-
-loop-less : tie.Need-loop-less Inv-loop μ-loop
-loop-less c = omega arith
 
 loop-again : tie.Need-loop-again Inv-loop μ-loop
 loop-again c = tested-more entriesFit _ _ (c .before .before .before .before .loop .inv) (c .before .before .if2 .taken) (c .before .entries-fit .ensures) (not-false _ (c .if3 .left))
@@ -51,12 +39,12 @@ entry-marks-spec =
     (tie.spec
     Inv-loop
     μ-loop
-    entries-of-requires
+    (λ c κs. search needs)
     returns
     loop-holds
-    entries-fit-requires
+    (λ c κs. search needs)
     returns-2
-    add-s
-    loop-less
+    (λ c. omega arith)
+    (λ c. omega arith)
     loop-again
     returns-3)

@@ -16,17 +16,8 @@ abbrev μ-loop : tie.MeasureT-loop
 loop-holds : tie.Need-loop-holds Inv-loop μ-loop
 loop-holds c = sought-none (λ k. isChild k _) _ _
 
-is-child-requires : tie.Need-is-child-requires Inv-loop μ-loop
-is-child-requires c κs = search needs
-
 returns : tie.Need-returns Inv-loop μ-loop
 returns c = λ k S. sought-stop (λ k. isChild k _) _ _ (c .before .before .before .before .loop .inv) (c .before .before .if1 .taken) (c .before .is-child .ensures) (c .if2 .taken) k S ∙ sym (child-sought k _)
-
-add-s : tie.Need-add-s Inv-loop μ-loop
-add-s c = omega arith
-
-loop-less : tie.Need-loop-less Inv-loop μ-loop
-loop-less c = omega arith
 
 loop-again : tie.Need-loop-again Inv-loop μ-loop
 loop-again c = sought-more (λ k. isChild k _) _ _ (c .before .before .before .before .loop .inv) (c .before .before .if1 .taken) (c .before .is-child .ensures) (c .if2 .left)
@@ -41,9 +32,9 @@ has-child-spec =
     Inv-loop
     μ-loop
     loop-holds
-    is-child-requires
+    (λ c κs. search needs)
     returns
-    add-s
-    loop-less
+    (λ c. omega arith)
+    (λ c. omega arith)
     loop-again
     returns-2)

@@ -8,21 +8,9 @@ use Rattle.chart_rules.proofs.rule.inherits.Tie as tie
 returns : tie.Need-returns
 returns c = λ k S. rw (eq-eqb _ 0 (c .if1 .taken))
 
-parent-of-requires : tie.Need-parent-of-requires
-parent-of-requires c κs = search needs
-
-kind-of-requires : tie.Need-kind-of-requires
-kind-of-requires c κs = search needs
-
 returns-2 : tie.Need-returns-2
 unfolding parallel parentOf implies
 returns-2 c = λ k S. rw (ne-eqb _ 0 (c .before .before .before .if1 .left), ← c .before .before .parent-of .ensures k S, ← c .before .kind-of .ensures k S, ne-eqb _ 2 (c .if2 .taken))
-
-entries-of-requires : tie.Need-entries-of-requires
-entries-of-requires c κs = search needs
-
-entries-of-requires-2 : tie.Need-entries-of-requires-2
-entries-of-requires-2 c κs = search needs
 
 returns-3 : tie.Need-returns-3
 unfolding parallel parentOf implies
@@ -45,9 +33,9 @@ inherits-spec =
     tie.close
     (tie.spec
     returns
-    parent-of-requires
-    kind-of-requires
+    (λ c κs. search needs)
+    (λ c κs. search needs)
     returns-2
-    entries-of-requires
-    entries-of-requires-2
+    (λ c κs. search needs)
+    (λ c κs. search needs)
     returns-3)

@@ -4,9 +4,6 @@ use borrow.Author.Needs.{needs}
 use Rattle.chart_rules.proofs.rule.is_child.Statement.{statement}
 use Rattle.chart_rules.proofs.rule.is_child.Tie as tie
 
-parent-of-requires : tie.Need-parent-of-requires
-parent-of-requires c κs = search needs
-
 returns : tie.Need-returns
 unfolding parentOf
 returns c = λ k S. rw (ne-eqb _ 0 (c .before .if1 .taken), ← c .parent-of .ensures k S)
@@ -15,4 +12,4 @@ returns-2 : tie.Need-returns-2
 returns-2 c = λ k S. rw (eq-eqb _ 0 (c .if1 .left))
 
 pub is-child-spec : {M : Type 1} → statement M
-is-child-spec = tie.close (tie.spec parent-of-requires returns returns-2)
+is-child-spec = tie.close (tie.spec (λ c κs. search needs) returns returns-2)

@@ -5,21 +5,12 @@ use borrow.Author.Needs.{needs}
 use Rattle.chart_rules.proofs.rule.is_placed.Statement.{statement}
 use Rattle.chart_rules.proofs.rule.is_placed.Tie as tie
 
-parent-fits-requires : tie.Need-parent-fits-requires
-parent-fits-requires c κs = search needs
-
 returns : tie.Need-returns
 returns c = λ k S. rw (sym (c .before .parent-fits .ensures k S) ∙ not-true _ (c .if1 .taken))
-
-kind-of-requires : tie.Need-kind-of-requires
-kind-of-requires c κs = search needs
 
 returns-2 : tie.Need-returns-2
 unfolding basic
 returns-2 c = λ k S. rw (sym (c .before .before .before .parent-fits .ensures k S) ∙ not-false _ (c .before .before .if1 .left), ← c .before .kind-of .ensures k S, eq-eqb _ 0 (c .if2 .taken))
-
-has-child-requires : tie.Need-has-child-requires
-has-child-requires c κs = search needs
 
 returns-3 : tie.Need-returns-3
 unfolding basic
@@ -28,4 +19,4 @@ returns-3 c = λ k S. rw (sym (c .before .before .before .before .parent-fits .e
 pub is-placed-spec : {M : Type 1} → statement M
 is-placed-spec =
     tie.close
-    (tie.spec parent-fits-requires returns kind-of-requires returns-2 has-child-requires returns-3)
+    (tie.spec (λ c κs. search needs) returns (λ c κs. search needs) returns-2 (λ c κs. search needs) returns-3)

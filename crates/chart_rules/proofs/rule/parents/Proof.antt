@@ -16,18 +16,9 @@ abbrev μ-loop : tie.MeasureT-loop
 loop-holds : tie.Need-loop-holds Inv-loop μ-loop
 loop-holds c = tested-none placed _ _
 
-is-placed-requires : tie.Need-is-placed-requires Inv-loop μ-loop
-is-placed-requires c κs = search needs
-
 returns : tie.Need-returns Inv-loop μ-loop
 unfolding parents
 returns c = tested-stop placed _ _ (c .before .before .before .before .loop .inv) (c .before .before .if1 .taken) (c .before .is-placed .ensures) (not-true _ (c .if2 .taken))
-
-add-s : tie.Need-add-s Inv-loop μ-loop
-add-s c = omega arith
-
-loop-less : tie.Need-loop-less Inv-loop μ-loop
-loop-less c = omega arith
 
 loop-again : tie.Need-loop-again Inv-loop μ-loop
 loop-again c = tested-more placed _ _ (c .before .before .before .before .loop .inv) (c .before .before .if1 .taken) (c .before .is-placed .ensures) (not-false _ (c .if2 .left))
@@ -43,9 +34,9 @@ parents-spec =
     Inv-loop
     μ-loop
     loop-holds
-    is-placed-requires
+    (λ c κs. search needs)
     returns
-    add-s
-    loop-less
+    (λ c. omega arith)
+    (λ c. omega arith)
     loop-again
     returns-2)

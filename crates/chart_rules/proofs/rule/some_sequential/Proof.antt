@@ -6,12 +6,9 @@ use borrow.Author.Needs.{needs}
 use Rattle.chart_rules.proofs.rule.some_sequential.Statement.{statement}
 use Rattle.chart_rules.proofs.rule.some_sequential.Tie as tie
 
-count-sequentials-requires : tie.Need-count-sequentials-requires
-count-sequentials-requires c κs = search needs
-
 returns : tie.Need-returns
 unfolding someSequential
 returns c = λ k S. ap (λ (n : ℕ). leb 1 n) (c .count-sequentials .ensures k S)
 
 pub some-sequential-spec : {M : Type 1} → statement M
-some-sequential-spec = tie.close (tie.spec count-sequentials-requires returns)
+some-sequential-spec = tie.close (tie.spec (λ c κs. search needs) returns)

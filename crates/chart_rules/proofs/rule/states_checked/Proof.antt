@@ -6,15 +6,9 @@ use borrow.Author.Needs.{needs}
 use Rattle.chart_rules.proofs.rule.states_checked.Statement.{statement}
 use Rattle.chart_rules.proofs.rule.states_checked.Tie as tie
 
-parents-requires : tie.Need-parents-requires
-parents-requires c κs = search needs
-
 returns : tie.Need-returns
 unfolding stateRules unless
 returns c = λ k S. rw (sym (c .before .parents .ensures k S) ∙ not-true _ (c .if1 .taken))
-
-few-requires : tie.Need-few-requires
-few-requires c κs = search needs
 
 returns-2 : tie.Need-returns-2
 unfolding stateRules unless
@@ -22,9 +16,6 @@ returns-2 c = λ k S. rw (
   sym (c .before .before .before .parents .ensures k S) ∙ not-false _ (c .before .before .if1 .left),
   sym (c .before .few .ensures k S) ∙ not-true _ (c .if2 .taken),
 )
-
-some-sequential-requires : tie.Need-some-sequential-requires
-some-sequential-requires c κs = search needs
 
 returns-3 : tie.Need-returns-3
 unfolding stateRules unless
@@ -34,9 +25,6 @@ returns-3 c = λ k S. rw (
   sym (c .before .some-sequential .ensures k S) ∙ not-true _ (c .if3 .taken),
 )
 
-entry-marks-requires : tie.Need-entry-marks-requires
-entry-marks-requires c κs = search needs
-
 returns-4 : tie.Need-returns-4
 unfolding stateRules unless
 returns-4 c = λ k S. rw (
@@ -45,9 +33,6 @@ returns-4 c = λ k S. rw (
   sym (c .before .before .before .some-sequential .ensures k S) ∙ not-false _ (c .before .before .if3 .left),
   sym (c .before .entry-marks .ensures k S) ∙ not-true _ (c .if4 .taken),
 )
-
-exit-marks-requires : tie.Need-exit-marks-requires
-exit-marks-requires c κs = search needs
 
 returns-5 : tie.Need-returns-5
 unfolding stateRules unless
@@ -73,14 +58,14 @@ pub states-checked-spec : {M : Type 1} → statement M
 states-checked-spec =
     tie.close
     (tie.spec
-    parents-requires
+    (λ c κs. search needs)
     returns
-    few-requires
+    (λ c κs. search needs)
     returns-2
-    some-sequential-requires
+    (λ c κs. search needs)
     returns-3
-    entry-marks-requires
+    (λ c κs. search needs)
     returns-4
-    exit-marks-requires
+    (λ c κs. search needs)
     returns-5
     returns-6)

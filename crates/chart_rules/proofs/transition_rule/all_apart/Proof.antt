@@ -24,21 +24,12 @@ abbrev μ-loop : tie.MeasureT-loop
 loop-holds : tie.Need-loop-holds Inv-loop μ-loop
 loop-holds c = numbered-none (apartFromAll _) _ _ _ _
 
-is-apart-from-all-requires : tie.Need-is-apart-from-all-requires Inv-loop μ-loop
-is-apart-from-all-requires c κs = search needs
-
 returns : tie.Need-returns Inv-loop μ-loop
 returns c = λ k L R S.
     let known = c .before .before .if1 .taken in
     numbered-stop (apartFromAll _) _ _ _ _ (c .before .before .before .before .loop .inv) known
     (λ k H. c .before .is-apart-from-all .ensures k (H .0) (H .1) (H .2) known) (not-true _ (c .if2 .taken)) k (L, R, S)
     ∙ sym (apart-is L)
-
-add-t : tie.Need-add-t Inv-loop μ-loop
-add-t c = omega arith
-
-loop-less : tie.Need-loop-less Inv-loop μ-loop
-loop-less c = omega arith
 
 loop-again : tie.Need-loop-again Inv-loop μ-loop
 loop-again c =
@@ -56,9 +47,9 @@ all-apart-spec =
     Inv-loop
     μ-loop
     loop-holds
-    is-apart-from-all-requires
+    (λ c κs. search needs)
     returns
-    add-t
-    loop-less
+    (λ c. omega arith)
+    (λ c. omega arith)
     loop-again
     returns-2)

@@ -13,18 +13,9 @@ returns-2 : tie.Need-returns-2
 unfolding siblings parentOf sequential
 returns-2 c = λ k t S e f. rw (← e, ne-eqb _ 0 (c .before .if1 .left), ← f, eq-eqb _ 0 (c .if2 .taken))
 
-parent-of-requires : tie.Need-parent-of-requires
-parent-of-requires c κs = search needs
-
-parent-of-requires-2 : tie.Need-parent-of-requires-2
-parent-of-requires-2 c κs = search needs
-
 returns-3 : tie.Need-returns-3
 unfolding siblings parentOf sequential
 returns-3 c = λ k t S e f. rw (← e, ne-eqb _ 0 (c .before .before .before .before .if1 .left), ← f, ne-eqb _ 0 (c .before .before .before .if2 .left), ← c .before .before .parent-of .ensures k S, ← c .before .parent-of2 .ensures k S, ne-eqb _ _ (c .if3 .taken))
-
-kind-of-requires : tie.Need-kind-of-requires
-kind-of-requires c κs = search needs
 
 returns-4 : tie.Need-returns-4
 unfolding siblings parentOf sequential
@@ -50,8 +41,8 @@ are-siblings-spec =
     (tie.spec
     returns
     returns-2
-    parent-of-requires
-    parent-of-requires-2
+    (λ c κs. search needs)
+    (λ c κs. search needs)
     returns-3
-    kind-of-requires
+    (λ c κs. search needs)
     returns-4)

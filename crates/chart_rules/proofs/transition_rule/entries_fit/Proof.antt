@@ -16,15 +16,6 @@ abbrev μ-loop : tie.MeasureT-loop
 loop-holds : tie.Need-loop-holds Inv-loop μ-loop
 loop-holds c = crossed-none entries _ _ _
 
-destination-of-requires : tie.Need-destination-of-requires Inv-loop μ-loop
-destination-of-requires c κs = search needs
-
-entry-of-requires : tie.Need-entry-of-requires Inv-loop μ-loop
-entry-of-requires c κs = search needs
-
-entry-fits-requires : tie.Need-entry-fits-requires Inv-loop μ-loop
-entry-fits-requires c κs = search needs
-
 returns : tie.Need-returns Inv-loop μ-loop
 returns c =
     let first = c .before .before .before in
@@ -32,12 +23,6 @@ returns c =
     crossed-stop entries _ _ _ (first .before .before .before .loop .inv) known
     (λ k L. c .before .entry-fits .ensures k _ (L .stated) (first .destination-of .ensures k _ L known) (c .before .before .entry-of .ensures k _ L known))
     (not-true _ (c .if2 .taken))
-
-add-t : tie.Need-add-t Inv-loop μ-loop
-add-t c = omega arith
-
-loop-less : tie.Need-loop-less Inv-loop μ-loop
-loop-less c = omega arith
 
 loop-again : tie.Need-loop-again Inv-loop μ-loop
 loop-again c =
@@ -57,11 +42,11 @@ entries-fit-spec =
     Inv-loop
     μ-loop
     loop-holds
-    destination-of-requires
-    entry-of-requires
-    entry-fits-requires
+    (λ c κs. search needs)
+    (λ c κs. search needs)
+    (λ c κs. search needs)
     returns
-    add-t
-    loop-less
+    (λ c. omega arith)
+    (λ c. omega arith)
     loop-again
     returns-2)

@@ -5,9 +5,6 @@ use borrow.Author.Needs.{needs}
 use Rattle.chart_rules.proofs.transition_rule.entry_fits.Statement.{statement}
 use Rattle.chart_rules.proofs.transition_rule.entry_fits.Tie as tie
 
-kind-of-requires : tie.Need-kind-of-requires
-kind-of-requires c κs = search needs
-
 returns : tie.Need-returns
 unfolding entries basic
 returns c = λ k t S e f. rw (← e, ← f, ← c .before .kind-of .ensures k S, eq-eqb _ 0 (c .if1 .taken))
@@ -15,15 +12,6 @@ returns c = λ k t S e f. rw (← e, ← f, ← c .before .kind-of .ensures k S,
 returns-2 : tie.Need-returns-2
 unfolding entries basic
 returns-2 c = λ k t S e f. rw (← e, ← f, ← c .before .before .kind-of .ensures k S, ne-eqb _ 0 (c .before .if1 .left), eq-eqb _ 255 (c .if2 .taken))
-
-entries-of-requires : tie.Need-entries-of-requires
-entries-of-requires c κs = search needs
-
-cast-has : tie.Need-cast-has
-cast-has c = search needs
-
-has-requires : tie.Need-has-requires
-has-requires c κs = search needs
 
 returns-3 : tie.Need-returns-3
 unfolding entries basic
@@ -33,10 +21,10 @@ pub entry-fits-spec : {M : Type 1} → statement M
 entry-fits-spec =
     tie.close
     (tie.spec
-    kind-of-requires
+    (λ c κs. search needs)
     returns
     returns-2
-    entries-of-requires
-    cast-has
-    has-requires
+    (λ c κs. search needs)
+    (λ c. search needs)
+    (λ c κs. search needs)
     returns-3)

@@ -16,15 +16,6 @@ abbrev μ-loop : tie.MeasureT-loop
 loop-holds : tie.Need-loop-holds Inv-loop μ-loop
 loop-holds c = crossed-none exits _ _ _
 
-source-of-requires : tie.Need-source-of-requires Inv-loop μ-loop
-source-of-requires c κs = search needs
-
-exit-of-requires : tie.Need-exit-of-requires Inv-loop μ-loop
-exit-of-requires c κs = search needs
-
-exit-fits-requires : tie.Need-exit-fits-requires Inv-loop μ-loop
-exit-fits-requires c κs = search needs
-
 returns : tie.Need-returns Inv-loop μ-loop
 returns c =
     let first = c .before .before .before in
@@ -32,12 +23,6 @@ returns c =
     crossed-stop exits _ _ _ (first .before .before .before .loop .inv) known
     (λ k L. c .before .exit-fits .ensures k _ (L .stated) (first .source-of .ensures k _ L known) (c .before .before .exit-of .ensures k _ L known))
     (not-true _ (c .if2 .taken))
-
-add-t : tie.Need-add-t Inv-loop μ-loop
-add-t c = omega arith
-
-loop-less : tie.Need-loop-less Inv-loop μ-loop
-loop-less c = omega arith
 
 loop-again : tie.Need-loop-again Inv-loop μ-loop
 loop-again c =
@@ -57,11 +42,11 @@ exits-fit-spec =
     Inv-loop
     μ-loop
     loop-holds
-    source-of-requires
-    exit-of-requires
-    exit-fits-requires
+    (λ c κs. search needs)
+    (λ c κs. search needs)
+    (λ c κs. search needs)
     returns
-    add-t
-    loop-less
+    (λ c. omega arith)
+    (λ c. omega arith)
     loop-again
     returns-2)

@@ -7,23 +7,11 @@ use borrow.Author.Needs.{needs}
 use Rattle.chart_rules.proofs.transition_rule.is_apart.Statement.{statement}
 use Rattle.chart_rules.proofs.transition_rule.is_apart.Tie as tie
 
-signal-of-requires : tie.Need-signal-of-requires
-signal-of-requires c κs = search needs
-
 returns : tie.Need-returns
 returns c = λ k L R S h g. rw (← c .before .signal-of .ensures k _ L h, eq-eqb _ 0 (c .if1 .taken))
 
-signal-of-requires-2 : tie.Need-signal-of-requires-2
-signal-of-requires-2 c κs = search needs
-
 returns-2 : tie.Need-returns-2
 returns-2 c = λ k L R S h g. rw (← c .before .before .before .signal-of .ensures k _ L h, ne-eqb _ 0 (c .before .before .if1 .left), ← c .before .signal-of2 .ensures k _ L g, eq-eqb _ 0 (c .if2 .taken))
-
-channel-of-requires : tie.Need-channel-of-requires
-channel-of-requires c κs = search needs
-
-channel-of-requires-2 : tie.Need-channel-of-requires-2
-channel-of-requires-2 c κs = search needs
 
 returns-3 : tie.Need-returns-3
 returns-3 c =
@@ -41,12 +29,6 @@ returns-3 c =
       ← c .before .channel-of2 .ensures k _ L g,
       ne-eqb _ _ (c .if3 .taken),
     )
-
-home-of-requires : tie.Need-home-of-requires
-home-of-requires c κs = search needs
-
-home-of-requires-2 : tie.Need-home-of-requires-2
-home-of-requires-2 c κs = search needs
 
 returns-4 : tie.Need-returns-4
 returns-4 c =
@@ -71,15 +53,6 @@ returns-4 c =
       ← c .before .home-of2 .ensures k L g,
       eq-eqb _ _ (c .if4 .taken),
     )
-
-cast-under : tie.Need-cast-under
-cast-under c = search needs
-
-cast-under-2 : tie.Need-cast-under-2
-cast-under-2 c = search needs
-
-under-requires : tie.Need-under-requires
-under-requires c κs = search needs
 
 returns-5 : tie.Need-returns-5
 returns-5 c =
@@ -114,17 +87,17 @@ pub is-apart-spec : {M : Type 1} → statement M
 is-apart-spec =
     tie.close
     (tie.spec
-    signal-of-requires
+    (λ c κs. search needs)
     returns
-    signal-of-requires-2
+    (λ c κs. search needs)
     returns-2
-    channel-of-requires
-    channel-of-requires-2
+    (λ c κs. search needs)
+    (λ c κs. search needs)
     returns-3
-    home-of-requires
-    home-of-requires-2
+    (λ c κs. search needs)
+    (λ c κs. search needs)
     returns-4
-    cast-under
-    cast-under-2
-    under-requires
+    (λ c. search needs)
+    (λ c. search needs)
+    (λ c κs. search needs)
     returns-5)

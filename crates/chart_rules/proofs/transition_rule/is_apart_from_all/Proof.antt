@@ -16,20 +16,11 @@ abbrev μ-loop : tie.MeasureT-loop
 loop-holds : tie.Need-loop-holds Inv-loop μ-loop
 loop-holds c = λ h. numbered-none (λ k. apartFrom k _) _ _ _ _
 
-is-apart-requires : tie.Need-is-apart-requires Inv-loop μ-loop
-is-apart-requires c κs = search needs
-
 returns : tie.Need-returns Inv-loop μ-loop
 returns c = λ k L R S h.
     let known = c .before .before .if1 .taken in
     numbered-stop (λ k. apartFrom k _) _ _ _ _ (c .before .before .before .before .loop .inv h) known
     (λ k H. c .before .is-apart .ensures k (H .0) (H .1) (H .2) h known) (not-true _ (c .if2 .taken)) k (L, R, S)
-
-add-u : tie.Need-add-u Inv-loop μ-loop
-add-u c = omega arith
-
-loop-less : tie.Need-loop-less Inv-loop μ-loop
-loop-less c = omega arith
 
 loop-again : tie.Need-loop-again Inv-loop μ-loop
 loop-again c = λ h.
@@ -47,9 +38,9 @@ is-apart-from-all-spec =
     Inv-loop
     μ-loop
     loop-holds
-    is-apart-requires
+    (λ c κs. search needs)
     returns
-    add-u
-    loop-less
+    (λ c. omega arith)
+    (λ c. omega arith)
     loop-again
     returns-2)

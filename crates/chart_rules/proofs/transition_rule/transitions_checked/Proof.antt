@@ -7,15 +7,9 @@ use borrow.Author.Needs.{needs}
 use Rattle.chart_rules.proofs.transition_rule.transitions_checked.Statement.{statement}
 use Rattle.chart_rules.proofs.transition_rule.transitions_checked.Tie as tie
 
-all-siblings-requires : tie.Need-all-siblings-requires
-all-siblings-requires c κs = search needs
-
 returns : tie.Need-returns
 unfolding transitionRules unless
 returns c = λ k L T P e. rw (sym (c .before .all-siblings .ensures k L) ∙ not-true _ (c .if1 .taken))
-
-exits-fit-requires : tie.Need-exits-fit-requires
-exits-fit-requires c κs = search needs
 
 returns-2 : tie.Need-returns-2
 unfolding transitionRules unless
@@ -23,9 +17,6 @@ returns-2 c = λ k L T P e. rw (
   sym (c .before .before .before .all-siblings .ensures k L) ∙ not-false _ (c .before .before .if1 .left),
   sym (c .before .exits-fit .ensures k L) ∙ not-true _ (c .if2 .taken),
 )
-
-entries-fit-requires : tie.Need-entries-fit-requires
-entries-fit-requires c κs = search needs
 
 returns-3 : tie.Need-returns-3
 unfolding transitionRules unless
@@ -43,12 +34,6 @@ returns-4 c = λ k L T P e. rw (
   sym (c .before .before .entries-fit .ensures k L) ∙ not-false _ (c .before .if3 .left),
   sym e ∙ not-true _ (c .if4 .taken),
 )
-
-slice-aggregate-all-apart : tie.Need-slice-aggregate-all-apart
-slice-aggregate-all-apart c = search needs
-
-all-apart-requires : tie.Need-all-apart-requires
-all-apart-requires c κs = search needs
 
 returns-5 : tie.Need-returns-5
 unfolding transitionRules unless
@@ -74,14 +59,14 @@ pub transitions-checked-spec : {M : Type 1} → statement M
 transitions-checked-spec =
     tie.close
     (tie.spec
-    all-siblings-requires
+    (λ c κs. search needs)
     returns
-    exits-fit-requires
+    (λ c κs. search needs)
     returns-2
-    entries-fit-requires
+    (λ c κs. search needs)
     returns-3
     returns-4
-    slice-aggregate-all-apart
-    all-apart-requires
+    (λ c. search needs)
+    (λ c κs. search needs)
     returns-5
     returns-6)

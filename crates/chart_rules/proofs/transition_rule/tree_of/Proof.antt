@@ -16,35 +16,8 @@ Inv-loop rest counts tree₀ s₀ tree s = (c : Chart) → Stated rest counts c 
 abbrev μ-loop : tie.MeasureT-loop
 μ-loop rest counts tree₀ s₀ tree s = counts .states - s
 
-no-states-requires : tie.Need-no-states-requires Inv-loop μ-loop
-no-states-requires c κs = search needs
-
 loop-holds : tie.Need-loop-holds Inv-loop μ-loop
 loop-holds c = λ k S. c .no-states .ensures k (sym (S .states)) (counts-range _ (S .in-range) .states-few)
-
-parent-of-requires : tie.Need-parent-of-requires Inv-loop μ-loop
-parent-of-requires c κs = search needs
-
-kind-of-requires : tie.Need-kind-of-requires Inv-loop μ-loop
-kind-of-requires c κs = search needs
-
-entries-of-requires : tie.Need-entries-of-requires Inv-loop μ-loop
-entries-of-requires c κs = search needs
-
-exits-of-requires : tie.Need-exits-of-requires Inv-loop μ-loop
-exits-of-requires c κs = search needs
-
-cast-with-state : tie.Need-cast-with-state Inv-loop μ-loop
-cast-with-state c = search needs
-
-with-state-requires : tie.Need-with-state-requires Inv-loop μ-loop
-with-state-requires c κs = search needs
-
-add-s : tie.Need-add-s Inv-loop μ-loop
-add-s c = omega arith
-
-loop-less : tie.Need-loop-less Inv-loop μ-loop
-loop-less c = omega arith
 
 loop-again : tie.Need-loop-again Inv-loop μ-loop
 loop-again c =
@@ -65,15 +38,15 @@ tree-of-spec =
     (tie.spec
     Inv-loop
     μ-loop
-    no-states-requires
+    (λ c κs. search needs)
     loop-holds
-    parent-of-requires
-    kind-of-requires
-    entries-of-requires
-    exits-of-requires
-    cast-with-state
-    with-state-requires
-    add-s
-    loop-less
+    (λ c κs. search needs)
+    (λ c κs. search needs)
+    (λ c κs. search needs)
+    (λ c κs. search needs)
+    (λ c. search needs)
+    (λ c κs. search needs)
+    (λ c. omega arith)
+    (λ c. omega arith)
     loop-again
     returns)

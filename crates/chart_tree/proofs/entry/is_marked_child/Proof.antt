@@ -11,21 +11,9 @@ use Rattle.chart_tree.proofs.table.marks_at.Reads as marks-at-reads
 use Rattle.lists.proofs.mark.has.Reads as has-reads
 
 -- src/table.rt:74:5
-is-child-requires : tie.Need-is-child-requires
-is-child-requires c κs = search needs
-
 -- src/table.rt:74:36
-marks-at-requires : tie.Need-marks-at-requires
-marks-at-requires c κs = search needs
-
 -- src/table.rt:74:36
-cast-has : tie.Need-cast-has
-cast-has c = search needs
-
 -- src/table.rt:74:32
-has-requires : tie.Need-has-requires
-has-requires c κs = search needs
-
 -- src/table.rt:71:1
 returns : tie.Need-returns
 returns c = rw (sym (c .before .before .before .is-child .ensures), c .before .before .if1 .taken) (c .has .ensures ∙ ap (λ (x : ℕ). has x (c .before .before .before .before .before .before .args .entry)) (c .before .marks-at .ensures))
@@ -37,4 +25,4 @@ returns-2 c = rw (c .if1 .left, sym (sym (c .if1 .left) ∙ c .before .is-child 
 pub is-marked-child-spec : {M : Type 1} → statement M
 is-marked-child-spec =
     tie.close
-    (tie.spec is-child-requires marks-at-requires cast-has has-requires returns returns-2)
+    (tie.spec (λ c κs. search needs) (λ c κs. search needs) (λ c. search needs) (λ c κs. search needs) returns returns-2)

@@ -9,16 +9,10 @@ use Rattle.chart_tree.proofs.table.is_child.Lts as lts
 use Rattle.reading.proofs.field.byte_at.Reads as byte-at-reads
 
 -- src/table.rt:66:17
-byte-at-requires : tie.Need-byte-at-requires
-byte-at-requires c κs = search needs
-
 -- src/table.rt:66:17
-cast-above : tie.Need-cast-above
-cast-above c = search needs
-
 -- src/table.rt:63:1
 returns : tie.Need-returns
 returns c = ap (λ (x : ℕ). eqb x (c .before .before .args .s)) (c .byte-at .ensures)
 
 pub is-child-spec : {M : Type 1} → statement M
-is-child-spec = tie.close (tie.spec byte-at-requires cast-above returns)
+is-child-spec = tie.close (tie.spec (λ c κs. search needs) (λ c. search needs) returns)

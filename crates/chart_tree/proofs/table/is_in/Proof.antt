@@ -5,14 +5,8 @@ use borrow.Author.Needs.{needs}
 use Rattle.chart_tree.proofs.table.is_in.Statement.{statement}
 use Rattle.chart_tree.proofs.table.is_in.Tie as tie
 
-shared-slice-read-result : tie.Need-shared-slice-read-result
-shared-slice-read-result c = search needs
-
-returns : tie.Need-returns
-returns c = search needs
-
 returns-2 : tie.Need-returns-2
 returns-2 c = sym (List·getD-eq-default (c .before .args .set .now) false (c .if1 .left))
 
 pub is-in-spec : {M : Type 1} → statement M
-is-in-spec = tie.close (tie.spec shared-slice-read-result returns returns-2)
+is-in-spec = tie.close (tie.spec (λ c. search needs) (λ c. search needs) returns-2)

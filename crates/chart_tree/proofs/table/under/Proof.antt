@@ -19,20 +19,11 @@ abbrev μ-loop : tie.MeasureT-loop
 loop-holds : tie.Need-loop-holds Inv-loop μ-loop
 loop-holds c = λ d r h. (h, refl)
 
-byte-at-requires : tie.Need-byte-at-requires Inv-loop μ-loop
-byte-at-requires c κs = search needs
-
-cast-above : tie.Need-cast-above Inv-loop μ-loop
-cast-above c = search needs
-
 returns : tie.Need-returns Inv-loop μ-loop
 returns c = λ d r h.
     let l = c .before .before in
     let i = l .before .loop .inv d r h in
     absurd (omega (arith, c .if1 .taken, c .before .byte-at .ensures, climbs d _ r (l .before .before .before .args .m) (l .before .loop .x) (i .0) (l .loop-test .taken) .0))
-
-loop-less : tie.Need-loop-less Inv-loop μ-loop
-loop-less c = omega arith
 
 loop-again : tie.Need-loop-again Inv-loop μ-loop
 loop-again c = λ d r h.
@@ -50,9 +41,9 @@ under-spec =
     Inv-loop
     μ-loop
     loop-holds
-    byte-at-requires
-    cast-above
+    (λ c κs. search needs)
+    (λ c. search needs)
     returns
-    loop-less
+    (λ c. omega arith)
     loop-again
     returns-2)

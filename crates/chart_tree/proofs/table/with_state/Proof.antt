@@ -5,24 +5,6 @@ use borrow.Author.Needs.{needs}
 use Rattle.chart_tree.proofs.table.with_state.Statement.{statement}
 use Rattle.chart_tree.proofs.table.with_state.Tie as tie
 
-returns : tie.Need-returns
-returns c = search needs
-
-element-write-next : tie.Need-element-write-next
-element-write-next c = search needs
-
-element-write-next-2 : tie.Need-element-write-next-2
-element-write-next-2 c = search needs
-
-mul-next : tie.Need-mul-next
-mul-next c = search needs
-
-element-write-next-3 : tie.Need-element-write-next-3
-element-write-next-3 c = search needs
-
-element-write-next-4 : tie.Need-element-write-next-4
-element-write-next-4 c = search needs
-
 returns-2 : tie.Need-returns-2
 returns-2 c = λ d B h p k e x.
     let a = c .before .args in
@@ -39,10 +21,10 @@ pub with-state-spec : {M : Type 1} → statement M
 with-state-spec =
     tie.close
     (tie.spec
-    returns
-    element-write-next
-    element-write-next-2
-    mul-next
-    element-write-next-3
-    element-write-next-4
+    (λ c. search needs)
+    (λ c. search needs)
+    (λ c. search needs)
+    (λ c. search needs)
+    (λ c. search needs)
+    (λ c. search needs)
     returns-2)

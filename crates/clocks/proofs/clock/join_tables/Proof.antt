@@ -21,33 +21,6 @@ loop-holds c = let a : length (c .args .t1) ≡ 48 = search needs in
     let b : length (c .args .t2) ≡ 48 = search needs in
     filled-none 48 _ _ (rw (length-joinTables, a, b)) a
 
-mul-x : tie.Need-mul-x Inv-loop μ-loop
-mul-x c = search needs
-
-array-copy-out-x : tie.Need-array-copy-out-x Inv-loop μ-loop
-array-copy-out-x c = search needs
-
-mul-y : tie.Need-mul-y Inv-loop μ-loop
-mul-y c = search needs
-
-array-copy-out-y : tie.Need-array-copy-out-y Inv-loop μ-loop
-array-copy-out-y c = search needs
-
-join-requires : tie.Need-join-requires Inv-loop μ-loop
-join-requires c κs = search needs
-
-mul-joined : tie.Need-mul-joined Inv-loop μ-loop
-mul-joined c = search needs
-
-array-set-from-joined : tie.Need-array-set-from-joined Inv-loop μ-loop
-array-set-from-joined c = search needs
-
-add-i : tie.Need-add-i Inv-loop μ-loop
-add-i c = omega arith
-
-loop-less : tie.Need-loop-less Inv-loop μ-loop
-loop-less c = omega arith
-
 loop-again : tie.Need-loop-again Inv-loop μ-loop
 loop-again c = filled-more 48 _ _ _ (c .before .before .before .before .loop .inv) [] _ (c .before .before .before .loop-test .taken) (c .join .ensures ∙ sym (getD-joinTables _ _ _))
 
@@ -61,14 +34,14 @@ join-tables-spec =
     Inv-loop
     μ-loop
     loop-holds
-    mul-x
-    array-copy-out-x
-    mul-y
-    array-copy-out-y
-    join-requires
-    mul-joined
-    array-set-from-joined
-    add-i
-    loop-less
+    (λ c. search needs)
+    (λ c. search needs)
+    (λ c. search needs)
+    (λ c. search needs)
+    (λ c κs. search needs)
+    (λ c. search needs)
+    (λ c. search needs)
+    (λ c. omega arith)
+    (λ c. omega arith)
     loop-again
     returns)

@@ -21,21 +21,9 @@ Inv-loop count ticks clocks moving moved₀ i₀ moved i =
 abbrev μ-loop : tie.MeasureT-loop
 μ-loop count ticks clocks moving moved₀ i₀ moved i = moving - i
 
-least-requires : tie.Need-least-requires Inv-loop μ-loop
-least-requires c κs = search needs
-
 loop-holds : tie.Need-loop-holds Inv-loop μ-loop
 unfolding later
 loop-holds c = (search needs, omega arith, below-none _, refl)
-
-mul-clock : tie.Need-mul-clock Inv-loop μ-loop
-mul-clock c = search needs
-
-array-read-clock : tie.Need-array-read-clock Inv-loop μ-loop
-array-read-clock c = search needs
-
-fits-requires : tie.Need-fits-requires Inv-loop μ-loop
-fits-requires c κs = search needs
 
 returns : tie.Need-returns Inv-loop μ-loop
 returns c =
@@ -54,18 +42,6 @@ small c = leb-true _ clock-limit (sym (c .before .fits2 .ensures) ∙ not-false 
 add-moved : tie.Need-add-moved Inv-loop μ-loop
 add-moved c = omega (arith, small c)
 
-mul-moved : tie.Need-mul-moved Inv-loop μ-loop
-mul-moved c = search needs
-
-array-write-moved : tie.Need-array-write-moved Inv-loop μ-loop
-array-write-moved c = search needs
-
-add-i : tie.Need-add-i Inv-loop μ-loop
-add-i c = omega arith
-
-loop-less : tie.Need-loop-less Inv-loop μ-loop
-loop-less c = omega arith
-
 loop-again : tie.Need-loop-again Inv-loop μ-loop
 loop-again c = let g = c .before .before .before .loop .inv in
     (g .0, omega arith, below-more _ _ (g .2) (small c), rw (g .3) (later-more _ _ _ (omega arith)))
@@ -81,16 +57,16 @@ later-spec =
     (tie.spec
     Inv-loop
     μ-loop
-    least-requires
+    (λ c κs. search needs)
     loop-holds
-    mul-clock
-    array-read-clock
-    fits-requires
+    (λ c. search needs)
+    (λ c. search needs)
+    (λ c κs. search needs)
     returns
     add-moved
-    mul-moved
-    array-write-moved
-    add-i
-    loop-less
+    (λ c. search needs)
+    (λ c. search needs)
+    (λ c. omega arith)
+    (λ c. omega arith)
     loop-again
     returns-2)

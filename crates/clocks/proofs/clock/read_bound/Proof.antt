@@ -5,20 +5,8 @@ use borrow.Author.Needs.{needs}
 use Rattle.clocks.proofs.clock.read_bound.Statement.{statement}
 use Rattle.clocks.proofs.clock.read_bound.Tie as tie
 
-read-word-requires : tie.Need-read-word-requires
-read-word-requires c κs = search needs
-
-enum-known-w : tie.Need-enum-known-w
-enum-known-w c = search needs
-
-enum-told : tie.Need-enum-told
-enum-told c = search needs
-
 returns : tie.Need-returns
 returns c = ap (wordOf _) (c .enum-told .given .1) ∙ sym (such-fault _ _ _ (answered (wordOf _) (c .before .before .read-word .ensures .0) (c .enum-told .given .1)))
-
-is-bound-requires : tie.Need-is-bound-requires
-is-bound-requires c κs = search needs
 
 returns-2 : tie.Need-returns-2
 returns-2 c =
@@ -36,10 +24,10 @@ pub read-bound-spec : {M : Type 1} → statement M
 read-bound-spec =
     tie.close
     (tie.spec
-    read-word-requires
-    enum-known-w
-    enum-told
+    (λ c κs. search needs)
+    (λ c. search needs)
+    (λ c. search needs)
     returns
-    is-bound-requires
+    (λ c κs. search needs)
     returns-2
     returns-3)

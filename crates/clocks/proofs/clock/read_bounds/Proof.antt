@@ -21,18 +21,6 @@ abbrev μ-loop : tie.MeasureT-loop
 loop-holds : tie.Need-loop-holds Inv-loop μ-loop
 loop-holds c = skipping-none _ _ _
 
-read-bound-requires : tie.Need-read-bound-requires Inv-loop μ-loop
-read-bound-requires c κs = search needs
-
-enum-known-w : tie.Need-enum-known-w Inv-loop μ-loop
-enum-known-w c = search needs
-
-enum-told : tie.Need-enum-told Inv-loop μ-loop
-enum-told c = search needs
-
-word-fault-requires : tie.Need-word-fault-requires Inv-loop μ-loop
-word-fault-requires c κs = search needs
-
 returns : tie.Need-returns Inv-loop μ-loop
 unfolding skipped
 returns c =
@@ -40,12 +28,6 @@ returns c =
     rw (c .word-fault .ensures ∙ ap wordFault (c .before .enum-told .given .1)) (sym (skipped-row _ _
     ∙ skipping-stop _ _ _ (l .before .before .loop .inv) (l .before .loop-test .taken)
     (mapped-fault _ (answered (wordOf _) (l .read-bound .ensures) (c .before .enum-told .given .1)))))
-
-add-i : tie.Need-add-i Inv-loop μ-loop
-add-i c = omega arith
-
-loop-less : tie.Need-loop-less Inv-loop μ-loop
-loop-less c = omega arith
 
 loop-again : tie.Need-loop-again Inv-loop μ-loop
 unfolding skipped
@@ -62,12 +44,12 @@ read-bounds-spec =
     Inv-loop
     μ-loop
     loop-holds
-    read-bound-requires
-    enum-known-w
-    enum-told
-    word-fault-requires
+    (λ c κs. search needs)
+    (λ c. search needs)
+    (λ c. search needs)
+    (λ c κs. search needs)
     returns
-    add-i
-    loop-less
+    (λ c. omega arith)
+    (λ c. omega arith)
     loop-again
     returns-2)

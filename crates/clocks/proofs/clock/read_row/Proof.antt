@@ -21,27 +21,9 @@ Inv-loop s at clocks count row₀ place₀ i₀ row place i = (seen : List ℕ) 
 abbrev μ-loop : tie.MeasureT-loop
 μ-loop s at clocks count row₀ place₀ i₀ row place i = count - i
 
-least-requires : tie.Need-least-requires Inv-loop μ-loop
-least-requires c κs = search needs
-
 loop-holds : tie.Need-loop-holds Inv-loop μ-loop
 unfolding padded
 loop-holds c = ([], going-none _ _ _, refl)
-
-read-bound-requires : tie.Need-read-bound-requires Inv-loop μ-loop
-read-bound-requires c κs = search needs
-
-enum-known-w : tie.Need-enum-known-w Inv-loop μ-loop
-enum-known-w c = search needs
-
-enum-told : tie.Need-enum-told Inv-loop μ-loop
-enum-told c = search needs
-
-word-fault-requires : tie.Need-word-fault-requires Inv-loop μ-loop
-word-fault-requires c κs = search needs
-
-no-row-requires : tie.Need-no-row-requires Inv-loop μ-loop
-no-row-requires c κs = search needs
 
 returns : tie.Need-returns Inv-loop μ-loop
 returns c =
@@ -54,18 +36,6 @@ returns c =
       (c .before .word-fault .ensures ∙ ap wordFault (at-enum-told .enum-told .given .1)),
     )
     (sym (row-fault _ _ (going-stop _ _ _ (at-loop-test .before .loop .inv .1) (at-loop-test .loop-test .taken) fails)))
-
-mul-row : tie.Need-mul-row Inv-loop μ-loop
-mul-row c = omega arith
-
-array-write-row : tie.Need-array-write-row Inv-loop μ-loop
-array-write-row c = omega arith
-
-add-i : tie.Need-add-i Inv-loop μ-loop
-add-i c = omega arith
-
-loop-less : tie.Need-loop-less Inv-loop μ-loop
-loop-less c = omega arith
 
 loop-again : tie.Need-loop-again Inv-loop μ-loop
 loop-again c =
@@ -88,17 +58,17 @@ read-row-spec =
     (tie.spec
     Inv-loop
     μ-loop
-    least-requires
+    (λ c κs. search needs)
     loop-holds
-    read-bound-requires
-    enum-known-w
-    enum-told
-    word-fault-requires
-    no-row-requires
+    (λ c κs. search needs)
+    (λ c. search needs)
+    (λ c. search needs)
+    (λ c κs. search needs)
+    (λ c κs. search needs)
     returns
-    mul-row
-    array-write-row
-    add-i
-    loop-less
+    (λ c. omega arith)
+    (λ c. omega arith)
+    (λ c. omega arith)
+    (λ c. omega arith)
     loop-again
     returns-2)

@@ -6,12 +6,6 @@ use borrow.Author.Needs.{needs}
 use Rattle.clocks.proofs.clock.reset_clock.Statement.{statement}
 use Rattle.clocks.proofs.clock.reset_clock.Tie as tie
 
-cast-if1 : tie.Need-cast-if1
-cast-if1 c = search needs
-
-shr-if1 : tie.Need-shr-if1
-shr-if1 c = search needs
-
 returns : tie.Need-returns
 unfolding has
 returns c = sym (cond-yes _ _ (eq-eqb _ 1 (c .if1 .taken)))
@@ -21,4 +15,4 @@ unfolding has
 returns-2 c = sym (cond-no _ _ (ne-eqb _ 1 (c .if1 .left)))
 
 pub reset-clock-spec : {M : Type 1} → statement M
-reset-clock-spec = tie.close (tie.spec cast-if1 shr-if1 returns returns-2)
+reset-clock-spec = tie.close (tie.spec (λ c. search needs) (λ c. search needs) returns returns-2)

@@ -18,18 +18,9 @@ abbrev μ-loop : tie.MeasureT-loop
 loop-holds : tie.Need-loop-holds Inv-loop μ-loop
 loop-holds c = passed-none (λ x. eqb x 0) 16 _ _ (search needs)
 
-array-read-if1 : tie.Need-array-read-if1 Inv-loop μ-loop
-array-read-if1 c = search needs
-
 returns : tie.Need-returns Inv-loop μ-loop
 unfolding zeroPast
 returns c = sym (passed-not _ 16 _ _ _ (c .before .before .loop .inv) 0 (c .before .loop-test .taken) (ne-eqb _ 0 (c .if1 .taken)))
-
-add-i : tie.Need-add-i Inv-loop μ-loop
-add-i c = omega arith
-
-loop-less : tie.Need-loop-less Inv-loop μ-loop
-loop-less c = omega arith
 
 loop-again : tie.Need-loop-again Inv-loop μ-loop
 loop-again c = passed-more _ 16 _ _ _ (c .before .before .loop .inv) 0 (c .before .loop-test .taken) (eq-eqb _ 0 (c .if1 .left))
@@ -45,9 +36,9 @@ zero-bytes-past-spec =
     Inv-loop
     μ-loop
     loop-holds
-    array-read-if1
+    (λ c. search needs)
     returns
-    add-i
-    loop-less
+    (λ c. omega arith)
+    (λ c. omega arith)
     loop-again
     returns-2)

@@ -18,36 +18,9 @@ Inv-loop count ticks bounds clocks n left₀ i₀ left i =
 abbrev μ-loop : tie.MeasureT-loop
 μ-loop count ticks bounds clocks n left₀ i₀ left i = n - i
 
-least-requires : tie.Need-least-requires Inv-loop μ-loop
-least-requires c κs = search needs
-
 loop-holds : tie.Need-loop-holds Inv-loop μ-loop
 unfolding rowLeft
 loop-holds c = (search needs, search needs, omega arith, refl)
-
-mul-ticks-left : tie.Need-mul-ticks-left Inv-loop μ-loop
-mul-ticks-left c = search needs
-
-array-read-ticks-left : tie.Need-array-read-ticks-left Inv-loop μ-loop
-array-read-ticks-left c = search needs
-
-mul-ticks-left-2 : tie.Need-mul-ticks-left-2 Inv-loop μ-loop
-mul-ticks-left-2 c = search needs
-
-array-read-ticks-left-2 : tie.Need-array-read-ticks-left-2 Inv-loop μ-loop
-array-read-ticks-left-2 c = search needs
-
-ticks-left-requires : tie.Need-ticks-left-requires Inv-loop μ-loop
-ticks-left-requires c κs = search needs
-
-fewest-requires : tie.Need-fewest-requires Inv-loop μ-loop
-fewest-requires c κs = search needs
-
-add-i : tie.Need-add-i Inv-loop μ-loop
-add-i c = omega arith
-
-loop-less : tie.Need-loop-less Inv-loop μ-loop
-loop-less c = omega arith
 
 loop-again : tie.Need-loop-again Inv-loop μ-loop
 loop-again c = let g = c .before .before .before .loop .inv in
@@ -64,15 +37,15 @@ row-left-spec =
     (tie.spec
     Inv-loop
     μ-loop
-    least-requires
+    (λ c κs. search needs)
     loop-holds
-    mul-ticks-left
-    array-read-ticks-left
-    mul-ticks-left-2
-    array-read-ticks-left-2
-    ticks-left-requires
-    fewest-requires
-    add-i
-    loop-less
+    (λ c. search needs)
+    (λ c. search needs)
+    (λ c. search needs)
+    (λ c. search needs)
+    (λ c κs. search needs)
+    (λ c κs. search needs)
+    (λ c. omega arith)
+    (λ c. omega arith)
     loop-again
     returns)

@@ -10,32 +10,11 @@ Inv-loop name values count i₀ i = Unit {0}
 abbrev μ-loop : tie.MeasureT-loop
 μ-loop name values count i₀ i = 16 - i
 
-text-requires : tie.Need-text-requires Inv-loop μ-loop
-text-requires c κs = search needs
-
 loop-holds : tie.Need-loop-holds Inv-loop μ-loop
 loop-holds c = tt
 
-element-copy-out-value : tie.Need-element-copy-out-value Inv-loop μ-loop
-element-copy-out-value c = search needs
-
-byte-requires : tie.Need-byte-requires Inv-loop μ-loop
-byte-requires c κs = search needs
-
-add-i : tie.Need-add-i Inv-loop μ-loop
-add-i c = omega arith
-
-loop-less : tie.Need-loop-less Inv-loop μ-loop
-loop-less c = omega arith
-
 loop-again : tie.Need-loop-again Inv-loop μ-loop
 loop-again c = tt
-
-line-end-requires : tie.Need-line-end-requires Inv-loop μ-loop
-line-end-requires c κs = search needs
-
-returns : tie.Need-returns Inv-loop μ-loop
-returns c = search needs
 
 pub automata-spec : {M : Type 1} → statement M
 automata-spec =
@@ -43,12 +22,12 @@ automata-spec =
     (tie.spec
     Inv-loop
     μ-loop
-    text-requires
+    (λ c κs. search needs)
     loop-holds
-    element-copy-out-value
-    byte-requires
-    add-i
-    loop-less
+    (λ c. search needs)
+    (λ c κs. search needs)
+    (λ c. omega arith)
+    (λ c. omega arith)
     loop-again
-    line-end-requires
-    returns)
+    (λ c κs. search needs)
+    (λ c. search needs))

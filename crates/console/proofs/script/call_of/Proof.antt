@@ -10,18 +10,6 @@ use Rattle.console.proofs.Steps.{call-step, call-wait, call-start, call
 use Rattle.console.proofs.script.call_of.Statement.{statement}
 use Rattle.console.proofs.script.call_of.Tie as tie
 
-next-word-requires : tie.Need-next-word-requires
-next-word-requires c κs = search needs
-
-enum-known-w : tie.Need-enum-known-w
-enum-known-w c = search needs
-
-enum-told : tie.Need-enum-told
-enum-told c = search needs
-
-plain-requires : tie.Need-plain-requires
-plain-requires c κs = search needs
-
 -- the line, and where the word that was found begins and ends
 abbrev line : tie.After-known-told → List ℕ
 line c = c .before .before .before .before .before .args .s .now
@@ -61,26 +49,8 @@ part-word-start c = omega (arith, within c)
 part-word-end : tie.Need-part-word-end
 part-word-end c = omega (arith, within c)
 
-slice-aggregate-same : tie.Need-slice-aggregate-same
-slice-aggregate-same c = search needs
-
-same-requires : tie.Need-same-requires
-same-requires c κs = search needs
-
-step-of-requires : tie.Need-step-of-requires
-step-of-requires c κs = search needs
-
 returns-2 : tie.Need-returns-2
 returns-2 c = c .step-of .ensures ∙ sym (call-step _ _ (found (c .before .before .before .before .before)) (sym (c .before .before .same .ensures) ∙ c .before .if1 .taken))
-
-slice-aggregate-same-2 : tie.Need-slice-aggregate-same-2
-slice-aggregate-same-2 c = search needs
-
-same-requires-2 : tie.Need-same-requires-2
-same-requires-2 c κs = search needs
-
-wait-of-requires : tie.Need-wait-of-requires
-wait-of-requires c κs = search needs
 
 returns-3 : tie.Need-returns-3
 returns-3 c =
@@ -89,15 +59,6 @@ returns-3 c =
     let same = place-1 .before .same in
     c .wait-of .ensures ∙ sym (call-wait _ _ (found (place-1 .before .before .before .before)) (sym (same .ensures) ∙ if1 .left)
     (sym (c .before .before .same2 .ensures) ∙ c .before .if2 .taken))
-
-slice-aggregate-same-3 : tie.Need-slice-aggregate-same-3
-slice-aggregate-same-3 c = search needs
-
-same-requires-3 : tie.Need-same-requires-3
-same-requires-3 c κs = search needs
-
-alone-requires : tie.Need-alone-requires
-alone-requires c κs = search needs
 
 returns-4 : tie.Need-returns-4
 returns-4 c =
@@ -110,15 +71,6 @@ returns-4 c =
     c .alone .ensures
     ∙ sym (call-start _ _ (found (place-2 .before .before .before .before)) (sym (same .ensures) ∙ if1 .left) (sym (same2 .ensures) ∙ if2 .left)
     (sym (c .before .before .same3 .ensures) ∙ c .before .if3 .taken))
-
-slice-aggregate-same-4 : tie.Need-slice-aggregate-same-4
-slice-aggregate-same-4 c = search needs
-
-same-requires-4 : tie.Need-same-requires-4
-same-requires-4 c κs = search needs
-
-alone-requires-2 : tie.Need-alone-requires-2
-alone-requires-2 c κs = search needs
 
 returns-5 : tie.Need-returns-5
 returns-5 c =
@@ -134,9 +86,6 @@ returns-5 c =
     c .alone2 .ensures
     ∙ sym (call-longest _ _ (found (place-3 .before .before .before .before)) (sym (same .ensures) ∙ if1 .left) (sym (same2 .ensures) ∙ if2 .left)
     (sym (same3 .ensures) ∙ if3 .left) (sym (c .before .before .same4 .ensures) ∙ c .before .if4 .taken))
-
-plain-requires-2 : tie.Need-plain-requires-2
-plain-requires-2 c κs = search needs
 
 returns-6 : tie.Need-returns-6
 returns-6 c =
@@ -157,29 +106,29 @@ pub call-of-spec : {M : Type 1} → statement M
 call-of-spec =
     tie.close
     (tie.spec
-    next-word-requires
-    enum-known-w
-    enum-told
-    plain-requires
+    (λ c κs. search needs)
+    (λ c. search needs)
+    (λ c. search needs)
+    (λ c κs. search needs)
     returns
     sub-word
     part-word-start
     part-word-end
-    slice-aggregate-same
-    same-requires
-    step-of-requires
+    (λ c. search needs)
+    (λ c κs. search needs)
+    (λ c κs. search needs)
     returns-2
-    slice-aggregate-same-2
-    same-requires-2
-    wait-of-requires
+    (λ c. search needs)
+    (λ c κs. search needs)
+    (λ c κs. search needs)
     returns-3
-    slice-aggregate-same-3
-    same-requires-3
-    alone-requires
+    (λ c. search needs)
+    (λ c κs. search needs)
+    (λ c κs. search needs)
     returns-4
-    slice-aggregate-same-4
-    same-requires-4
-    alone-requires-2
+    (λ c. search needs)
+    (λ c κs. search needs)
+    (λ c κs. search needs)
     returns-5
-    plain-requires-2
+    (λ c κs. search needs)
     returns-6)

@@ -3,9 +3,6 @@ use borrow.Author.Needs.{needs}
 use Rattle.console.proofs.script.next_number.Statement.{statement}
 use Rattle.console.proofs.script.next_number.Tie as tie
 
-add-result : tie.Need-add-result
-add-result c = search needs
-
 returns : tie.Need-returns
 returns c = rw (lt-ltb _ 1000000 (c .if1 .taken))
 
@@ -13,4 +10,4 @@ returns-2 : tie.Need-returns-2
 returns-2 c = rw (le-ltb _ 1000000 (c .if1 .left))
 
 pub next-number-spec : {M : Type 1} → statement M
-next-number-spec = tie.close (tie.spec add-result returns returns-2)
+next-number-spec = tie.close (tie.spec (λ c. search needs) returns returns-2)

@@ -3,12 +3,6 @@ use Rattle.console.proofs.Words.{word-found, word-fits, word-none}
 use Rattle.console.proofs.script.next_word.Statement.{statement}
 use Rattle.console.proofs.script.next_word.Tie as tie
 
-run-end-requires : tie.Need-run-end-requires
-run-end-requires c κs = search needs
-
-run-end-requires-2 : tie.Need-run-end-requires-2
-run-end-requires-2 c κs = search needs
-
 returns : tie.Need-returns
 returns c = (word-found _ _ (c .before .before .run-end .ensures) (c .before .run-end2 .ensures) (c .if1 .taken), word-fits _ _ (c .before .before .run-end .ensures) (c .before .run-end2 .ensures) (c .if1 .taken))
 
@@ -16,4 +10,4 @@ returns-2 : tie.Need-returns-2
 returns-2 c = (word-none _ _ (c .before .before .run-end .ensures) (c .before .run-end2 .ensures) (c .if1 .left), tt)
 
 pub next-word-spec : {M : Type 1} → statement M
-next-word-spec = tie.close (tie.spec run-end-requires run-end-requires-2 returns returns-2)
+next-word-spec = tie.close (tie.spec (λ c κs. search needs) (λ c κs. search needs) returns returns-2)

@@ -6,20 +6,8 @@ use Rattle.console.proofs.Search.{place-within, before-comment}
 use Rattle.console.proofs.script.read_line.Statement.{statement}
 use Rattle.console.proofs.script.read_line.Tie as tie
 
-find-requires : tie.Need-find-requires
-find-requires c κs = search needs
-
-sub-call-of : tie.Need-sub-call-of
-sub-call-of c = search needs
-
-part-call-of-start : tie.Need-part-call-of-start
-part-call-of-start c = search needs
-
 part-call-of-end : tie.Need-part-call-of-end
 part-call-of-end c = place-within _ (c .before .before .args .s .now) 0 (c .find .ensures) (omega arith)
-
-call-of-requires : tie.Need-call-of-requires
-call-of-requires c κs = search needs
 
 returns : tie.Need-returns
 unfolding lineOf
@@ -29,9 +17,9 @@ pub read-line-spec : {M : Type 1} → statement M
 read-line-spec =
     tie.close
     (tie.spec
-    find-requires
-    sub-call-of
-    part-call-of-start
+    (λ c κs. search needs)
+    (λ c. search needs)
+    (λ c. search needs)
     part-call-of-end
-    call-of-requires
+    (λ c κs. search needs)
     returns)

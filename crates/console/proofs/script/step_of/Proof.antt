@@ -18,20 +18,8 @@ Inv-loop s at line₀ place₀ line place = Stepping line (words (onward s place
 abbrev μ-loop : tie.MeasureT-loop
 μ-loop s at line₀ place₀ line place = length s - place
 
-plain-requires : tie.Need-plain-requires Inv-loop μ-loop
-plain-requires c κs = search needs
-
 loop-holds : tie.Need-loop-holds Inv-loop μ-loop
 loop-holds c = step-none _ (c .plain .ensures)
-
-next-word-requires : tie.Need-next-word-requires Inv-loop μ-loop
-next-word-requires c κs = search needs
-
-enum-known-w : tie.Need-enum-known-w Inv-loop μ-loop
-enum-known-w c = search needs
-
-enum-told : tie.Need-enum-told Inv-loop μ-loop
-enum-told c = search needs
 
 -- the line, and where the word that was found begins and ends
 abbrev line : tie.After-known-told Inv-loop μ-loop → List ℕ
@@ -66,23 +54,8 @@ part-number-start c = omega (arith, within c)
 part-number-end : tie.Need-part-number-end Inv-loop μ-loop
 part-number-end c = omega (arith, within c)
 
-number-requires : tie.Need-number-requires Inv-loop μ-loop
-number-requires c κs = search needs
-
-enum-known-n : tie.Need-enum-known-n Inv-loop μ-loop
-enum-known-n c = search needs
-
-enum-told-2 : tie.Need-enum-told-2 Inv-loop μ-loop
-enum-told-2 c = search needs
-
-plain-requires-2 : tie.Need-plain-requires-2 Inv-loop μ-loop
-plain-requires-2 c κs = search needs
-
 returns-2 : tie.Need-returns-2 Inv-loop μ-loop
 returns-2 c = c .plain2 .ensures ∙ step-bad _ _ _ (c .before .before .before .before .before .before .before .before .before .loop .inv) (found (c .before .before .before .before .before)) (number-bad _ (c .before .before .before .number .ensures) (c .before .enum-told2 .given .1))
-
-with-number-requires : tie.Need-with-number-requires Inv-loop μ-loop
-with-number-requires c κs = search needs
 
 loop-less : tie.Need-loop-less Inv-loop μ-loop
 loop-less c = omega (arith, within (c .before .before .before .before .before .before))
@@ -100,20 +73,20 @@ step-of-spec =
     (tie.spec
     Inv-loop
     μ-loop
-    plain-requires
+    (λ c κs. search needs)
     loop-holds
-    next-word-requires
-    enum-known-w
-    enum-told
+    (λ c κs. search needs)
+    (λ c. search needs)
+    (λ c. search needs)
     returns
     sub-number
     part-number-start
     part-number-end
-    number-requires
-    enum-known-n
-    enum-told-2
-    plain-requires-2
+    (λ c κs. search needs)
+    (λ c. search needs)
+    (λ c. search needs)
+    (λ c κs. search needs)
     returns-2
-    with-number-requires
+    (λ c κs. search needs)
     loop-less
     loop-again)

@@ -11,18 +11,6 @@ use Rattle.console.proofs.Steps.{wait-bad, wait-more, wait-one}
 use Rattle.console.proofs.script.wait_of.Statement.{statement}
 use Rattle.console.proofs.script.wait_of.Tie as tie
 
-next-word-requires : tie.Need-next-word-requires
-next-word-requires c κs = search needs
-
-enum-known-w : tie.Need-enum-known-w
-enum-known-w c = search needs
-
-enum-told : tie.Need-enum-told
-enum-told c = search needs
-
-plain-requires : tie.Need-plain-requires
-plain-requires c κs = search needs
-
 -- the line, and where the word that was found begins and ends
 abbrev line : tie.After-known-told → List ℕ
 line c = c .before .before .before .before .before .args .s .now
@@ -55,38 +43,11 @@ part-number-start c = omega (arith, within c)
 part-number-end : tie.Need-part-number-end
 part-number-end c = omega (arith, within c)
 
-number-requires : tie.Need-number-requires
-number-requires c κs = search needs
-
-enum-known-n : tie.Need-enum-known-n
-enum-known-n c = search needs
-
-enum-told-2 : tie.Need-enum-told-2
-enum-told-2 c = search needs
-
-plain-requires-2 : tie.Need-plain-requires-2
-plain-requires-2 c κs = search needs
-
 returns-2 : tie.Need-returns-2
 returns-2 c = c .plain2 .ensures ∙ sym (wait-bad _ _ (found (c .before .before .before .before .before)) (number-bad _ (c .before .before .before .number .ensures) (c .before .enum-told2 .given .1)))
 
-next-word-requires-2 : tie.Need-next-word-requires-2
-next-word-requires-2 c κs = search needs
-
-enum-told-3 : tie.Need-enum-told-3
-enum-told-3 c = search needs
-
-enum-told-4 : tie.Need-enum-told-4
-enum-told-4 c = search needs
-
-plain-requires-3 : tie.Need-plain-requires-3
-plain-requires-3 c κs = search needs
-
 returns-3 : tie.Need-returns-3
 returns-3 c = c .plain3 .ensures ∙ sym (wait-more _ _ (found (c .before .before .before .before .before .before .before .before .before)) (words-part _ _ (c .before .before .before .next-word2 .result) (c .before .before .before .next-word2 .ensures .0) (c .before .enum-told4 .given .1)))
-
-plain-requires-4 : tie.Need-plain-requires-4
-plain-requires-4 c κs = search needs
 
 returns-4 : tie.Need-returns-4
 returns-4 c =
@@ -102,23 +63,23 @@ pub wait-of-spec : {M : Type 1} → statement M
 wait-of-spec =
     tie.close
     (tie.spec
-    next-word-requires
-    enum-known-w
-    enum-told
-    plain-requires
+    (λ c κs. search needs)
+    (λ c. search needs)
+    (λ c. search needs)
+    (λ c κs. search needs)
     returns
     sub-number
     part-number-start
     part-number-end
-    number-requires
-    enum-known-n
-    enum-told-2
-    plain-requires-2
+    (λ c κs. search needs)
+    (λ c. search needs)
+    (λ c. search needs)
+    (λ c κs. search needs)
     returns-2
-    next-word-requires-2
-    enum-told-3
-    enum-told-4
-    plain-requires-3
+    (λ c κs. search needs)
+    (λ c. search needs)
+    (λ c. search needs)
+    (λ c κs. search needs)
     returns-3
-    plain-requires-4
+    (λ c κs. search needs)
     returns-4)

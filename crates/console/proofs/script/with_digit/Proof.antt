@@ -8,15 +8,9 @@ returns : tie.Need-returns
 unfolding withDigit
 returns c = rw (lt-ltb 4294967295 _ (c .if1 .taken))
 
-mul-result : tie.Need-mul-result
-mul-result c = search needs
-
-add-result : tie.Need-add-result
-add-result c = search needs
-
 returns-2 : tie.Need-returns-2
 unfolding withDigit
 returns-2 c = rw (le-ltb 4294967295 _ (c .if1 .left))
 
 pub with-digit-spec : {M : Type 1} → statement M
-with-digit-spec = tie.close (tie.spec returns mul-result add-result returns-2)
+with-digit-spec = tie.close (tie.spec returns (λ c. search needs) (λ c. search needs) returns-2)

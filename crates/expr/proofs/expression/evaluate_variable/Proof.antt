@@ -8,18 +8,6 @@ use borrow.Author.Needs.{needs}
 use Rattle.expr.proofs.expression.evaluate_variable.Statement.{statement}
 use Rattle.expr.proofs.expression.evaluate_variable.Tie as tie
 
-read-below-requires : tie.Need-read-below-requires
-read-below-requires c κs = search needs
-
-enum-known-b : tie.Need-enum-known-b
-enum-known-b c = search needs
-
-enum-told : tie.Need-enum-told
-enum-told c = search needs
-
-byte-fault-requires : tie.Need-byte-fault-requires
-byte-fault-requires c κs = search needs
-
 returns : tie.Need-returns
 returns c =
     let at-read-below = c .before .before .before in
@@ -27,9 +15,6 @@ returns c =
       handed-on byteFault (c .byte-fault .ensures) (c .before .enum-told .given .1) (mapped-fault _ fails),
       omega arith,
     )
-
-variable-value-requires : tie.Need-variable-value-requires
-variable-value-requires c κs = search needs
 
 returns-2 : tie.Need-returns-2
 returns-2 c =
@@ -45,10 +30,10 @@ pub evaluate-variable-spec : {M : Type 1} → statement M
 evaluate-variable-spec =
     tie.close
     (tie.spec
-    read-below-requires
-    enum-known-b
-    enum-told
-    byte-fault-requires
+    (λ c κs. search needs)
+    (λ c. search needs)
+    (λ c. search needs)
+    (λ c κs. search needs)
     returns
-    variable-value-requires
+    (λ c κs. search needs)
     returns-2)

@@ -15,24 +15,6 @@ returns : tie.Need-returns
 unfolding skipped
 returns c = sym (read-empty _ _ _ _ (length-onward _ _ ∙ omega arith))
 
-sub-read-expression : tie.Need-sub-read-expression
-sub-read-expression c = search needs
-
-part-read-expression-start : tie.Need-part-read-expression-start
-part-read-expression-start c = search needs
-
-part-read-expression-end : tie.Need-part-read-expression-end
-part-read-expression-end c = search needs
-
-read-expression-requires : tie.Need-read-expression-requires
-read-expression-requires c κs = search needs
-
-enum-known-q : tie.Need-enum-known-q
-enum-known-q c = search needs
-
-enum-told : tie.Need-enum-told
-enum-told c = search needs
-
 returns-2 : tie.Need-returns-2
 returns-2 c =
     let start = c .before .before .before .before .before .before in
@@ -65,12 +47,12 @@ expression-at-spec =
     tie.close
     (tie.spec
     returns
-    sub-read-expression
-    part-read-expression-start
-    part-read-expression-end
-    read-expression-requires
-    enum-known-q
-    enum-told
+    (λ c. search needs)
+    (λ c. search needs)
+    (λ c. search needs)
+    (λ c κs. search needs)
+    (λ c. search needs)
+    (λ c. search needs)
     returns-2
     add-t6
     returns-3)

@@ -3,12 +3,6 @@ use borrow.Author.Needs.{needs}
 use Rattle.expr.proofs.expression.read_constant.Statement.{statement}
 use Rattle.expr.proofs.expression.read_constant.Tie as tie
 
-read-word-requires : tie.Need-read-word-requires
-read-word-requires c κs = search needs
-
-word-reached-requires : tie.Need-word-reached-requires
-word-reached-requires c κs = search needs
-
 returns : tie.Need-returns
 returns c = (
   word-skipped _ (c .before .read-word .result) (c .word-reached .ensures) (c .before .read-word .ensures .0),
@@ -16,4 +10,4 @@ returns c = (
 )
 
 pub read-constant-spec : {M : Type 1} → statement M
-read-constant-spec = tie.close (tie.spec read-word-requires word-reached-requires returns)
+read-constant-spec = tie.close (tie.spec (λ c κs. search needs) (λ c κs. search needs) returns)

@@ -16,18 +16,6 @@ use Rattle.expr.proofs.expression.read_signed.Tie as tie
 abbrev number : ℕ → Value
 number x = Va.Number (signed x)
 
-read-word-requires : tie.Need-read-word-requires
-read-word-requires c κs = search needs
-
-enum-known-w : tie.Need-enum-known-w
-enum-known-w c = search needs
-
-enum-told : tie.Need-enum-told
-enum-told c = search needs
-
-word-fault-requires : tie.Need-word-fault-requires
-word-fault-requires c κs = search needs
-
 returns : tie.Need-returns
 unfolding mapped
 returns c =
@@ -36,9 +24,6 @@ returns c =
       handed-on wordFault (c .word-fault .ensures) (c .before .enum-told .given .1) (ap (mapped number) fails),
       omega arith,
     )
-
-signed-requires : tie.Need-signed-requires
-signed-requires c κs = search needs
 
 returns-2 : tie.Need-returns-2
 unfolding mapped
@@ -55,10 +40,10 @@ pub read-signed-spec : {M : Type 1} → statement M
 read-signed-spec =
     tie.close
     (tie.spec
-    read-word-requires
-    enum-known-w
-    enum-told
-    word-fault-requires
+    (λ c κs. search needs)
+    (λ c. search needs)
+    (λ c. search needs)
+    (λ c κs. search needs)
     returns
-    signed-requires
+    (λ c κs. search needs)
     returns-2)

@@ -14,24 +14,6 @@ use Rattle.expr.proofs.expression.value_at.Tie as tie
 returns : tie.Need-returns
 returns c = sym (read-empty _ _ _ _ (length-onward _ _ ∙ omega arith))
 
-sub-evaluate : tie.Need-sub-evaluate
-sub-evaluate c = search needs
-
-part-evaluate-start : tie.Need-part-evaluate-start
-part-evaluate-start c = search needs
-
-part-evaluate-end : tie.Need-part-evaluate-end
-part-evaluate-end c = search needs
-
-evaluate-requires : tie.Need-evaluate-requires
-evaluate-requires c κs = search needs
-
-enum-known-v : tie.Need-enum-known-v
-enum-known-v c = search needs
-
-enum-told : tie.Need-enum-told
-enum-told c = search needs
-
 returns-2 : tie.Need-returns-2
 returns-2 c =
     let start = c .before .before .before .before .before .before in
@@ -65,12 +47,12 @@ value-at-spec =
     tie.close
     (tie.spec
     returns
-    sub-evaluate
-    part-evaluate-start
-    part-evaluate-end
-    evaluate-requires
-    enum-known-v
-    enum-told
+    (λ c. search needs)
+    (λ c. search needs)
+    (λ c. search needs)
+    (λ c κs. search needs)
+    (λ c. search needs)
+    (λ c. search needs)
     returns-2
     add-t8
     returns-3)

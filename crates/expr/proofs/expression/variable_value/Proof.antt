@@ -6,17 +6,8 @@ use borrow.Author.Needs.{needs}
 use Rattle.expr.proofs.expression.variable_value.Statement.{statement}
 use Rattle.expr.proofs.expression.variable_value.Tie as tie
 
-mul-result : tie.Need-mul-result
-mul-result c = search needs
-
-array-copy-out-result : tie.Need-array-copy-out-result
-array-copy-out-result c = search needs
-
-returns : tie.Need-returns
-returns c = search needs
-
 returns-2 : tie.Need-returns-2
 returns-2 c = sym (List·getD-eq-default (c .before .args .t2) (pos 0) {n = c .before .args .i} (omega (arith, c .before .good .1 .0 .1 .0 .1)))
 
 pub variable-value-spec : {M : Type 1} → statement M
-variable-value-spec = tie.close (tie.spec mul-result array-copy-out-result returns returns-2)
+variable-value-spec = tie.close (tie.spec (λ c. search needs) (λ c. search needs) (λ c. search needs) returns-2)

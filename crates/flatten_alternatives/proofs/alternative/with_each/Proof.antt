@@ -21,20 +21,8 @@ returns c xs ys k l a = each-over _ _ _ xs ys k _ l (c .if1 .taken)
 loop-holds : tie.Need-loop-holds Inv-loop μ-loop
 loop-holds c = (omega arith, omega arith, λ xs ys k l a. l)
 
-mul-x : tie.Need-mul-x Inv-loop μ-loop
-mul-x c = omega arith
-
-element-copy-out-x : tie.Need-element-copy-out-x Inv-loop μ-loop
-element-copy-out-x c = omega arith
-
 with-number-requires : tie.Need-with-number-requires Inv-loop μ-loop
 with-number-requires c κs = tt
-
-add-i : tie.Need-add-i Inv-loop μ-loop
-add-i c = omega arith
-
-loop-less : tie.Need-loop-less Inv-loop μ-loop
-loop-less c = omega arith
 
 loop-again : tie.Need-loop-again Inv-loop μ-loop
 loop-again c =
@@ -52,10 +40,10 @@ with-each-spec =
     μ-loop
     returns
     loop-holds
-    mul-x
-    element-copy-out-x
+    (λ c. omega arith)
+    (λ c. omega arith)
     with-number-requires
-    add-i
-    loop-less
+    (λ c. omega arith)
+    (λ c. omega arith)
     loop-again
     returns-2)

@@ -4,18 +4,6 @@ use Rattle.flatten_alternatives.proofs.Keeping.{kept-if, kept-unless}
 use Rattle.flatten_alternatives.proofs.alternative.with_fixed.Statement.{statement}
 use Rattle.flatten_alternatives.proofs.alternative.with_fixed.Tie as tie
 
-byte-at-requires : tie.Need-byte-at-requires
-byte-at-requires c κs = search needs
-
-cast-has : tie.Need-cast-has
-cast-has c = search needs
-
-has-requires : tie.Need-has-requires
-has-requires c κs = search needs
-
-with-each-requires : tie.Need-with-each-requires
-with-each-requires c κs = search needs
-
 returns : tie.Need-returns
 returns c xs ys k l a =
     let m = c .before .before in
@@ -27,4 +15,4 @@ returns-2 c xs ys k l a = kept-unless _ _ (c .before .before .before .before .ar
 pub with-fixed-spec : {M : Type 1} → statement M
 with-fixed-spec =
     tie.close
-    (tie.spec byte-at-requires cast-has has-requires with-each-requires returns returns-2)
+    (tie.spec (λ c κs. search needs) (λ c. search needs) (λ c κs. search needs) (λ c κs. search needs) returns returns-2)

@@ -8,15 +8,6 @@ use Rattle.flatten_alternatives.proofs.ascending.end_or_start.Tie as ti
 returns : tie.Need-returns
 returns c = (omega arith, inl refl)
 
-sub-last : tie.Need-sub-last
-sub-last c = search needs
-
-mul-last : tie.Need-mul-last
-mul-last c = search needs
-
-element-copy-out-last : tie.Need-element-copy-out-last
-element-copy-out-last c = search needs
-
 returns-2 : tie.Need-returns-2
 returns-2 c = (omega arith, inr (c .if2 .taken))
 
@@ -25,4 +16,4 @@ returns-3 c = (omega arith, inl refl)
 
 pub end-or-start-spec : {M : Type 1} → statement M
 end-or-start-spec =
-    tie.close (tie.spec returns sub-last mul-last element-copy-out-last returns-2 returns-3)
+    tie.close (tie.spec returns (λ c. search needs) (λ c. search needs) (λ c. search needs) returns-2 returns-3)

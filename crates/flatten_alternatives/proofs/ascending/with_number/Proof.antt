@@ -17,34 +17,13 @@ abbrev μ-loop : tie.MeasureT-loop
 returns : tie.Need-returns Inv-loop μ-loop
 returns c xs k = kept-still _ xs _ _ k (c .if1 .taken)
 
-place-of-requires : tie.Need-place-of-requires Inv-loop μ-loop
-place-of-requires c κs = omega arith
-
 loop-holds : tie.Need-loop-holds Inv-loop μ-loop
 loop-holds c = (omega arith, omega arith, λ xs k. walking-first _ _ _ (omega arith) xs _ k (c .place-of .ensures .0) (c .place-of .ensures .1))
-
-mul-y : tie.Need-mul-y Inv-loop μ-loop
-mul-y c = omega arith
-
-element-copy-out-y : tie.Need-element-copy-out-y Inv-loop μ-loop
-element-copy-out-y c = omega arith
 
 returns-2 : tie.Need-returns-2 Inv-loop μ-loop
 returns-2 c xs k =
     let l = c .before .before .before in
     kept-equal _ xs _ _ (omega arith) _ _ (l .loop .inv .2 xs k) (omega arith) (c .if2 .taken)
-
-mul-items : tie.Need-mul-items Inv-loop μ-loop
-mul-items c = omega arith
-
-element-write-items : tie.Need-element-write-items Inv-loop μ-loop
-element-write-items c = omega arith
-
-add-i : tie.Need-add-i Inv-loop μ-loop
-add-i c = omega arith
-
-loop-less : tie.Need-loop-less Inv-loop μ-loop
-loop-less c = omega arith
 
 loop-again : tie.Need-loop-again Inv-loop μ-loop
 loop-again c =
@@ -59,15 +38,6 @@ returns-3 c xs k =
     let l = c .before .before in
     kept-full _ xs _ _ (omega arith) _ _ (l .loop .inv .2 xs k) (omega arith) (omega arith) (c .if4 .taken)
 
-mul-items-2 : tie.Need-mul-items-2 Inv-loop μ-loop
-mul-items-2 c = omega arith
-
-element-write-items-2 : tie.Need-element-write-items-2 Inv-loop μ-loop
-element-write-items-2 c = omega arith
-
-add-result : tie.Need-add-result Inv-loop μ-loop
-add-result c = omega arith
-
 returns-4 : tie.Need-returns-4 Inv-loop μ-loop
 returns-4 c xs k =
     let l = c .before .before in
@@ -80,18 +50,18 @@ with-number-spec =
     Inv-loop
     μ-loop
     returns
-    place-of-requires
+    (λ c κs. omega arith)
     loop-holds
-    mul-y
-    element-copy-out-y
+    (λ c. omega arith)
+    (λ c. omega arith)
     returns-2
-    mul-items
-    element-write-items
-    add-i
-    loop-less
+    (λ c. omega arith)
+    (λ c. omega arith)
+    (λ c. omega arith)
+    (λ c. omega arith)
     loop-again
     returns-3
-    mul-items-2
-    element-write-items-2
-    add-result
+    (λ c. omega arith)
+    (λ c. omega arith)
+    (λ c. omega arith)
     returns-4)

@@ -7,21 +7,6 @@ use Rattle.flatten_edges.proofs.bear.bear.Tie as tie
 returns : tie.Need-returns
 returns c = λ d n s q T S L h o f g m R. (adds-past _ _ _ (c .if1 .taken), R)
 
-joining-requires : tie.Need-joining-requires
-joining-requires c κs = search needs
-
-signals-of-requires : tie.Need-signals-of-requires
-signals-of-requires c κs = search needs
-
-of-transition-requires : tie.Need-of-transition-requires
-of-transition-requires c κs = search needs
-
-bearing-head-requires : tie.Need-bearing-head-requires
-bearing-head-requires c κs = search needs
-
-push-requires : tie.Need-push-requires
-push-requires c κs = search needs
-
 returns-2 : tie.Need-returns-2
 returns-2 c = λ d n s q T S L h o f g m R.
     let none = c .before .before .before in
@@ -32,15 +17,6 @@ returns-2 c = λ d n s q T S L h o f g m R.
       R,
     )
 
-start-off-requires : tie.Need-start-off-requires
-start-off-requires c κs = search needs
-
-of-transition-requires-2 : tie.Need-of-transition-requires-2
-of-transition-requires-2 c κs = search needs
-
-sets-by-requires : tie.Need-sets-by-requires
-sets-by-requires c κs = search needs
-
 returns-3 : tie.Need-returns-3
 returns-3 c = λ d n s q T S L h o f g m R.
     let from = c .before .before .before .before in
@@ -49,9 +25,6 @@ returns-3 c = λ d n s q T S L h o f g m R.
     let ends = by .before .before in
     bear-over d _ _ _ T S n _ _ L _ h _ o _ _ q f g m (ends .before .joining .ensures) (ends .signals-of .ensures) _ (by .of-transition .ensures)
     (some .if2 .left) (from .of-transition2 .ensures) (c .before .sets-by .ensures) R _ _ (c .if3 .taken)
-
-bear-each-requires : tie.Need-bear-each-requires
-bear-each-requires c κs = search needs
 
 returns-4 : tie.Need-returns-4
 returns-4 c = λ d n s q T S L h o f g m R.
@@ -69,15 +42,15 @@ bear-spec =
     tie.close
     (tie.spec
     returns
-    joining-requires
-    signals-of-requires
-    of-transition-requires
-    bearing-head-requires
-    push-requires
+    (λ c κs. search needs)
+    (λ c κs. search needs)
+    (λ c κs. search needs)
+    (λ c κs. search needs)
+    (λ c κs. search needs)
     returns-2
-    start-off-requires
-    of-transition-requires-2
-    sets-by-requires
+    (λ c κs. search needs)
+    (λ c κs. search needs)
+    (λ c κs. search needs)
     returns-3
-    bear-each-requires
+    (λ c κs. search needs)
     returns-4)

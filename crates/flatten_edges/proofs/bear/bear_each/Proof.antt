@@ -27,27 +27,6 @@ returns c = λ d p q l xs B. absurd (omega (arith, c .if1 .taken, B .few))
 loop-holds : tie.Need-loop-holds Inv-loop μ-loop
 loop-holds c = λ d p q l xs B. walk-none _ xs _ _
 
-mul-tested : tie.Need-mul-tested Inv-loop μ-loop
-mul-tested c = search needs
-
-element-copy-out-tested : tie.Need-element-copy-out-tested Inv-loop μ-loop
-element-copy-out-tested c = search needs
-
-exit-tested-requires : tie.Need-exit-tested-requires Inv-loop μ-loop
-exit-tested-requires c κs = search needs
-
-bearing-head-requires : tie.Need-bearing-head-requires Inv-loop μ-loop
-bearing-head-requires c κs = search needs
-
-push-requires : tie.Need-push-requires Inv-loop μ-loop
-push-requires c κs = search needs
-
-add-k : tie.Need-add-k Inv-loop μ-loop
-add-k c = omega arith
-
-loop-less : tie.Need-loop-less Inv-loop μ-loop
-loop-less c = omega arith
-
 loop-again : tie.Need-loop-again Inv-loop μ-loop
 loop-again c = λ d p q l xs B. set-more d p q l xs _ _ _ _ _ _ _ B _ _ _ _ (c .before .before .before .before .before .before .loop .inv d p q l xs B) (c .before .before .before .before .before .loop-test .taken) refl (c .before .before .before .exit-tested .ensures) refl (c .before .before .bearing-head .ensures) (c .push .ensures)
 
@@ -62,12 +41,12 @@ bear-each-spec =
     μ-loop
     returns
     loop-holds
-    mul-tested
-    element-copy-out-tested
-    exit-tested-requires
-    bearing-head-requires
-    push-requires
-    add-k
-    loop-less
+    (λ c. search needs)
+    (λ c. search needs)
+    (λ c κs. search needs)
+    (λ c κs. search needs)
+    (λ c κs. search needs)
+    (λ c. omega arith)
+    (λ c. omega arith)
     loop-again
     returns-2)

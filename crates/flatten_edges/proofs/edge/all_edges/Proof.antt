@@ -24,18 +24,6 @@ abbrev μ-loop : tie.MeasureT-loop
 loop-holds : tie.Need-loop-holds Inv-loop μ-loop
 loop-holds c = λ d r T P L. walk-none _ (allPlaces d) _ _
 
-of-place-requires : tie.Need-of-place-requires Inv-loop μ-loop
-of-place-requires c κs = search needs
-
-of-place-requires-2 : tie.Need-of-place-requires-2 Inv-loop μ-loop
-of-place-requires-2 c κs = search needs
-
-of-place-requires-3 : tie.Need-of-place-requires-3 Inv-loop μ-loop
-of-place-requires-3 c κs = search needs
-
-from-place-requires : tie.Need-from-place-requires Inv-loop μ-loop
-from-place-requires c κs = search needs
-
 returns : tie.Need-returns Inv-loop μ-loop
 returns c = λ d r T P L e.
     let kind = c .before .before .before .before .before .before .before .before .before in
@@ -43,12 +31,6 @@ returns c = λ d r T P L e.
     place-past d _ P _ _ _ _ (test .before .before .loop .inv d r T P L) (test .if1 .taken) (kind .of-place .ensures)
     (c .before .before .before .before .before .before .before .of-place2 .ensures) (c .before .before .before .before .before .of-place3 .ensures)
     (λ p m f k v a. c .before .from-place .ensures d r p T (spread-of d _ P) L (P .count) m f k v a) (c .if2 .taken) e
-
-add-i : tie.Need-add-i Inv-loop μ-loop
-add-i c = omega arith
-
-loop-less : tie.Need-loop-less Inv-loop μ-loop
-loop-less c = omega arith
 
 loop-again : tie.Need-loop-again Inv-loop μ-loop
 loop-again c = λ d r T P L.
@@ -68,12 +50,12 @@ all-edges-spec =
     Inv-loop
     μ-loop
     loop-holds
-    of-place-requires
-    of-place-requires-2
-    of-place-requires-3
-    from-place-requires
+    (λ c κs. search needs)
+    (λ c κs. search needs)
+    (λ c κs. search needs)
+    (λ c κs. search needs)
     returns
-    add-i
-    loop-less
+    (λ c. omega arith)
+    (λ c. omega arith)
     loop-again
     returns-2)

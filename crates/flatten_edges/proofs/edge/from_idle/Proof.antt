@@ -24,18 +24,6 @@ abbrev μ-loop : tie.MeasureT-loop
 loop-holds : tie.Need-loop-holds Inv-loop μ-loop
 loop-holds c = λ d T S m f. walk-none _ (states d) _ _
 
-of-state-requires : tie.Need-of-state-requires Inv-loop μ-loop
-of-state-requires c κs = search needs
-
-to-child-requires : tie.Need-to-child-requires Inv-loop μ-loop
-to-child-requires c κs = search needs
-
-add-s : tie.Need-add-s Inv-loop μ-loop
-add-s c = omega arith
-
-loop-less : tie.Need-loop-less Inv-loop μ-loop
-loop-less c = omega arith
-
 loop-again : tie.Need-loop-again Inv-loop μ-loop
 loop-again c = λ d T S m f.
     let i = c .before .before .before .before .before .loop .inv d T S m f in
@@ -54,9 +42,9 @@ from-idle-spec =
     Inv-loop
     μ-loop
     loop-holds
-    of-state-requires
-    to-child-requires
-    add-s
-    loop-less
+    (λ c κs. search needs)
+    (λ c κs. search needs)
+    (λ c. omega arith)
+    (λ c. omega arith)
     loop-again
     returns)

@@ -4,18 +4,6 @@ use mathlib.Core.Path.{refl}
 use Rattle.flatten_edges.proofs.edge.from_place.Statement.{statement}
 use Rattle.flatten_edges.proofs.edge.from_place.Tie as tie
 
-from-idle-requires : tie.Need-from-idle-requires
-from-idle-requires c κs = search needs
-
-from-child-requires : tie.Need-from-child-requires
-from-child-requires c κs = search needs
-
-from-pre-requires : tie.Need-from-pre-requires
-from-pre-requires c κs = search needs
-
-from-post-requires : tie.Need-from-post-requires
-from-post-requires c κs = search needs
-
 returns : tie.Need-returns
 returns c = λ d n p T S L e m f k v a. same-edges d (is-idle p k v (c .before .before .match .keys1)) m f (λ j g. c .from-idle .ensures d T S j g)
 
@@ -32,10 +20,10 @@ pub from-place-spec : {M : Type 1} → statement M
 from-place-spec =
     tie.close
     (tie.spec
-    from-idle-requires
-    from-child-requires
-    from-pre-requires
-    from-post-requires
+    (λ c κs. search needs)
+    (λ c κs. search needs)
+    (λ c κs. search needs)
+    (λ c κs. search needs)
     returns
     returns-2
     returns-3

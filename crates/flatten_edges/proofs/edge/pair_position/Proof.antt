@@ -20,26 +20,8 @@ abbrev μ-loop : tie.MeasureT-loop
 loop-holds : tie.Need-loop-holds Inv-loop μ-loop
 loop-holds c = λ ps p C e f. search-start ps p
 
-cast-byte-at : tie.Need-cast-byte-at Inv-loop μ-loop
-cast-byte-at c = search needs
-
-byte-at-requires : tie.Need-byte-at-requires Inv-loop μ-loop
-byte-at-requires c κs = search needs
-
-cast-byte-at-2 : tie.Need-cast-byte-at-2 Inv-loop μ-loop
-cast-byte-at-2 c = search needs
-
-byte-at-requires-2 : tie.Need-byte-at-requires-2 Inv-loop μ-loop
-byte-at-requires-2 c κs = search needs
-
 returns : tie.Need-returns Inv-loop μ-loop
 returns c = λ ps p C e f. search-found ps p _ _ _ C _ e f (c .before .before .before .byte-at .ensures) (c .before .byte-at2 .ensures) (c .before .before .before .before .before .loop-test .taken) (c .if1 .taken) (c .before .before .before .before .before .before .loop .inv ps p C e f)
-
-add-k : tie.Need-add-k Inv-loop μ-loop
-add-k c = omega arith
-
-loop-less : tie.Need-loop-less Inv-loop μ-loop
-loop-less c = omega arith
 
 loop-again : tie.Need-loop-again Inv-loop μ-loop
 loop-again c = λ ps p C e f. search-on ps p _ _ _ C _ e f (c .before .before .before .byte-at .ensures) (c .before .byte-at2 .ensures) (c .before .before .before .before .before .loop-test .taken) (c .if1 .left) (c .before .before .before .before .before .before .loop .inv ps p C e f)
@@ -54,12 +36,12 @@ pair-position-spec =
     Inv-loop
     μ-loop
     loop-holds
-    cast-byte-at
-    byte-at-requires
-    cast-byte-at-2
-    byte-at-requires-2
+    (λ c. search needs)
+    (λ c κs. search needs)
+    (λ c. search needs)
+    (λ c κs. search needs)
     returns
-    add-k
-    loop-less
+    (λ c. omega arith)
+    (λ c. omega arith)
     loop-again
     returns-2)

@@ -3,27 +3,6 @@ use Rattle.flatten_edges.proofs.Children.{idle-adds}
 use Rattle.flatten_edges.proofs.edge.to_idle.Statement.{statement}
 use Rattle.flatten_edges.proofs.edge.to_idle.Tie as tie
 
-of-state-requires : tie.Need-of-state-requires
-of-state-requires c κs = search needs
-
-of-state-requires-2 : tie.Need-of-state-requires-2
-of-state-requires-2 c κs = search needs
-
-of-place-requires : tie.Need-of-place-requires
-of-place-requires c κs = search needs
-
-of-automaton-requires : tie.Need-of-automaton-requires
-of-automaton-requires c κs = search needs
-
-joining-requires : tie.Need-joining-requires
-joining-requires c κs = search needs
-
-channel-of-requires : tie.Need-channel-of-requires
-channel-of-requires c κs = search needs
-
-hear-exits-requires : tie.Need-hear-exits-requires
-hear-exits-requires c κs = search needs
-
 returns : tie.Need-returns
 returns c = λ d T S m f.
     let before = c .before .before .before .before .before in
@@ -37,11 +16,11 @@ pub to-idle-spec : {M : Type 1} → statement M
 to-idle-spec =
     tie.close
     (tie.spec
-    of-state-requires
-    of-state-requires-2
-    of-place-requires
-    of-automaton-requires
-    joining-requires
-    channel-of-requires
-    hear-exits-requires
+    (λ c κs. search needs)
+    (λ c κs. search needs)
+    (λ c κs. search needs)
+    (λ c κs. search needs)
+    (λ c κs. search needs)
+    (λ c κs. search needs)
+    (λ c κs. search needs)
     returns)

@@ -16,33 +16,6 @@ returns c = off-many _ _ _ _ _ (c .if1 .taken)
 loop-holds : tie.Need-loop-holds Inv-loop μ-loop
 loop-holds c = off-none _ _ _ _ (c .if1 .left)
 
-sub-a : tie.Need-sub-a Inv-loop μ-loop
-sub-a c = search needs
-
-cast-byte-at : tie.Need-cast-byte-at Inv-loop μ-loop
-cast-byte-at c = search needs
-
-byte-at-requires : tie.Need-byte-at-requires Inv-loop μ-loop
-byte-at-requires c κs = search needs
-
-cast-byte-at-2 : tie.Need-cast-byte-at-2 Inv-loop μ-loop
-cast-byte-at-2 c = search needs
-
-byte-at-requires-2 : tie.Need-byte-at-requires-2 Inv-loop μ-loop
-byte-at-requires-2 c κs = search needs
-
-cast-has : tie.Need-cast-has Inv-loop μ-loop
-cast-has c = search needs
-
-has-requires : tie.Need-has-requires Inv-loop μ-loop
-has-requires c κs = search needs
-
-with-low-requires : tie.Need-with-low-requires Inv-loop μ-loop
-with-low-requires c κs = search needs
-
-loop-less : tie.Need-loop-less Inv-loop μ-loop
-loop-less c = search needs
-
 loop-again : tie.Need-loop-again Inv-loop μ-loop
 loop-again c = off-more _ _ _ _ _ _ _ (c .before .has .result) (c .before .before .before .before .before .before .before .loop .inv) (c .before .before .before .before .before .before .loop-test .taken)
     (cc (c .before .has .ensures, c .before .before .byte-at2 .ensures, c .before .before .before .before .byte-at .ensures))
@@ -59,14 +32,14 @@ start-off-spec =
     μ-loop
     returns
     loop-holds
-    sub-a
-    cast-byte-at
-    byte-at-requires
-    cast-byte-at-2
-    byte-at-requires-2
-    cast-has
-    has-requires
-    with-low-requires
-    loop-less
+    (λ c. search needs)
+    (λ c. search needs)
+    (λ c κs. search needs)
+    (λ c. search needs)
+    (λ c κs. search needs)
+    (λ c. search needs)
+    (λ c κs. search needs)
+    (λ c κs. search needs)
+    (λ c. search needs)
     loop-again
     returns-2)

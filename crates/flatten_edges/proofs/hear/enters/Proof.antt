@@ -20,33 +20,15 @@ abbrev μ-loop : tie.MeasureT-loop
 loop-holds : tie.Need-loop-holds Inv-loop μ-loop
 loop-holds c = λ d E h l. (h, refl)
 
-marks-at-requires : tie.Need-marks-at-requires Inv-loop μ-loop
-marks-at-requires c κs = search needs
-
-cast-has : tie.Need-cast-has Inv-loop μ-loop
-cast-has c = search needs
-
-has-requires : tie.Need-has-requires Inv-loop μ-loop
-has-requires c κs = search needs
-
 returns : tie.Need-returns Inv-loop μ-loop
 returns c = λ d E h l.
     let i = c .before .before .before .before .before .loop .inv d E h l in
     sym (i .1 ∙ enter-not d _ _ E _ l _ (i .0) (c .before .before .before .before .loop-test .taken) (c .before .before .marks-at .ensures) (c .before .has .ensures) (not-true _ (c .if1 .taken)))
 
-byte-at-requires : tie.Need-byte-at-requires Inv-loop μ-loop
-byte-at-requires c κs = search needs
-
-cast-above : tie.Need-cast-above Inv-loop μ-loop
-cast-above c = search needs
-
 returns-2 : tie.Need-returns-2 Inv-loop μ-loop
 returns-2 c = λ d E h l.
     let i = c .before .before .before .before .before .before .before .before .loop .inv d E h l in
     absurd (omega (arith, c .if2 .taken, c .before .byte-at .ensures, enter-less d _ _ E _ l _ (i .0) (c .before .before .before .before .before .before .before .loop-test .taken)))
-
-loop-less : tie.Need-loop-less Inv-loop μ-loop
-loop-less c = search needs
 
 loop-again : tie.Need-loop-again Inv-loop μ-loop
 loop-again c = λ d E h l.
@@ -55,15 +37,6 @@ loop-again c = λ d E h l.
       i .1 ∙ enter-on d _ _ E _ l _ (i .0) (c .before .before .before .before .before .before .before .loop-test .taken)
           (c .before .before .before .before .before .marks-at .ensures) (c .before .before .before .before .has .ensures) (not-false _ (c .before .before .before .if1 .left)) (c .before .byte-at .ensures),
     )
-
-marks-at-requires-2 : tie.Need-marks-at-requires-2 Inv-loop μ-loop
-marks-at-requires-2 c κs = search needs
-
-cast-has-2 : tie.Need-cast-has-2 Inv-loop μ-loop
-cast-has-2 c = search needs
-
-has-requires-2 : tie.Need-has-requires-2 Inv-loop μ-loop
-has-requires-2 c κs = search needs
 
 returns-3 : tie.Need-returns-3 Inv-loop μ-loop
 returns-3 c = λ d E h l.
@@ -78,16 +51,16 @@ enters-spec =
     Inv-loop
     μ-loop
     loop-holds
-    marks-at-requires
-    cast-has
-    has-requires
+    (λ c κs. search needs)
+    (λ c. search needs)
+    (λ c κs. search needs)
     returns
-    byte-at-requires
-    cast-above
+    (λ c κs. search needs)
+    (λ c. search needs)
     returns-2
-    loop-less
+    (λ c. search needs)
     loop-again
-    marks-at-requires-2
-    cast-has-2
-    has-requires-2
+    (λ c κs. search needs)
+    (λ c. search needs)
+    (λ c κs. search needs)
     returns-3)

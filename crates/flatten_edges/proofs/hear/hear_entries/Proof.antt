@@ -18,38 +18,8 @@ Inv-loop heads₀ count e parents entries q s states marks pairs before own n₀
 abbrev μ-loop : tie.MeasureT-loop
 μ-loop heads₀ count e parents entries q s states marks pairs before own n₀ k₀ heads n k = pairs - k
 
-marks-at-requires : tie.Need-marks-at-requires Inv-loop μ-loop
-marks-at-requires c κs = search needs
-
 loop-holds : tie.Need-loop-holds Inv-loop μ-loop
 loop-holds c = λ d H. walk-none _ (enterPairs d) _ _
-
-cast-byte-at : tie.Need-cast-byte-at Inv-loop μ-loop
-cast-byte-at c = search needs
-
-byte-at-requires : tie.Need-byte-at-requires Inv-loop μ-loop
-byte-at-requires c κs = search needs
-
-cast-byte-at-2 : tie.Need-cast-byte-at-2 Inv-loop μ-loop
-cast-byte-at-2 c = search needs
-
-byte-at-requires-2 : tie.Need-byte-at-requires-2 Inv-loop μ-loop
-byte-at-requires-2 c κs = search needs
-
-hears-entry-requires : tie.Need-hears-entry-requires Inv-loop μ-loop
-hears-entry-requires c κs = search needs
-
-channel-of-requires : tie.Need-channel-of-requires Inv-loop μ-loop
-channel-of-requires c κs = search needs
-
-push-if-requires : tie.Need-push-if-requires Inv-loop μ-loop
-push-if-requires c κs = search needs
-
-add-k : tie.Need-add-k Inv-loop μ-loop
-add-k c = omega arith
-
-loop-less : tie.Need-loop-less Inv-loop μ-loop
-loop-less c = omega arith
 
 loop-again : tie.Need-loop-again Inv-loop μ-loop
 loop-again c = λ d H.
@@ -66,16 +36,16 @@ hear-entries-spec =
     (tie.spec
     Inv-loop
     μ-loop
-    marks-at-requires
+    (λ c κs. search needs)
     loop-holds
-    cast-byte-at
-    byte-at-requires
-    cast-byte-at-2
-    byte-at-requires-2
-    hears-entry-requires
-    channel-of-requires
-    push-if-requires
-    add-k
-    loop-less
+    (λ c. search needs)
+    (λ c κs. search needs)
+    (λ c. search needs)
+    (λ c κs. search needs)
+    (λ c κs. search needs)
+    (λ c κs. search needs)
+    (λ c κs. search needs)
+    (λ c. omega arith)
+    (λ c. omega arith)
     loop-again
     returns)

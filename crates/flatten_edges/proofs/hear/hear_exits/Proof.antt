@@ -21,33 +21,6 @@ abbrev μ-loop : tie.MeasureT-loop
 loop-holds : tie.Need-loop-holds Inv-loop μ-loop
 loop-holds c = λ d s H. walk-none _ (exitPairs d) _ _
 
-cast-byte-at : tie.Need-cast-byte-at Inv-loop μ-loop
-cast-byte-at c = search needs
-
-byte-at-requires : tie.Need-byte-at-requires Inv-loop μ-loop
-byte-at-requires c κs = search needs
-
-cast-byte-at-2 : tie.Need-cast-byte-at-2 Inv-loop μ-loop
-cast-byte-at-2 c = search needs
-
-byte-at-requires-2 : tie.Need-byte-at-requires-2 Inv-loop μ-loop
-byte-at-requires-2 c κs = search needs
-
-hears-exit-requires : tie.Need-hears-exit-requires Inv-loop μ-loop
-hears-exit-requires c κs = search needs
-
-channel-of-requires : tie.Need-channel-of-requires Inv-loop μ-loop
-channel-of-requires c κs = search needs
-
-push-if-requires : tie.Need-push-if-requires Inv-loop μ-loop
-push-if-requires c κs = search needs
-
-add-k : tie.Need-add-k Inv-loop μ-loop
-add-k c = omega arith
-
-loop-less : tie.Need-loop-less Inv-loop μ-loop
-loop-less c = omega arith
-
 loop-again : tie.Need-loop-again Inv-loop μ-loop
 loop-again c = λ d s H.
     exit-more d s _ _ _ _ _ _ _ _ H _ _ _ _ _ (c .before .before .before .before .before .before .before .before .before .loop .inv d s H) (c .before .before .before .before .before .before .before .before .loop-test .taken)
@@ -63,14 +36,14 @@ hear-exits-spec =
     Inv-loop
     μ-loop
     loop-holds
-    cast-byte-at
-    byte-at-requires
-    cast-byte-at-2
-    byte-at-requires-2
-    hears-exit-requires
-    channel-of-requires
-    push-if-requires
-    add-k
-    loop-less
+    (λ c. search needs)
+    (λ c κs. search needs)
+    (λ c. search needs)
+    (λ c κs. search needs)
+    (λ c κs. search needs)
+    (λ c κs. search needs)
+    (λ c κs. search needs)
+    (λ c. omega arith)
+    (λ c. omega arith)
     loop-again
     returns)

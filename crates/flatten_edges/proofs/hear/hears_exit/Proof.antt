@@ -5,17 +5,11 @@ use Rattle.flatten_edges.proofs.Hears.{unheard, heard}
 use Rattle.flatten_edges.proofs.hear.hears_exit.Statement.{statement}
 use Rattle.flatten_edges.proofs.hear.hears_exit.Tie as tie
 
-has-requires : tie.Need-has-requires
-has-requires c κs = search needs
-
 returns : tie.Need-returns
 returns c = λ d E h. unheard (under d _ _) (c .before .has .ensures) (not-true _ (c .if1 .taken))
-
-under-requires : tie.Need-under-requires
-under-requires c κs = search needs
 
 returns-2 : tie.Need-returns-2
 returns-2 c = λ d E h. heard (c .before .before .before .has .ensures) (not-false _ (c .before .before .if1 .left)) (c .under .ensures d E h)
 
 pub hears-exit-spec : {M : Type 1} → statement M
-hears-exit-spec = tie.close (tie.spec has-requires returns under-requires returns-2)
+hears-exit-spec = tie.close (tie.spec (λ c κs. search needs) returns (λ c κs. search needs) returns-2)

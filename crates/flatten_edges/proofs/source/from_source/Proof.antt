@@ -24,12 +24,6 @@ Inv-loop heads₀ count t exits homes rest offsets places i s departures items s
 abbrev μ-loop : tie.MeasureT-loop
 μ-loop heads₀ count t exits homes rest offsets places i s departures items size n₀ j₀ sets₀ listed₀ heads n j sets listed = places - j
 
-transitions-from-requires : tie.Need-transitions-from-requires Inv-loop μ-loop
-transitions-from-requires c κs = search needs
-
-next-departure-requires : tie.Need-next-departure-requires Inv-loop μ-loop
-next-departure-requires c κs = search needs
-
 returns : tie.Need-returns Inv-loop μ-loop
 returns c = λ d r T P L e f.
     let next = c .before in
@@ -41,9 +35,6 @@ loop-holds c = λ d r T P L e f.
     let next = c .before in
     let S = next .before .before .before .before .transitions-from .ensures d (T .transitions .source) (T .transitions .count) (T .transitions .few) in
     (source-none d _ T _ _ _ S _ _ _ (next .next-departure .ensures), recalled-none d _)
-
-to-place-requires : tie.Need-to-place-requires Inv-loop μ-loop
-to-place-requires c κs = search needs
 
 returns-2 : tie.Need-returns-2 Inv-loop μ-loop
 returns-2 c = λ d r T P L e f.
@@ -58,9 +49,6 @@ add-next-departure c =
     let test = c .before .before .before .before .before .before .before .before in
     let from = test .before .before .before .before .before .before .before in
     omega (arith, from .before .before .before .before .before .before .before .fits .places)
-
-next-departure-requires-2 : tie.Need-next-departure-requires-2 Inv-loop μ-loop
-next-departure-requires-2 c κs = search needs
 
 loop-less : tie.Need-loop-less Inv-loop μ-loop
 loop-less c = omega (arith, c .next-departure2 .ensures .after)
@@ -86,14 +74,14 @@ from-source-spec =
     (tie.spec
     Inv-loop
     μ-loop
-    transitions-from-requires
-    next-departure-requires
+    (λ c κs. search needs)
+    (λ c κs. search needs)
     returns
     loop-holds
-    to-place-requires
+    (λ c κs. search needs)
     returns-2
     add-next-departure
-    next-departure-requires-2
+    (λ c κs. search needs)
     loop-less
     loop-again
     returns-3)

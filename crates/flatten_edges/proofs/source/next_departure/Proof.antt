@@ -14,21 +14,6 @@ abbrev μ-loop : tie.MeasureT-loop
 loop-holds : tie.Need-loop-holds Inv-loop μ-loop
 loop-holds c = lowest-none _ _ _ (omega (arith, c .fits .from))
 
-of-transition-requires : tie.Need-of-transition-requires Inv-loop μ-loop
-of-transition-requires c κs = search needs
-
-of-transition-requires-2 : tie.Need-of-transition-requires-2 Inv-loop μ-loop
-of-transition-requires-2 c κs = search needs
-
-lower-requires : tie.Need-lower-requires Inv-loop μ-loop
-lower-requires c κs = search needs
-
-add-k : tie.Need-add-k Inv-loop μ-loop
-add-k c = omega arith
-
-loop-less : tie.Need-loop-less Inv-loop μ-loop
-loop-less c = omega arith
-
 loop-again : tie.Need-loop-again Inv-loop μ-loop
 loop-again c = lowest-more _ _ _ _ _ (c .before .before .before .before .loop .inv) (c .before .before .of-transition .ensures) (c .before .of-transition2 .ensures) (c .lower .ensures)
 
@@ -42,10 +27,10 @@ next-departure-spec =
     Inv-loop
     μ-loop
     loop-holds
-    of-transition-requires
-    of-transition-requires-2
-    lower-requires
-    add-k
-    loop-less
+    (λ c κs. search needs)
+    (λ c κs. search needs)
+    (λ c κs. search needs)
+    (λ c. omega arith)
+    (λ c. omega arith)
     loop-again
     returns)

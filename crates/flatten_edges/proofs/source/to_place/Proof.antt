@@ -31,21 +31,6 @@ abbrev μ-loop : tie.MeasureT-loop
 loop-holds : tie.Need-loop-holds Inv-loop μ-loop
 loop-holds c = λ d r s q T P L S f g m R. (walk-none _ (fromState d s) _ _, R)
 
-of-transition-requires : tie.Need-of-transition-requires Inv-loop μ-loop
-of-transition-requires c κs = search needs
-
-of-transition-requires-2 : tie.Need-of-transition-requires-2 Inv-loop μ-loop
-of-transition-requires-2 c κs = search needs
-
-bear-requires : tie.Need-bear-requires Inv-loop μ-loop
-bear-requires c κs = search needs
-
-add-k : tie.Need-add-k Inv-loop μ-loop
-add-k c = omega arith
-
-loop-less : tie.Need-loop-less Inv-loop μ-loop
-loop-less c = omega arith
-
 loop-again : tie.Need-loop-again Inv-loop μ-loop
 loop-again c = λ d r s q T P L S f g m R.
     let to = c .before .of-transition2 .ensures in
@@ -72,10 +57,10 @@ to-place-spec =
     Inv-loop
     μ-loop
     loop-holds
-    of-transition-requires
-    of-transition-requires-2
-    bear-requires
-    add-k
-    loop-less
+    (λ c κs. search needs)
+    (λ c κs. search needs)
+    (λ c κs. search needs)
+    (λ c. omega arith)
+    (λ c. omega arith)
     loop-again
     returns)

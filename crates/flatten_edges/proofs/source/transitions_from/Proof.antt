@@ -23,24 +23,6 @@ returns c = λ d S e l. absurd (omega (arith, c .if1 .taken))
 loop-holds : tie.Need-loop-holds Inv-loop μ-loop
 loop-holds c = (refl, omega arith, omega arith, c .if1 .left, λ d S e. kept-none _ _ _)
 
-cast-items : tie.Need-cast-items Inv-loop μ-loop
-cast-items c = search needs
-
-array-write-items : tie.Need-array-write-items Inv-loop μ-loop
-array-write-items c = omega arith
-
-of-transition-requires : tie.Need-of-transition-requires Inv-loop μ-loop
-of-transition-requires c κs = search needs
-
-add-n : tie.Need-add-n Inv-loop μ-loop
-add-n c = omega arith
-
-add-t : tie.Need-add-t Inv-loop μ-loop
-add-t c = omega arith
-
-loop-less : tie.Need-loop-less Inv-loop μ-loop
-loop-less c = omega arith
-
 loop-again : tie.Need-loop-again Inv-loop μ-loop
 loop-again c =
     let w = c .before .before .before .loop .inv in
@@ -60,11 +42,11 @@ transitions-from-spec =
     μ-loop
     returns
     loop-holds
-    cast-items
-    array-write-items
-    of-transition-requires
-    add-n
-    add-t
-    loop-less
+    (λ c. search needs)
+    (λ c. omega arith)
+    (λ c κs. search needs)
+    (λ c. omega arith)
+    (λ c. omega arith)
+    (λ c. omega arith)
     loop-again
     returns-2)

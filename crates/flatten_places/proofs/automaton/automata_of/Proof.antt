@@ -22,30 +22,9 @@ Inv-loop tree kinds automata₀ s₀ automata s = (k : Chart) → Tabled k tree 
 abbrev μ-loop : tie.MeasureT-loop
 μ-loop tree kinds automata₀ s₀ automata s = tree .states - s
 
-no-automata-requires : tie.Need-no-automata-requires Inv-loop μ-loop
-no-automata-requires c κs = search needs
-
 loop-holds : tie.Need-loop-holds Inv-loop μ-loop
 unfolding sequentials
 loop-holds c = λ k T f. c .no-automata .ensures k
-
-slice-aggregate-byte-at : tie.Need-slice-aggregate-byte-at Inv-loop μ-loop
-slice-aggregate-byte-at c = search needs
-
-cast-byte-at : tie.Need-cast-byte-at Inv-loop μ-loop
-cast-byte-at c = search needs
-
-byte-at-requires : tie.Need-byte-at-requires Inv-loop μ-loop
-byte-at-requires c κs = search needs
-
-with-automaton-requires : tie.Need-with-automaton-requires Inv-loop μ-loop
-with-automaton-requires c κs = search needs
-
-add-s : tie.Need-add-s Inv-loop μ-loop
-add-s c = omega arith
-
-loop-less : tie.Need-loop-less Inv-loop μ-loop
-loop-less c = omega arith
 
 loop-again : tie.Need-loop-again Inv-loop μ-loop
 loop-again c = λ k T f.
@@ -66,13 +45,13 @@ automata-of-spec =
     (tie.spec
     Inv-loop
     μ-loop
-    no-automata-requires
+    (λ c κs. search needs)
     loop-holds
-    slice-aggregate-byte-at
-    cast-byte-at
-    byte-at-requires
-    with-automaton-requires
-    add-s
-    loop-less
+    (λ c. search needs)
+    (λ c. search needs)
+    (λ c κs. search needs)
+    (λ c κs. search needs)
+    (λ c. omega arith)
+    (λ c. omega arith)
     loop-again
     returns)

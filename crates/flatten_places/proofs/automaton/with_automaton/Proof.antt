@@ -6,23 +6,11 @@ use borrow.Author.Needs.{needs}
 use Rattle.flatten_places.proofs.automaton.with_automaton.Statement.{statement}
 use Rattle.flatten_places.proofs.automaton.with_automaton.Tie as tie
 
-cast-i : tie.Need-cast-i
-cast-i c = search needs
-
 returns : tie.Need-returns
 returns c = λ k rest A f h. absurd (omega (arith, automated-room k _ _ rest A, f, c .if1 .taken))
 
 returns-2 : tie.Need-returns-2
 returns-2 c = λ k rest A f h. absurd (omega (arith, h, c .if2 .taken))
-
-element-write-next : tie.Need-element-write-next
-element-write-next c = search needs
-
-element-write-next-2 : tie.Need-element-write-next-2
-element-write-next-2 c = search needs
-
-add-next : tie.Need-add-next
-add-next c = search needs
 
 returns-3 : tie.Need-returns-3
 returns-3 c = λ k rest A f h.
@@ -33,4 +21,4 @@ returns-3 c = λ k rest A f h.
 pub with-automaton-spec : {M : Type 1} → statement M
 with-automaton-spec =
     tie.close
-    (tie.spec cast-i returns returns-2 element-write-next element-write-next-2 add-next returns-3)
+    (tie.spec (λ c. search needs) returns returns-2 (λ c. search needs) (λ c. search needs) (λ c. search needs) returns-3)

@@ -21,30 +21,6 @@ returns c = λ d R N. absurd (omega (arith, c .if1 .taken, N, R .few))
 loop-holds : tie.Need-loop-holds Inv-loop μ-loop
 loop-holds c = (search needs, omega arith, c .if1 .left, λ d R N. seen-none d _ _ _ R N)
 
-sub-s : tie.Need-sub-s Inv-loop μ-loop
-sub-s c = omega arith
-
-cast-x : tie.Need-cast-x Inv-loop μ-loop
-cast-x c = search needs
-
-array-read-above : tie.Need-array-read-above Inv-loop μ-loop
-array-read-above c = omega arith
-
-cast-above : tie.Need-cast-above Inv-loop μ-loop
-cast-above c = search needs
-
-array-read-below : tie.Need-array-read-below Inv-loop μ-loop
-array-read-below c = omega arith
-
-array-read-below-2 : tie.Need-array-read-below-2 Inv-loop μ-loop
-array-read-below-2 c = omega arith
-
-array-write-below : tie.Need-array-write-below Inv-loop μ-loop
-array-write-below c = omega arith
-
-loop-less : tie.Need-loop-less Inv-loop μ-loop
-loop-less c = omega arith
-
 loop-again : tie.Need-loop-again Inv-loop μ-loop
 loop-again c = let w = c .before .loop .inv in (simp length-set (w .0), omega arith, w .2, λ d R N. seen-more d _ _ _ R N _ _ (w .3 d R N) (w .0) (c .loop-test .taken) (w .1) refl)
 
@@ -59,13 +35,13 @@ gathered-spec =
     μ-loop
     returns
     loop-holds
-    sub-s
-    cast-x
-    array-read-above
-    cast-above
-    array-read-below
-    array-read-below-2
-    array-write-below
-    loop-less
+    (λ c. omega arith)
+    (λ c. search needs)
+    (λ c. omega arith)
+    (λ c. search needs)
+    (λ c. omega arith)
+    (λ c. omega arith)
+    (λ c. omega arith)
+    (λ c. omega arith)
     loop-again
     returns-2)

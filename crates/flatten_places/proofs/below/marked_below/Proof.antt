@@ -5,11 +5,8 @@ use borrow.Author.Needs.{needs}
 use Rattle.flatten_places.proofs.below.marked_below.Statement.{statement}
 use Rattle.flatten_places.proofs.below.marked_below.Tie as tie
 
-gathered-requires : tie.Need-gathered-requires
-gathered-requires c κs = search needs
-
 returns : tie.Need-returns
 returns c = λ d K T. exits-below K T (c .gathered .result) (c .gathered .ensures d (rooted-of d _ T (parents-of K)) (T .count))
 
 pub marked-below-spec : {M : Type 1} → statement M
-marked-below-spec = tie.close (tie.spec gathered-requires returns)
+marked-below-spec = tie.close (tie.spec (λ c κs. search needs) returns)

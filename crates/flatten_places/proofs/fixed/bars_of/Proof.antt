@@ -15,24 +15,6 @@ abbrev μ-loop : tie.MeasureT-loop
 loop-holds : tie.Need-loop-holds Inv-loop μ-loop
 loop-holds c = barred-none _ _ _ refl
 
-array-read-barred-by : tie.Need-array-read-barred-by Inv-loop μ-loop
-array-read-barred-by c = search needs
-
-array-read-barred-by-2 : tie.Need-array-read-barred-by-2 Inv-loop μ-loop
-array-read-barred-by-2 c = search needs
-
-barred-by-requires : tie.Need-barred-by-requires Inv-loop μ-loop
-barred-by-requires c κs = search needs
-
-array-write-bars : tie.Need-array-write-bars Inv-loop μ-loop
-array-write-bars c = search needs
-
-add-s : tie.Need-add-s Inv-loop μ-loop
-add-s c = omega arith
-
-loop-less : tie.Need-loop-less Inv-loop μ-loop
-loop-less c = omega arith
-
 loop-again : tie.Need-loop-again Inv-loop μ-loop
 loop-again c = barred-more _ _ _ _ _ (c .before .before .loop .inv) (c .before .loop-test .taken) (c .barred-by .ensures)
 
@@ -46,11 +28,11 @@ bars-of-spec =
     Inv-loop
     μ-loop
     loop-holds
-    array-read-barred-by
-    array-read-barred-by-2
-    barred-by-requires
-    array-write-bars
-    add-s
-    loop-less
+    (λ c. search needs)
+    (λ c. search needs)
+    (λ c κs. search needs)
+    (λ c. search needs)
+    (λ c. omega arith)
+    (λ c. omega arith)
     loop-again
     returns)

@@ -21,41 +21,8 @@ Inv-loop whole inner barred kinds₀ exits₀ s₀ kinds exits s =
 abbrev μ-loop : tie.MeasureT-loop
 μ-loop whole inner barred kinds₀ exits₀ s₀ kinds exits s = 48 - s
 
-gathered-requires : tie.Need-gathered-requires Inv-loop μ-loop
-gathered-requires c κs = search needs
-
-bars-of-requires : tie.Need-bars-of-requires Inv-loop μ-loop
-bars-of-requires c κs = search needs
-
-gathered-requires-2 : tie.Need-gathered-requires-2 Inv-loop μ-loop
-gathered-requires-2 c κs = search needs
-
 loop-holds : tie.Need-loop-holds Inv-loop μ-loop
 loop-holds c = (filled-among-none _ _ _ _ refl, filled-among-none _ _ _ _ refl)
-
-array-read-fixed-kind : tie.Need-array-read-fixed-kind Inv-loop μ-loop
-array-read-fixed-kind c = search needs
-
-array-read-fixed-kind-2 : tie.Need-array-read-fixed-kind-2 Inv-loop μ-loop
-array-read-fixed-kind-2 c = search needs
-
-fixed-kind-requires : tie.Need-fixed-kind-requires Inv-loop μ-loop
-fixed-kind-requires c κs = search needs
-
-array-write-kinds : tie.Need-array-write-kinds Inv-loop μ-loop
-array-write-kinds c = search needs
-
-array-read-exits : tie.Need-array-read-exits Inv-loop μ-loop
-array-read-exits c = search needs
-
-array-write-exits : tie.Need-array-write-exits Inv-loop μ-loop
-array-write-exits c = search needs
-
-add-s : tie.Need-add-s Inv-loop μ-loop
-add-s c = omega arith
-
-loop-less : tie.Need-loop-less Inv-loop μ-loop
-loop-less c = omega arith
 
 loop-again : tie.Need-loop-again Inv-loop μ-loop
 loop-again c =
@@ -80,17 +47,17 @@ fixed-of-spec =
     (tie.spec
     Inv-loop
     μ-loop
-    gathered-requires
-    bars-of-requires
-    gathered-requires-2
+    (λ c κs. search needs)
+    (λ c κs. search needs)
+    (λ c κs. search needs)
     loop-holds
-    array-read-fixed-kind
-    array-read-fixed-kind-2
-    fixed-kind-requires
-    array-write-kinds
-    array-read-exits
-    array-write-exits
-    add-s
-    loop-less
+    (λ c. search needs)
+    (λ c. search needs)
+    (λ c κs. search needs)
+    (λ c. search needs)
+    (λ c. search needs)
+    (λ c. search needs)
+    (λ c. omega arith)
+    (λ c. omega arith)
     loop-again
     returns)

@@ -18,26 +18,8 @@ Inv-loop named states width next₀ s₀ next s = length (pairsFrom named width 
 abbrev μ-loop : tie.MeasureT-loop
 μ-loop named states width next₀ s₀ next s = states - s
 
-no-pairs-requires : tie.Need-no-pairs-requires Inv-loop μ-loop
-no-pairs-requires c κs = search needs
-
 loop-holds : tie.Need-loop-holds Inv-loop μ-loop
 loop-holds c = λ f. c .no-pairs .ensures _
-
-cast-marks-at : tie.Need-cast-marks-at Inv-loop μ-loop
-cast-marks-at c = search needs
-
-marks-at-requires : tie.Need-marks-at-requires Inv-loop μ-loop
-marks-at-requires c κs = search needs
-
-with-pairs-requires : tie.Need-with-pairs-requires Inv-loop μ-loop
-with-pairs-requires c κs = search needs
-
-add-s : tie.Need-add-s Inv-loop μ-loop
-add-s c = omega arith
-
-loop-less : tie.Need-loop-less Inv-loop μ-loop
-loop-less c = omega arith
 
 loop-again : tie.Need-loop-again Inv-loop μ-loop
 loop-again c = λ f.
@@ -62,12 +44,12 @@ pairs-with-spec =
     (tie.spec
     Inv-loop
     μ-loop
-    no-pairs-requires
+    (λ c κs. search needs)
     loop-holds
-    cast-marks-at
-    marks-at-requires
-    with-pairs-requires
-    add-s
-    loop-less
+    (λ c. search needs)
+    (λ c κs. search needs)
+    (λ c κs. search needs)
+    (λ c. omega arith)
+    (λ c. omega arith)
     loop-again
     returns)

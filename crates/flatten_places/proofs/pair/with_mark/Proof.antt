@@ -11,11 +11,8 @@ use Rattle.flatten_places.proofs.pair.with_mark.Tie as tie
 returns : tie.Need-returns
 returns c = λ i h. sym (ap (λ (b : Bool). has (c .before .args .marks) i || b) (ne-eqb (c .before .args .m) i (λ e. omega (arith, c .if1 .taken))) ∙ or-false (has (c .before .args .marks) i))
 
-shl-bit : tie.Need-shl-bit
-shl-bit c = search needs
-
 returns-2 : tie.Need-returns-2
 returns-2 c = λ i h. mark-put _ _ (c .if1 .left) i
 
 pub with-mark-spec : {M : Type 1} → statement M
-with-mark-spec = tie.close (tie.spec returns shl-bit returns-2)
+with-mark-spec = tie.close (tie.spec returns (λ c. search needs) returns-2)

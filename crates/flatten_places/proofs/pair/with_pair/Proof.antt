@@ -6,20 +6,8 @@ use borrow.Author.Needs.{needs}
 use Rattle.flatten_places.proofs.pair.with_pair.Statement.{statement}
 use Rattle.flatten_places.proofs.pair.with_pair.Tie as tie
 
-cast-i : tie.Need-cast-i
-cast-i c = search needs
-
 returns : tie.Need-returns
 returns c = λ whole rest P f. absurd (omega (arith, paired-room whole _ _ rest P, f, c .if1 .taken))
-
-element-write-next : tie.Need-element-write-next
-element-write-next c = search needs
-
-element-write-next-2 : tie.Need-element-write-next-2
-element-write-next-2 c = search needs
-
-add-next : tie.Need-add-next
-add-next c = search needs
 
 returns-2 : tie.Need-returns-2
 returns-2 c = λ whole rest P f.
@@ -29,4 +17,4 @@ returns-2 c = λ whole rest P f.
 
 pub with-pair-spec : {M : Type 1} → statement M
 with-pair-spec =
-    tie.close (tie.spec cast-i returns element-write-next element-write-next-2 add-next returns-2)
+    tie.close (tie.spec (λ c. search needs) returns (λ c. search needs) (λ c. search needs) (λ c. search needs) returns-2)

@@ -6,11 +6,8 @@ use borrow.Author.Needs.{needs}
 use Rattle.flatten_places.proofs.place.is_child.Statement.{statement}
 use Rattle.flatten_places.proofs.place.is_child.Tie as tie
 
-byte-at-requires : tie.Need-byte-at-requires
-byte-at-requires c κs = search needs
-
 returns : tie.Need-returns
 returns c = let a = c .before .before .args in ap (λ (x : ℕ). not (eqb (a .s) 0) && eqb x (a .q)) (c .byte-at .ensures)
 
 pub is-child-spec : {M : Type 1} → statement M
-is-child-spec = tie.close (tie.spec byte-at-requires returns)
+is-child-spec = tie.close (tie.spec (λ c κs. search needs) returns)

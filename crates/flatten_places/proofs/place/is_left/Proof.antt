@@ -7,18 +7,6 @@ use borrow.Author.Needs.{needs}
 use Rattle.flatten_places.proofs.place.is_left.Statement.{statement}
 use Rattle.flatten_places.proofs.place.is_left.Tie as tie
 
-byte-at-requires : tie.Need-byte-at-requires
-byte-at-requires c κs = search needs
-
-cast-s : tie.Need-cast-s
-cast-s c = search needs
-
-byte-at-requires-2 : tie.Need-byte-at-requires-2
-byte-at-requires-2 c κs = search needs
-
-byte-at-requires-3 : tie.Need-byte-at-requires-3
-byte-at-requires-3 c κs = search needs
-
 returns : tie.Need-returns
 returns c =
     let a = c .before .before .before .before .before .before .args in
@@ -26,4 +14,4 @@ returns c =
 
 pub is-left-spec : {M : Type 1} → statement M
 is-left-spec =
-    tie.close (tie.spec byte-at-requires cast-s byte-at-requires-2 byte-at-requires-3 returns)
+    tie.close (tie.spec (λ c κs. search needs) (λ c. search needs) (λ c κs. search needs) (λ c κs. search needs) returns)

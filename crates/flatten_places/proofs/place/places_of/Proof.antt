@@ -28,24 +28,6 @@ loop-holds : tie.Need-loop-holds Inv-loop μ-loop
 unfolding allPlaces
 loop-holds c = λ k h T F C A P. listed-none k _ _ (record { kinds = refl; values = refl; marks = refl; automata = refl; exits = refl }) refl
 
-slice-aggregate-byte-at : tie.Need-slice-aggregate-byte-at Inv-loop μ-loop
-slice-aggregate-byte-at c = search needs
-
-cast-byte-at : tie.Need-cast-byte-at Inv-loop μ-loop
-cast-byte-at c = search needs
-
-byte-at-requires : tie.Need-byte-at-requires Inv-loop μ-loop
-byte-at-requires c κs = search needs
-
-put-places-requires : tie.Need-put-places-requires Inv-loop μ-loop
-put-places-requires c κs = search needs
-
-add-a : tie.Need-add-a Inv-loop μ-loop
-add-a c = omega arith
-
-loop-less : tie.Need-loop-less Inv-loop μ-loop
-loop-less c = omega arith
-
 loop-again : tie.Need-loop-again Inv-loop μ-loop
 loop-again c = λ k h T F C A P.
     let at = c .before .before .before .before .before .before .before .before in
@@ -64,11 +46,11 @@ places-of-spec =
     Inv-loop
     μ-loop
     loop-holds
-    slice-aggregate-byte-at
-    cast-byte-at
-    byte-at-requires
-    put-places-requires
-    add-a
-    loop-less
+    (λ c. search needs)
+    (λ c. search needs)
+    (λ c κs. search needs)
+    (λ c κs. search needs)
+    (λ c. omega arith)
+    (λ c. omega arith)
     loop-again
     returns)

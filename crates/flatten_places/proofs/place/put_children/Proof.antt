@@ -27,30 +27,6 @@ loop-holds : tie.Need-loop-holds Inv-loop μ-loop
 unfolding children
 loop-holds c = λ k T F n whole rest L f. L
 
-slice-aggregate-is-child : tie.Need-slice-aggregate-is-child Inv-loop μ-loop
-slice-aggregate-is-child c = search needs
-
-is-child-requires : tie.Need-is-child-requires Inv-loop μ-loop
-is-child-requires c κs = search needs
-
-slice-aggregate-byte-at : tie.Need-slice-aggregate-byte-at Inv-loop μ-loop
-slice-aggregate-byte-at c = search needs
-
-cast-byte-at : tie.Need-cast-byte-at Inv-loop μ-loop
-cast-byte-at c = search needs
-
-byte-at-requires : tie.Need-byte-at-requires Inv-loop μ-loop
-byte-at-requires c κs = search needs
-
-put-requires : tie.Need-put-requires Inv-loop μ-loop
-put-requires c κs = search needs
-
-add-s : tie.Need-add-s Inv-loop μ-loop
-add-s c = omega arith
-
-loop-less : tie.Need-loop-less Inv-loop μ-loop
-loop-less c = omega arith
-
 loop-again : tie.Need-loop-again Inv-loop μ-loop
 loop-again c = λ k T F n whole rest L f.
     let a = c .before .before .before .before .before .before .before .before .args in
@@ -74,13 +50,13 @@ put-children-spec =
     Inv-loop
     μ-loop
     loop-holds
-    slice-aggregate-is-child
-    is-child-requires
-    slice-aggregate-byte-at
-    cast-byte-at
-    byte-at-requires
-    put-requires
-    add-s
-    loop-less
+    (λ c. search needs)
+    (λ c κs. search needs)
+    (λ c. search needs)
+    (λ c. search needs)
+    (λ c κs. search needs)
+    (λ c κs. search needs)
+    (λ c. omega arith)
+    (λ c. omega arith)
     loop-again
     returns)

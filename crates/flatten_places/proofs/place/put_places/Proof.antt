@@ -4,18 +4,6 @@ use borrow.Author.Needs.{needs}
 use Rattle.flatten_places.proofs.place.put_places.Statement.{statement}
 use Rattle.flatten_places.proofs.place.put_places.Tie as tie
 
-put-requires : tie.Need-put-requires
-put-requires c κs = search needs
-
-put-children-requires : tie.Need-put-children-requires
-put-children-requires c κs = search needs
-
-put-pres-requires : tie.Need-put-pres-requires
-put-pres-requires c κs = search needs
-
-put-posts-requires : tie.Need-put-posts-requires
-put-posts-requires c κs = search needs
-
 returns : tie.Need-returns
 returns c = λ k h T F C P n whole rest L f.
     let at-pres = c .before .before .before .before .before .before in
@@ -30,4 +18,4 @@ returns c = λ k h T F C P n whole rest L f.
 pub put-places-spec : {M : Type 1} → statement M
 put-places-spec =
     tie.close
-    (tie.spec put-requires put-children-requires put-pres-requires put-posts-requires returns)
+    (tie.spec (λ c κs. search needs) (λ c κs. search needs) (λ c κs. search needs) (λ c κs. search needs) returns)

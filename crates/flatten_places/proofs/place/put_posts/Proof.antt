@@ -26,27 +26,6 @@ abbrev μ-loop : tie.MeasureT-loop
 loop-holds : tie.Need-loop-holds Inv-loop μ-loop
 loop-holds c = λ k h u T g C n whole rest L f. L
 
-slice-aggregate-is-left : tie.Need-slice-aggregate-is-left Inv-loop μ-loop
-slice-aggregate-is-left c = search needs
-
-slice-aggregate-is-left-2 : tie.Need-slice-aggregate-is-left-2 Inv-loop μ-loop
-slice-aggregate-is-left-2 c = search needs
-
-slice-aggregate-is-left-3 : tie.Need-slice-aggregate-is-left-3 Inv-loop μ-loop
-slice-aggregate-is-left-3 c = search needs
-
-is-left-requires : tie.Need-is-left-requires Inv-loop μ-loop
-is-left-requires c κs = search needs
-
-put-requires : tie.Need-put-requires Inv-loop μ-loop
-put-requires c κs = search needs
-
-add-t : tie.Need-add-t Inv-loop μ-loop
-add-t c = omega arith
-
-loop-less : tie.Need-loop-less Inv-loop μ-loop
-loop-less c = omega arith
-
 loop-again : tie.Need-loop-again Inv-loop μ-loop
 loop-again c = λ k h u T g C n whole rest L f.
     let a = c .before .before .before .before .before .before .before .before .before .before .before .args in
@@ -70,12 +49,12 @@ put-posts-spec =
     Inv-loop
     μ-loop
     loop-holds
-    slice-aggregate-is-left
-    slice-aggregate-is-left-2
-    slice-aggregate-is-left-3
-    is-left-requires
-    put-requires
-    add-t
-    loop-less
+    (λ c. search needs)
+    (λ c. search needs)
+    (λ c. search needs)
+    (λ c κs. search needs)
+    (λ c κs. search needs)
+    (λ c. omega arith)
+    (λ c. omega arith)
     loop-again
     returns)

@@ -28,39 +28,6 @@ abbrev μ-loop : tie.MeasureT-loop
 loop-holds : tie.Need-loop-holds Inv-loop μ-loop
 loop-holds c = λ k t T g P n whole rest L f. listed-by k whole _ (ap (λ (l : List Place). l ++ rest) (pres-all k _)) L
 
-slice-aggregate-byte-at : tie.Need-slice-aggregate-byte-at Inv-loop μ-loop
-slice-aggregate-byte-at c = search needs
-
-cast-byte-at : tie.Need-cast-byte-at Inv-loop μ-loop
-cast-byte-at c = search needs
-
-byte-at-requires : tie.Need-byte-at-requires Inv-loop μ-loop
-byte-at-requires c κs = search needs
-
-slice-aggregate-is-child : tie.Need-slice-aggregate-is-child Inv-loop μ-loop
-slice-aggregate-is-child c = search needs
-
-is-child-requires : tie.Need-is-child-requires Inv-loop μ-loop
-is-child-requires c κs = search needs
-
-slice-aggregate-byte-at-2 : tie.Need-slice-aggregate-byte-at-2 Inv-loop μ-loop
-slice-aggregate-byte-at-2 c = search needs
-
-cast-byte-at-2 : tie.Need-cast-byte-at-2 Inv-loop μ-loop
-cast-byte-at-2 c = search needs
-
-byte-at-requires-2 : tie.Need-byte-at-requires-2 Inv-loop μ-loop
-byte-at-requires-2 c κs = search needs
-
-put-requires : tie.Need-put-requires Inv-loop μ-loop
-put-requires c κs = search needs
-
-add-i : tie.Need-add-i Inv-loop μ-loop
-add-i c = omega arith
-
-loop-less : tie.Need-loop-less Inv-loop μ-loop
-loop-less c = omega arith
-
 loop-again : tie.Need-loop-again Inv-loop μ-loop
 loop-again c = λ k t T g P n whole rest L f.
     let a = c .before .before .before .before .before .before .before .before .before .before .before .args in
@@ -85,16 +52,16 @@ put-pres-spec =
     Inv-loop
     μ-loop
     loop-holds
-    slice-aggregate-byte-at
-    cast-byte-at
-    byte-at-requires
-    slice-aggregate-is-child
-    is-child-requires
-    slice-aggregate-byte-at-2
-    cast-byte-at-2
-    byte-at-requires-2
-    put-requires
-    add-i
-    loop-less
+    (λ c. search needs)
+    (λ c. search needs)
+    (λ c κs. search needs)
+    (λ c. search needs)
+    (λ c κs. search needs)
+    (λ c. search needs)
+    (λ c. search needs)
+    (λ c κs. search needs)
+    (λ c κs. search needs)
+    (λ c. omega arith)
+    (λ c. omega arith)
     loop-again
     returns)

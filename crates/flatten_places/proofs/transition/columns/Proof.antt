@@ -19,44 +19,8 @@ abbrev μ-loop : tie.MeasureT-loop
 μ-loop rest offsets count sources₀ destinations₀ exits₀ entries₀ t₀ sources destinations exits entries t =
     count - t
 
-at-most-sixty-four-requires : tie.Need-at-most-sixty-four-requires Inv-loop μ-loop
-at-most-sixty-four-requires c κs = search needs
-
 loop-holds : tie.Need-loop-holds Inv-loop μ-loop
 loop-holds c = ((omega arith, omega (arith, c .at-most-sixty-four .ensures, min-le-right (c .before .before .before .args .counts .transitions) 64)), refl, refl, refl, refl, λ k n L h. columned-none k _ _ _ _)
-
-cast-i : tie.Need-cast-i Inv-loop μ-loop
-cast-i c = search needs
-
-source-of-requires : tie.Need-source-of-requires Inv-loop μ-loop
-source-of-requires c κs = search needs
-
-array-write-sources : tie.Need-array-write-sources Inv-loop μ-loop
-array-write-sources c = search needs
-
-destination-of-requires : tie.Need-destination-of-requires Inv-loop μ-loop
-destination-of-requires c κs = search needs
-
-array-write-destinations : tie.Need-array-write-destinations Inv-loop μ-loop
-array-write-destinations c = search needs
-
-exit-of-requires : tie.Need-exit-of-requires Inv-loop μ-loop
-exit-of-requires c κs = search needs
-
-array-write-exits : tie.Need-array-write-exits Inv-loop μ-loop
-array-write-exits c = search needs
-
-entry-of-requires : tie.Need-entry-of-requires Inv-loop μ-loop
-entry-of-requires c κs = search needs
-
-array-write-entries : tie.Need-array-write-entries Inv-loop μ-loop
-array-write-entries c = search needs
-
-add-t : tie.Need-add-t Inv-loop μ-loop
-add-t c = omega arith
-
-loop-less : tie.Need-loop-less Inv-loop μ-loop
-loop-less c = omega arith
 
 loop-again : tie.Need-loop-again Inv-loop μ-loop
 loop-again c =
@@ -86,18 +50,18 @@ columns-spec =
     (tie.spec
     Inv-loop
     μ-loop
-    at-most-sixty-four-requires
+    (λ c κs. search needs)
     loop-holds
-    cast-i
-    source-of-requires
-    array-write-sources
-    destination-of-requires
-    array-write-destinations
-    exit-of-requires
-    array-write-exits
-    entry-of-requires
-    array-write-entries
-    add-t
-    loop-less
+    (λ c. search needs)
+    (λ c κs. search needs)
+    (λ c. search needs)
+    (λ c κs. search needs)
+    (λ c. search needs)
+    (λ c κs. search needs)
+    (λ c. search needs)
+    (λ c κs. search needs)
+    (λ c. search needs)
+    (λ c. omega arith)
+    (λ c. omega arith)
     loop-again
     returns)

@@ -4,21 +4,6 @@ use Rattle.flatten_tables.proofs.Bounding.{rows-joined}
 use Rattle.flatten_tables.proofs.bound.joined_bounds.Statement.{statement}
 use Rattle.flatten_tables.proofs.bound.joined_bounds.Tie as tie
 
-own-bounds-requires : tie.Need-own-bounds-requires
-own-bounds-requires c κs = search needs
-
-slice-aggregate-bounds-above : tie.Need-slice-aggregate-bounds-above
-slice-aggregate-bounds-above c = search needs
-
-slice-aggregate-bounds-above-2 : tie.Need-slice-aggregate-bounds-above-2
-slice-aggregate-bounds-above-2 c = search needs
-
-bounds-above-requires : tie.Need-bounds-above-requires
-bounds-above-requires c κs = search needs
-
-join-tables-requires : tie.Need-join-tables-requires
-join-tables-requires c κs = search needs
-
 returns : tie.Need-returns
 returns c d S T r5 r8 F =
     let mine = c .before .before .before .before .before .before .own-bounds in
@@ -36,9 +21,9 @@ pub joined-bounds-spec : {M : Type 1} → statement M
 joined-bounds-spec =
     tie.close
     (tie.spec
-    own-bounds-requires
-    slice-aggregate-bounds-above
-    slice-aggregate-bounds-above-2
-    bounds-above-requires
-    join-tables-requires
+    (λ c κs. search needs)
+    (λ c. search needs)
+    (λ c. search needs)
+    (λ c κs. search needs)
+    (λ c κs. search needs)
     returns)

@@ -21,56 +21,11 @@ Inv-loop rest parents kinds inner table₀ s₀ table s =
 abbrev μ-loop : tie.MeasureT-loop
 μ-loop rest parents kinds inner table₀ s₀ table s = s
 
-state-bounds-requires : tie.Need-state-bounds-requires Inv-loop μ-loop
-state-bounds-requires c κs = search needs
-
 returns : tie.Need-returns Inv-loop μ-loop
 returns c = λ d S T r F. absurd (omega (arith, c .if1 .taken, T .count, T .few))
 
 loop-holds : tie.Need-loop-holds Inv-loop μ-loop
 loop-holds c = (search needs, omega arith, c .if1 .left, λ d R K F N B. own-none d (c .before .state-bounds .result) _ N B)
-
-sub-s : tie.Need-sub-s Inv-loop μ-loop
-sub-s c = omega arith
-
-cast-x : tie.Need-cast-x Inv-loop μ-loop
-cast-x c = search needs
-
-array-read-p : tie.Need-array-read-p Inv-loop μ-loop
-array-read-p c = omega arith
-
-cast-p : tie.Need-cast-p Inv-loop μ-loop
-cast-p c = search needs
-
-array-read-if2 : tie.Need-array-read-if2 Inv-loop μ-loop
-array-read-if2 c = omega arith
-
-array-read-if2-2 : tie.Need-array-read-if2-2 Inv-loop μ-loop
-array-read-if2-2 c = omega arith
-
-mul-mine : tie.Need-mul-mine Inv-loop μ-loop
-mul-mine c = omega arith
-
-array-copy-out-mine : tie.Need-array-copy-out-mine Inv-loop μ-loop
-array-copy-out-mine c = omega arith
-
-mul-above : tie.Need-mul-above Inv-loop μ-loop
-mul-above c = omega arith
-
-array-copy-out-above : tie.Need-array-copy-out-above Inv-loop μ-loop
-array-copy-out-above c = omega arith
-
-join-requires : tie.Need-join-requires Inv-loop μ-loop
-join-requires c κs = search needs
-
-mul-table : tie.Need-mul-table Inv-loop μ-loop
-mul-table c = omega arith
-
-array-set-from-table : tie.Need-array-set-from-table Inv-loop μ-loop
-array-set-from-table c = omega arith
-
-loop-less : tie.Need-loop-less Inv-loop μ-loop
-loop-less c = omega arith
 
 loop-again : tie.Need-loop-again Inv-loop μ-loop
 loop-again c =
@@ -82,9 +37,6 @@ loop-again c =
       i .2,
       λ d R K F N B. sensed d (a .tree .parents) (a .tree .kinds) (a .fixed .kinds) R K F _ _ N (at .loop-test .taken) (i .1) (at .before .loop .table) (i .3 d R K F N B) (i .0) (c .before .before .before .if2 .taken) (c .join .ensures),
     )
-
-loop-less-2 : tie.Need-loop-less-2 Inv-loop μ-loop
-loop-less-2 c = omega arith
 
 loop-again-2 : tie.Need-loop-again-2 Inv-loop μ-loop
 loop-again-2 c =
@@ -108,24 +60,24 @@ own-bounds-spec =
     (tie.spec
     Inv-loop
     μ-loop
-    state-bounds-requires
+    (λ c κs. search needs)
     returns
     loop-holds
-    sub-s
-    cast-x
-    array-read-p
-    cast-p
-    array-read-if2
-    array-read-if2-2
-    mul-mine
-    array-copy-out-mine
-    mul-above
-    array-copy-out-above
-    join-requires
-    mul-table
-    array-set-from-table
-    loop-less
+    (λ c. omega arith)
+    (λ c. search needs)
+    (λ c. omega arith)
+    (λ c. search needs)
+    (λ c. omega arith)
+    (λ c. omega arith)
+    (λ c. omega arith)
+    (λ c. omega arith)
+    (λ c. omega arith)
+    (λ c. omega arith)
+    (λ c κs. search needs)
+    (λ c. omega arith)
+    (λ c. omega arith)
+    (λ c. omega arith)
     loop-again
-    loop-less-2
+    (λ c. omega arith)
     loop-again-2
     returns-2)

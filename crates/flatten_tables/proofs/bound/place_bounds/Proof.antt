@@ -3,20 +3,11 @@ use Rattle.flatten_tables.proofs.Bounding.{bounds-child, bounds-pre, bo
 use Rattle.flatten_tables.proofs.bound.place_bounds.Statement.{statement}
 use Rattle.flatten_tables.proofs.bound.place_bounds.Tie as tie
 
-row-at-requires : tie.Need-row-at-requires
-row-at-requires c κs = search needs
-
 returns : tie.Need-returns
 returns c d p C B K m e f g = bounds-child d p m e f (c .before .if1 .taken) (c .row-at .ensures d _ B)
 
-pre-bounds-requires : tie.Need-pre-bounds-requires
-pre-bounds-requires c κs = search needs
-
 returns-2 : tie.Need-returns-2
 returns-2 c d p C B K m e f g = bounds-pre d p e f g (c .before .if2 .taken) (c .pre-bounds .ensures d B)
-
-arrival-bounds-requires : tie.Need-arrival-bounds-requires
-arrival-bounds-requires c κs = search needs
 
 returns-3 : tie.Need-returns-3
 returns-3 c d p C B K m e f g = bounds-post d p m e f (c .before .if3 .taken) (c .arrival-bounds .ensures d C B K)
@@ -28,10 +19,10 @@ pub place-bounds-spec : {M : Type 1} → statement M
 place-bounds-spec =
     tie.close
     (tie.spec
-    row-at-requires
+    (λ c κs. search needs)
     returns
-    pre-bounds-requires
+    (λ c κs. search needs)
     returns-2
-    arrival-bounds-requires
+    (λ c κs. search needs)
     returns-3
     returns-4)

@@ -20,29 +20,8 @@ Inv-loop d e rows set row₀ k₀ row k =
 abbrev μ-loop : tie.MeasureT-loop
 μ-loop d e rows set row₀ k₀ row k = k
 
-entered-requires : tie.Need-entered-requires Inv-loop μ-loop
-entered-requires c κs = search needs
-
 loop-holds : tie.Need-loop-holds Inv-loop μ-loop
 loop-holds c = (omega arith, λ d f few R S. joins-none d f few)
-
-sub-k : tie.Need-sub-k Inv-loop μ-loop
-sub-k c = search needs
-
-array-read-if1 : tie.Need-array-read-if1 Inv-loop μ-loop
-array-read-if1 c = search needs
-
-mul-mine : tie.Need-mul-mine Inv-loop μ-loop
-mul-mine c = search needs
-
-array-copy-out-mine : tie.Need-array-copy-out-mine Inv-loop μ-loop
-array-copy-out-mine c = search needs
-
-join-requires : tie.Need-join-requires Inv-loop μ-loop
-join-requires c κs = search needs
-
-loop-less : tie.Need-loop-less Inv-loop μ-loop
-loop-less c = search needs
 
 loop-again : tie.Need-loop-again Inv-loop μ-loop
 loop-again c =
@@ -52,9 +31,6 @@ loop-again c =
       λ d f few R S. joins-in d f _ S _ (test .loop-test .taken) (i .0) (test .before .before .before .args .t2) R
           (c .before .before .if1 .taken) (i .1 d f few R S) (c .join .ensures),
     )
-
-loop-less-2 : tie.Need-loop-less-2 Inv-loop μ-loop
-loop-less-2 c = search needs
 
 loop-again-2 : tie.Need-loop-again-2 Inv-loop μ-loop
 loop-again-2 c = (omega arith, λ d f few R S. joins-out d f _ S _ (c .before .loop-test .taken) (c .before .before .loop .inv .0) (c .if1 .left) (c .before .before .loop .inv .1 d f few R S))
@@ -68,15 +44,15 @@ pre-bounds-spec =
     (tie.spec
     Inv-loop
     μ-loop
-    entered-requires
+    (λ c κs. search needs)
     loop-holds
-    sub-k
-    array-read-if1
-    mul-mine
-    array-copy-out-mine
-    join-requires
-    loop-less
+    (λ c. search needs)
+    (λ c. search needs)
+    (λ c. search needs)
+    (λ c. search needs)
+    (λ c κs. search needs)
+    (λ c. search needs)
     loop-again
-    loop-less-2
+    (λ c. search needs)
     loop-again-2
     returns)

@@ -8,14 +8,8 @@ use Rattle.flatten_tables.proofs.bound.row_at.Tie as tie
 returns : tie.Need-returns
 returns c d t B h = absurd (omega (arith, known-few d t B _ h))
 
-mul-row : tie.Need-mul-row
-mul-row c = search needs
-
-array-copy-out-row : tie.Need-array-copy-out-row
-array-copy-out-row c = search needs
-
 returns-2 : tie.Need-returns-2
 returns-2 c d t B h = row-is d t (c .before .before .args .t1) B _ h refl
 
 pub row-at-spec : {M : Type 1} → statement M
-row-at-spec = tie.close (tie.spec returns mul-row array-copy-out-row returns-2)
+row-at-spec = tie.close (tie.spec returns (λ c. search needs) (λ c. search needs) returns-2)

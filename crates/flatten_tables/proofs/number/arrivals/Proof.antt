@@ -20,24 +20,6 @@ abbrev μ-loop : tie.MeasureT-loop
 loop-holds : tie.Need-loop-holds Inv-loop μ-loop
 loop-holds c = λ k h D E N. filled-among-none _ _ _ _ refl
 
-array-read-arrival-number : tie.Need-array-read-arrival-number Inv-loop μ-loop
-array-read-arrival-number c = search needs
-
-array-read-arrival-number-2 : tie.Need-array-read-arrival-number-2 Inv-loop μ-loop
-array-read-arrival-number-2 c = search needs
-
-arrival-number-requires : tie.Need-arrival-number-requires Inv-loop μ-loop
-arrival-number-requires c κs = search needs
-
-array-write-reached : tie.Need-array-write-reached Inv-loop μ-loop
-array-write-reached c = search needs
-
-add-i : tie.Need-add-i Inv-loop μ-loop
-add-i c = omega arith
-
-loop-less : tie.Need-loop-less Inv-loop μ-loop
-loop-less c = omega arith
-
 loop-again : tie.Need-loop-again Inv-loop μ-loop
 loop-again c =
     let i = c .before .before .loop .inv in
@@ -54,11 +36,11 @@ arrivals-spec =
     Inv-loop
     μ-loop
     loop-holds
-    array-read-arrival-number
-    array-read-arrival-number-2
-    arrival-number-requires
-    array-write-reached
-    add-i
-    loop-less
+    (λ c. search needs)
+    (λ c. search needs)
+    (λ c κs. search needs)
+    (λ c. search needs)
+    (λ c. omega arith)
+    (λ c. omega arith)
     loop-again
     returns)

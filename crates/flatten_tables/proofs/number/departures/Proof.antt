@@ -23,30 +23,6 @@ abbrev μ-loop : tie.MeasureT-loop
 loop-holds : tie.Need-loop-holds Inv-loop μ-loop
 loop-holds c = λ k h D X E N. filled-among-none _ _ _ _ refl
 
-cast-i : tie.Need-cast-i Inv-loop μ-loop
-cast-i c = search needs
-
-array-read-departure-number : tie.Need-array-read-departure-number Inv-loop μ-loop
-array-read-departure-number c = search needs
-
-array-read-departure-number-2 : tie.Need-array-read-departure-number-2 Inv-loop μ-loop
-array-read-departure-number-2 c = search needs
-
-array-read-departure-number-3 : tie.Need-array-read-departure-number-3 Inv-loop μ-loop
-array-read-departure-number-3 c = search needs
-
-departure-number-requires : tie.Need-departure-number-requires Inv-loop μ-loop
-departure-number-requires c κs = search needs
-
-array-write-reached : tie.Need-array-write-reached Inv-loop μ-loop
-array-write-reached c = search needs
-
-add-t : tie.Need-add-t Inv-loop μ-loop
-add-t c = omega arith
-
-loop-less : tie.Need-loop-less Inv-loop μ-loop
-loop-less c = omega arith
-
 loop-again : tie.Need-loop-again Inv-loop μ-loop
 loop-again c =
     let i = c .before .before .loop .inv in
@@ -63,13 +39,13 @@ departures-spec =
     Inv-loop
     μ-loop
     loop-holds
-    cast-i
-    array-read-departure-number
-    array-read-departure-number-2
-    array-read-departure-number-3
-    departure-number-requires
-    array-write-reached
-    add-t
-    loop-less
+    (λ c. search needs)
+    (λ c. search needs)
+    (λ c. search needs)
+    (λ c. search needs)
+    (λ c κs. search needs)
+    (λ c. search needs)
+    (λ c. omega arith)
+    (λ c. omega arith)
     loop-again
     returns)

@@ -4,21 +4,9 @@ use borrow.Author.Needs.{needs}
 use Rattle.flatten_tables.proofs.number.initial_number.Statement.{statement}
 use Rattle.flatten_tables.proofs.number.initial_number.Tie as tie
 
-is-in-requires : tie.Need-is-in-requires
-is-in-requires c κs = search needs
-
-marked-child-requires : tie.Need-marked-child-requires
-marked-child-requires c κs = search needs
-
-number-at-requires : tie.Need-number-at-requires
-number-at-requires c κs = search needs
-
 returns : tie.Need-returns
 returns c = λ k h T N s l e.
     c .number-at .ensures ∙ found-start k _ N h _ (record { known = l; is-sequential = s }) _ (c .before .marked-child .ensures k T) (sym (start-set-at k h _ l _ e) ∙ sym (c .before .before .before .is-in .ensures) ∙ c .before .before .if1 .taken)
-
-number-at-requires-2 : tie.Need-number-at-requires-2
-number-at-requires-2 c κs = search needs
 
 returns-2 : tie.Need-returns-2
 returns-2 c = λ k h T N s l e.
@@ -28,9 +16,9 @@ pub initial-number-spec : {M : Type 1} → statement M
 initial-number-spec =
     tie.close
     (tie.spec
-    is-in-requires
-    marked-child-requires
-    number-at-requires
+    (λ c κs. search needs)
+    (λ c κs. search needs)
+    (λ c κs. search needs)
     returns
-    number-at-requires-2
+    (λ c κs. search needs)
     returns-2)

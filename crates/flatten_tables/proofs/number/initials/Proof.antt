@@ -25,29 +25,8 @@ Inv-loop tree numbers active states initial₀ a₀ initial a =
 abbrev μ-loop : tie.MeasureT-loop
 μ-loop tree numbers active states initial₀ a₀ initial a = 16 - a
 
-start-active-requires : tie.Need-start-active-requires Inv-loop μ-loop
-start-active-requires c κs = search needs
-
 loop-holds : tie.Need-loop-holds Inv-loop μ-loop
 loop-holds c = λ k h T S N e. filled-among-none _ _ _ _ refl
-
-slice-aggregate-initial-number : tie.Need-slice-aggregate-initial-number Inv-loop μ-loop
-slice-aggregate-initial-number c = search needs
-
-array-read-initial-number : tie.Need-array-read-initial-number Inv-loop μ-loop
-array-read-initial-number c = search needs
-
-initial-number-requires : tie.Need-initial-number-requires Inv-loop μ-loop
-initial-number-requires c κs = search needs
-
-array-write-initial : tie.Need-array-write-initial Inv-loop μ-loop
-array-write-initial c = search needs
-
-add-a : tie.Need-add-a Inv-loop μ-loop
-add-a c = omega arith
-
-loop-less : tie.Need-loop-less Inv-loop μ-loop
-loop-less c = omega arith
 
 loop-again : tie.Need-loop-again Inv-loop μ-loop
 loop-again c =
@@ -68,13 +47,13 @@ initials-spec =
     (tie.spec
     Inv-loop
     μ-loop
-    start-active-requires
+    (λ c κs. search needs)
     loop-holds
-    slice-aggregate-initial-number
-    array-read-initial-number
-    initial-number-requires
-    array-write-initial
-    add-a
-    loop-less
+    (λ c. search needs)
+    (λ c. search needs)
+    (λ c κs. search needs)
+    (λ c. search needs)
+    (λ c. omega arith)
+    (λ c. omega arith)
     loop-again
     returns)

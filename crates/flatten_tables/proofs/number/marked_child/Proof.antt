@@ -18,38 +18,11 @@ abbrev μ-loop : tie.MeasureT-loop
 loop-holds : tie.Need-loop-holds Inv-loop μ-loop
 loop-holds c = λ k T. start-all k _
 
-slice-aggregate-marks-at : tie.Need-slice-aggregate-marks-at Inv-loop μ-loop
-slice-aggregate-marks-at c = search needs
-
-cast-marks-at : tie.Need-cast-marks-at Inv-loop μ-loop
-cast-marks-at c = search needs
-
-marks-at-requires : tie.Need-marks-at-requires Inv-loop μ-loop
-marks-at-requires c κs = search needs
-
-cast-marks : tie.Need-cast-marks Inv-loop μ-loop
-cast-marks c = search needs
-
-slice-aggregate-is-child : tie.Need-slice-aggregate-is-child Inv-loop μ-loop
-slice-aggregate-is-child c = search needs
-
-is-child-requires : tie.Need-is-child-requires Inv-loop μ-loop
-is-child-requires c κs = search needs
-
-has-requires : tie.Need-has-requires Inv-loop μ-loop
-has-requires c κs = search needs
-
 returns : tie.Need-returns Inv-loop μ-loop
 returns c = λ k T.
     let l = c .before .before .before .before .before .before .if1 .taken in
     let is = start-test T _ _ l (c .before .before .is-child .ensures) (c .before .before .before .before .marks-at .ensures) (c .before .has .ensures) in
     sym (c .before .before .before .before .before .before .before .before .loop .inv k T ∙ start-yes T _ _ l (is ∙ c .if2 .taken))
-
-add-s : tie.Need-add-s Inv-loop μ-loop
-add-s c = omega arith
-
-loop-less : tie.Need-loop-less Inv-loop μ-loop
-loop-less c = omega arith
 
 loop-again : tie.Need-loop-again Inv-loop μ-loop
 loop-again c = λ k T.
@@ -67,15 +40,15 @@ marked-child-spec =
     Inv-loop
     μ-loop
     loop-holds
-    slice-aggregate-marks-at
-    cast-marks-at
-    marks-at-requires
-    cast-marks
-    slice-aggregate-is-child
-    is-child-requires
-    has-requires
+    (λ c. search needs)
+    (λ c. search needs)
+    (λ c κs. search needs)
+    (λ c. search needs)
+    (λ c. search needs)
+    (λ c κs. search needs)
+    (λ c κs. search needs)
     returns
-    add-s
-    loop-less
+    (λ c. omega arith)
+    (λ c. omega arith)
     loop-again
     returns-2)

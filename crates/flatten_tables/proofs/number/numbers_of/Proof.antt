@@ -20,45 +20,6 @@ abbrev μ-loop : tie.MeasureT-loop
 loop-holds : tie.Need-loop-holds Inv-loop μ-loop
 loop-holds c = λ k h L. inverse-none 1024 _ _ refl
 
-slice-aggregate-byte-at : tie.Need-slice-aggregate-byte-at Inv-loop μ-loop
-slice-aggregate-byte-at c = search needs
-
-cast-byte-at : tie.Need-cast-byte-at Inv-loop μ-loop
-cast-byte-at c = search needs
-
-byte-at-requires : tie.Need-byte-at-requires Inv-loop μ-loop
-byte-at-requires c κs = search needs
-
-slice-aggregate-byte-at-2 : tie.Need-slice-aggregate-byte-at-2 Inv-loop μ-loop
-slice-aggregate-byte-at-2 c = search needs
-
-cast-byte-at-2 : tie.Need-cast-byte-at-2 Inv-loop μ-loop
-cast-byte-at-2 c = search needs
-
-byte-at-requires-2 : tie.Need-byte-at-requires-2 Inv-loop μ-loop
-byte-at-requires-2 c κs = search needs
-
-slice-aggregate-byte-at-3 : tie.Need-slice-aggregate-byte-at-3 Inv-loop μ-loop
-slice-aggregate-byte-at-3 c = search needs
-
-cast-byte-at-3 : tie.Need-cast-byte-at-3 Inv-loop μ-loop
-cast-byte-at-3 c = search needs
-
-byte-at-requires-3 : tie.Need-byte-at-requires-3 Inv-loop μ-loop
-byte-at-requires-3 c κs = search needs
-
-slot-requires : tie.Need-slot-requires Inv-loop μ-loop
-slot-requires c κs = search needs
-
-array-write-numbers : tie.Need-array-write-numbers Inv-loop μ-loop
-array-write-numbers c = search needs
-
-add-i : tie.Need-add-i Inv-loop μ-loop
-add-i c = omega arith
-
-loop-less : tie.Need-loop-less Inv-loop μ-loop
-loop-less c = omega arith
-
 loop-again : tie.Need-loop-again Inv-loop μ-loop
 loop-again c =
     let at = c .before .before .before .before .before .before .before .before in
@@ -84,18 +45,18 @@ numbers-of-spec =
     Inv-loop
     μ-loop
     loop-holds
-    slice-aggregate-byte-at
-    cast-byte-at
-    byte-at-requires
-    slice-aggregate-byte-at-2
-    cast-byte-at-2
-    byte-at-requires-2
-    slice-aggregate-byte-at-3
-    cast-byte-at-3
-    byte-at-requires-3
-    slot-requires
-    array-write-numbers
-    add-i
-    loop-less
+    (λ c. search needs)
+    (λ c. search needs)
+    (λ c κs. search needs)
+    (λ c. search needs)
+    (λ c. search needs)
+    (λ c κs. search needs)
+    (λ c. search needs)
+    (λ c. search needs)
+    (λ c κs. search needs)
+    (λ c κs. search needs)
+    (λ c. search needs)
+    (λ c. omega arith)
+    (λ c. omega arith)
     loop-again
     returns)

@@ -6,21 +6,6 @@ use borrow.Author.Needs.{needs}
 use Rattle.flatten_tables.proofs.number.slot.Statement.{statement}
 use Rattle.flatten_tables.proofs.number.slot.Tie as tie
 
-mul-result : tie.Need-mul-result
-mul-result c = search needs
-
-add-result : tie.Need-add-result
-add-result c = search needs
-
-add-result-2 : tie.Need-add-result-2
-add-result-2 c = search needs
-
-mul-result-2 : tie.Need-mul-result-2
-mul-result-2 c = search needs
-
-add-result-3 : tie.Need-add-result-3
-add-result-3 c = search needs
-
 returns : tie.Need-returns
 unfolding slotAt
 returns c = sym (cond-yes _ _ (eq-eqb _ 2 (c .if1 .taken)))
@@ -32,4 +17,4 @@ returns-2 c = sym (cond-no _ _ (ne-eqb _ 2 (c .if1 .left)))
 pub slot-spec : {M : Type 1} → statement M
 slot-spec =
     tie.close
-    (tie.spec mul-result add-result add-result-2 mul-result-2 add-result-3 returns returns-2)
+    (tie.spec (λ c. search needs) (λ c. search needs) (λ c. search needs) (λ c. search needs) (λ c. search needs) returns returns-2)

@@ -4,12 +4,6 @@ use Rattle.flatten_tables.proofs.Tabulates.{channels-small, enters-smal
 use Rattle.flatten_tables.proofs.tabulate.summary_of.Statement.{statement}
 use Rattle.flatten_tables.proofs.tabulate.summary_of.Tie as tie
 
-channel-of-requires : tie.Need-channel-of-requires
-channel-of-requires c κs = search needs
-
-channel-of-requires-2 : tie.Need-channel-of-requires-2
-channel-of-requires-2 c κs = search needs
-
 returns : tie.Need-returns
 returns c = (
   λ d file S t l.
@@ -22,4 +16,4 @@ returns c = (
 )
 
 pub summary-of-spec : {M : Type 1} → statement M
-summary-of-spec = tie.close (tie.spec channel-of-requires channel-of-requires-2 returns)
+summary-of-spec = tie.close (tie.spec (λ c κs. search needs) (λ c κs. search needs) returns)

@@ -3,12 +3,6 @@ use borrow.Author.Tests.{eq-eqb, ne-eqb}
 use Rattle.flattener.proofs.location.initial_of.Statement.{statement}
 use Rattle.flattener.proofs.location.initial_of.Tie as tie
 
-returns : tie.Need-returns
-returns c = search needs
-
-array-read-if2 : tie.Need-array-read-if2
-array-read-if2 c = search needs
-
 returns-2 : tie.Need-returns-2
 returns-2 c h = rw (eq-eqb _ _ (c .if2 .taken))
 
@@ -16,4 +10,4 @@ returns-3 : tie.Need-returns-3
 returns-3 c h = rw (ne-eqb _ _ (c .if2 .left))
 
 pub initial-of-spec : {M : Type 1} → statement M
-initial-of-spec = tie.close (tie.spec returns array-read-if2 returns-2 returns-3)
+initial-of-spec = tie.close (tie.spec (λ c. search needs) (λ c. search needs) returns-2 returns-3)

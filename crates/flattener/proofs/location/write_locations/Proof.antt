@@ -26,39 +26,6 @@ returns c d L e = absurd (omega (arith, located-few L))
 loop-holds : tie.Need-loop-holds Inv-loop μ-loop
 loop-holds c = (omega arith, omega arith, refl, λ d L e. listing-none _ _ _ _)
 
-cast-k : tie.Need-cast-k Inv-loop μ-loop
-cast-k c = search needs
-
-element-copy-out-kind : tie.Need-element-copy-out-kind Inv-loop μ-loop
-element-copy-out-kind c = search needs
-
-element-copy-out-automaton : tie.Need-element-copy-out-automaton Inv-loop μ-loop
-element-copy-out-automaton c = search needs
-
-element-copy-out-value : tie.Need-element-copy-out-value Inv-loop μ-loop
-element-copy-out-value c = search needs
-
-element-copy-out-mark : tie.Need-element-copy-out-mark Inv-loop μ-loop
-element-copy-out-mark c = search needs
-
-place-bounds-requires : tie.Need-place-bounds-requires Inv-loop μ-loop
-place-bounds-requires c κs = search needs
-
-initial-of-requires : tie.Need-initial-of-requires Inv-loop μ-loop
-initial-of-requires c κs = search needs
-
-urgent-of-requires : tie.Need-urgent-of-requires Inv-loop μ-loop
-urgent-of-requires c κs = search needs
-
-write-location-requires : tie.Need-write-location-requires Inv-loop μ-loop
-write-location-requires c κs = search needs
-
-add-i : tie.Need-add-i Inv-loop μ-loop
-add-i c = search needs
-
-loop-less : tie.Need-loop-less Inv-loop μ-loop
-loop-less c = search needs
-
 loop-again : tie.Need-loop-again Inv-loop μ-loop
 loop-again c =
     let v = c .before .before .before .before .before .before .before .before .before .before .before .before .loop .inv in
@@ -89,17 +56,17 @@ write-locations-spec =
     μ-loop
     returns
     loop-holds
-    cast-k
-    element-copy-out-kind
-    element-copy-out-automaton
-    element-copy-out-value
-    element-copy-out-mark
-    place-bounds-requires
-    initial-of-requires
-    urgent-of-requires
-    write-location-requires
-    add-i
-    loop-less
+    (λ c. search needs)
+    (λ c. search needs)
+    (λ c. search needs)
+    (λ c. search needs)
+    (λ c. search needs)
+    (λ c κs. search needs)
+    (λ c κs. search needs)
+    (λ c κs. search needs)
+    (λ c κs. search needs)
+    (λ c. search needs)
+    (λ c. search needs)
     loop-again
     same-length
     returns-2)

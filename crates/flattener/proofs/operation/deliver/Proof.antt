@@ -6,26 +6,8 @@ use Rattle.flattener.proofs.operation.deliver.Tie as tie
 returns : tie.Need-returns
 returns c d S R G = delivered-many d _ S G _ (c .if1 .taken)
 
-content-length-requires : tie.Need-content-length-requires
-content-length-requires c κs = search needs
-
-add-if2 : tie.Need-add-if2
-add-if2 c = search needs
-
 returns-2 : tie.Need-returns-2
 returns-2 c d S R G = let few = c .before .before .before .if1 .left in delivered-long d _ S G _ few (c .before .content-length .ensures .0 d S (delivered-writable d _ S G (c .before .before .before .before .before .before .before .args .out .now) few R)) (c .if2 .taken)
-
-joined-bounds-requires : tie.Need-joined-bounds-requires
-joined-bounds-requires c κs = search needs
-
-write-network-requires : tie.Need-write-network-requires
-write-network-requires c κs = search needs
-
-add-t15 : tie.Need-add-t15
-add-t15 c = search needs
-
-same-length : tie.Need-same-length
-same-length c = search needs
 
 returns-3 : tie.Need-returns-3
 returns-3 c d S R G =
@@ -39,11 +21,11 @@ deliver-spec =
     tie.close
     (tie.spec
     returns
-    content-length-requires
-    add-if2
+    (λ c κs. search needs)
+    (λ c. search needs)
     returns-2
-    joined-bounds-requires
-    write-network-requires
-    add-t15
-    same-length
+    (λ c κs. search needs)
+    (λ c κs. search needs)
+    (λ c. search needs)
+    (λ c. search needs)
     returns-3)

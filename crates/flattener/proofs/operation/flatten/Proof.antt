@@ -21,37 +21,16 @@ chart c = verdict-done-at _ (sym (c .before .before .checked .ensures .0) ∙ c 
 long : (c : tie.After-enum-told) → 11 ≤ length (c .before .before .before .before .before .args .file .now)
 long c = chart-long _ (chart c .1)
 
-checked-requires : tie.Need-checked-requires
-checked-requires c κs = search needs
-
-enum-known-verdict : tie.Need-enum-known-verdict
-enum-known-verdict c = search needs
-
 returns : tie.Need-returns
 returns c =
     let a = flatten-refused _ (c .before .before .before .before .before .before .args .out .now) (was-refused (chartOf _) (c .before .before .before .checked .ensures .0) (c .before .verdict .given .1)) in
     (a .is, a .bytes)
-
-enum-told : tie.Need-enum-told
-enum-told c = search needs
 
 sub-flatten-checked : tie.Need-sub-flatten-checked
 sub-flatten-checked c = omega (arith, long (c .before .before .before .before))
 
 part-flatten-checked-start : tie.Need-part-flatten-checked-start
 part-flatten-checked-start c = omega (arith, long (c .before .before .before .before))
-
-part-flatten-checked-end : tie.Need-part-flatten-checked-end
-part-flatten-checked-end c = search needs
-
-slice-aggregate-flatten-checked : tie.Need-slice-aggregate-flatten-checked
-slice-aggregate-flatten-checked c = search needs
-
-flatten-checked-requires : tie.Need-flatten-checked-requires
-flatten-checked-requires c κs = search needs
-
-same-length : tie.Need-same-length
-same-length c = search needs
 
 returns-2 : tie.Need-returns-2
 returns-2 c =
@@ -68,14 +47,14 @@ pub flatten-spec : {M : Type 1} → statement M
 flatten-spec =
     tie.close
     (tie.spec
-    checked-requires
-    enum-known-verdict
+    (λ c κs. search needs)
+    (λ c. search needs)
     returns
-    enum-told
+    (λ c. search needs)
     sub-flatten-checked
     part-flatten-checked-start
-    part-flatten-checked-end
-    slice-aggregate-flatten-checked
-    flatten-checked-requires
-    same-length
+    (λ c. search needs)
+    (λ c. search needs)
+    (λ c κs. search needs)
+    (λ c. search needs)
     returns-2)

@@ -4,36 +4,6 @@ use Rattle.flatten_tables.proofs.Tabulates.{transitions-few, automata-few, stat
 use Rattle.flattener.proofs.operation.flatten_checked.Statement.{statement}
 use Rattle.flattener.proofs.operation.flatten_checked.Tie as tie
 
-columns-requires : tie.Need-columns-requires
-columns-requires c κs = search needs
-
-fixed-of-requires : tie.Need-fixed-of-requires
-fixed-of-requires c κs = search needs
-
-automata-of-requires : tie.Need-automata-of-requires
-automata-of-requires c κs = search needs
-
-enter-pairs-requires : tie.Need-enter-pairs-requires
-enter-pairs-requires c κs = search needs
-
-places-of-requires : tie.Need-places-of-requires
-places-of-requires c κs = search needs
-
-tables-of-requires : tie.Need-tables-of-requires
-tables-of-requires c κs = search needs
-
-summary-of-requires : tie.Need-summary-of-requires
-summary-of-requires c κs = search needs
-
-all-edges-requires : tie.Need-all-edges-requires
-all-edges-requires c κs = search needs
-
-deliver-requires : tie.Need-deliver-requires
-deliver-requires c κs = search needs
-
-same-length : tie.Need-same-length
-same-length c = search needs
-
 returns : tie.Need-returns
 returns c d C R =
     let S = R .laid .stated in
@@ -51,14 +21,14 @@ pub flatten-checked-spec : {M : Type 1} → statement M
 flatten-checked-spec =
     tie.close
     (tie.spec
-    columns-requires
-    fixed-of-requires
-    automata-of-requires
-    enter-pairs-requires
-    places-of-requires
-    tables-of-requires
-    summary-of-requires
-    all-edges-requires
-    deliver-requires
-    same-length
+    (λ c κs. search needs)
+    (λ c κs. search needs)
+    (λ c κs. search needs)
+    (λ c κs. search needs)
+    (λ c κs. search needs)
+    (λ c κs. search needs)
+    (λ c κs. search needs)
+    (λ c κs. search needs)
+    (λ c κs. search needs)
+    (λ c. search needs)
     returns)

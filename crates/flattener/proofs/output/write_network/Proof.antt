@@ -4,24 +4,6 @@ use Rattle.flattener.proofs.Outputs.{located, network-written}
 use Rattle.flattener.proofs.output.write_network.Statement.{statement}
 use Rattle.flattener.proofs.output.write_network.Tie as tie
 
-put-requires : tie.Need-put-requires
-put-requires c κs = search needs
-
-put-word-requires : tie.Need-put-word-requires
-put-word-requires c κs = search needs
-
-write-counts-requires : tie.Need-write-counts-requires
-write-counts-requires c κs = search needs
-
-write-locations-requires : tie.Need-write-locations-requires
-write-locations-requires c κs = search needs
-
-write-edges-requires : tie.Need-write-edges-requires
-write-edges-requires c κs = search needs
-
-same-length : tie.Need-same-length
-same-length c = search needs
-
 returns : tie.Need-returns
 returns c d S B W e =
     let at4 = c .before .before .before .before .before .before in
@@ -35,10 +17,10 @@ pub write-network-spec : {M : Type 1} → statement M
 write-network-spec =
     tie.close
     (tie.spec
-    put-requires
-    put-word-requires
-    write-counts-requires
-    write-locations-requires
-    write-edges-requires
-    same-length
+    (λ c κs. search needs)
+    (λ c κs. search needs)
+    (λ c κs. search needs)
+    (λ c κs. search needs)
+    (λ c κs. search needs)
+    (λ c. search needs)
     returns)

@@ -9,18 +9,6 @@ use borrow.Author.Needs.{needs}
 use Rattle.labels.proofs.guard.clock_guard_holds.Statement.{statement}
 use Rattle.labels.proofs.guard.clock_guard_holds.Tie as tie
 
-read-byte-below-requires : tie.Need-read-byte-below-requires
-read-byte-below-requires c κs = search needs
-
-enum-known-c : tie.Need-enum-known-c
-enum-known-c c = search needs
-
-enum-told : tie.Need-enum-told
-enum-told c = search needs
-
-byte-fault-requires : tie.Need-byte-fault-requires
-byte-fault-requires c κs = search needs
-
 returns : tie.Need-returns
 unfolding clockGuard clock yield holds
 returns c =
@@ -29,18 +17,6 @@ returns c =
     λ vars.
     handed-on byteFault (c .byte-fault .ensures) (c .before .enum-told .given .1)
     (mapped-fault _ (bind-fault _ _ _ fails))
-
-read-byte-below-requires-2 : tie.Need-read-byte-below-requires-2
-read-byte-below-requires-2 c κs = search needs
-
-enum-known-k : tie.Need-enum-known-k
-enum-known-k c = search needs
-
-enum-told-2 : tie.Need-enum-told-2
-enum-told-2 c = search needs
-
-byte-fault-requires-2 : tie.Need-byte-fault-requires-2
-byte-fault-requires-2 c κs = search needs
 
 returns-2 : tie.Need-returns-2
 unfolding clockGuard clock yield holds
@@ -52,18 +28,6 @@ returns-2 c =
     λ vars.
     handed-on byteFault (c .byte-fault2 .ensures) (c .before .enum-told2 .given .1)
     (mapped-fault _ (bind-got _ _ _ read-c ∙ bind-fault _ _ _ (relation-fault _ fails)))
-
-read-ticks-requires : tie.Need-read-ticks-requires
-read-ticks-requires c κs = search needs
-
-enum-known-w : tie.Need-enum-known-w
-enum-known-w c = search needs
-
-enum-told-3 : tie.Need-enum-told-3
-enum-told-3 c = search needs
-
-word-fault-requires : tie.Need-word-fault-requires
-word-fault-requires c κs = search needs
 
 returns-3 : tie.Need-returns-3
 unfolding clockGuard clock yield holds
@@ -77,15 +41,6 @@ returns-3 c =
     λ vars.
     handed-on wordFault (c .word-fault .ensures) (c .before .enum-told3 .given .1)
     (mapped-fault _ (bind-got _ _ _ read-c ∙ bind-got _ _ _ (relation-got _ read-k) ∙ bind-fault _ _ _ fails))
-
-time-of-requires : tie.Need-time-of-requires
-time-of-requires c κs = search needs
-
-cast-compare-clocks : tie.Need-cast-compare-clocks
-cast-compare-clocks c = search needs
-
-compare-clocks-requires : tie.Need-compare-clocks-requires
-compare-clocks-requires c κs = search needs
 
 returns-4 : tie.Need-returns-4
 unfolding clockGuard clock yield holds
@@ -104,22 +59,22 @@ pub clock-guard-holds-spec : {M : Type 1} → statement M
 clock-guard-holds-spec =
     tie.close
     (tie.spec
-    read-byte-below-requires
-    enum-known-c
-    enum-told
-    byte-fault-requires
+    (λ c κs. search needs)
+    (λ c. search needs)
+    (λ c. search needs)
+    (λ c κs. search needs)
     returns
-    read-byte-below-requires-2
-    enum-known-k
-    enum-told-2
-    byte-fault-requires-2
+    (λ c κs. search needs)
+    (λ c. search needs)
+    (λ c. search needs)
+    (λ c κs. search needs)
     returns-2
-    read-ticks-requires
-    enum-known-w
-    enum-told-3
-    word-fault-requires
+    (λ c κs. search needs)
+    (λ c. search needs)
+    (λ c. search needs)
+    (λ c κs. search needs)
     returns-3
-    time-of-requires
-    cast-compare-clocks
-    compare-clocks-requires
+    (λ c κs. search needs)
+    (λ c. search needs)
+    (λ c κs. search needs)
     returns-4)

@@ -10,18 +10,6 @@ use borrow.Author.Needs.{needs}
 use Rattle.labels.proofs.guard.data_guard_holds.Statement.{statement}
 use Rattle.labels.proofs.guard.data_guard_holds.Tie as tie
 
-read-byte-below-requires : tie.Need-read-byte-below-requires
-read-byte-below-requires c κs = search needs
-
-enum-known-k : tie.Need-enum-known-k
-enum-known-k c = search needs
-
-enum-told : tie.Need-enum-told
-enum-told c = search needs
-
-byte-fault-requires : tie.Need-byte-fault-requires
-byte-fault-requires c κs = search needs
-
 returns : tie.Need-returns
 unfolding dataGuard yield holds
 returns c =
@@ -29,18 +17,6 @@ returns c =
     let fails = answered (byteOf _) (at-read-byte-below .read-byte-below .ensures) (c .before .enum-told .given .1) in
     λ times.
     handed-on byteFault (c .byte-fault .ensures) (c .before .enum-told .given .1) (mapped-fault _ (bind-fault _ _ _ (relation-fault _ fails)))
-
-value-at-requires : tie.Need-value-at-requires
-value-at-requires c κs = search needs
-
-enum-known-v : tie.Need-enum-known-v
-enum-known-v c = search needs
-
-enum-told-2 : tie.Need-enum-told-2
-enum-told-2 c = search needs
-
-value-fault-requires : tie.Need-value-fault-requires
-value-fault-requires c κs = search needs
 
 returns-2 : tie.Need-returns-2
 unfolding dataGuard yield holds
@@ -52,18 +28,6 @@ returns-2 c =
     λ times.
     handed-on valueFault (c .value-fault .ensures) (c .before .enum-told2 .given .1)
     (mapped-fault _ (bind-got _ _ _ (relation-got _ read-k) ∙ bind-fault _ _ _ (fault-at _ _ fails)))
-
-value-at-requires-2 : tie.Need-value-at-requires-2
-value-at-requires-2 c κs = search needs
-
-enum-known-w : tie.Need-enum-known-w
-enum-known-w c = search needs
-
-enum-told-3 : tie.Need-enum-told-3
-enum-told-3 c = search needs
-
-value-fault-requires-2 : tie.Need-value-fault-requires-2
-value-fault-requires-2 c κs = search needs
 
 returns-3 : tie.Need-returns-3
 unfolding dataGuard yield holds
@@ -79,9 +43,6 @@ returns-3 c =
     (mapped-fault _ (bind-got _ _ _ (relation-got _ read-k)
     ∙ bind-got _ _ _ (mapped-at _ _ read-v .1)
     ∙ bind-fault _ _ _ (fault-at _ _ fails)))
-
-compare-values-requires : tie.Need-compare-values-requires
-compare-values-requires c κs = search needs
 
 returns-4 : tie.Need-returns-4
 unfolding dataGuard yield holds
@@ -106,20 +67,20 @@ pub data-guard-holds-spec : {M : Type 1} → statement M
 data-guard-holds-spec =
     tie.close
     (tie.spec
-    read-byte-below-requires
-    enum-known-k
-    enum-told
-    byte-fault-requires
+    (λ c κs. search needs)
+    (λ c. search needs)
+    (λ c. search needs)
+    (λ c κs. search needs)
     returns
-    value-at-requires
-    enum-known-v
-    enum-told-2
-    value-fault-requires
+    (λ c κs. search needs)
+    (λ c. search needs)
+    (λ c. search needs)
+    (λ c κs. search needs)
     returns-2
-    value-at-requires-2
-    enum-known-w
-    enum-told-3
-    value-fault-requires-2
+    (λ c κs. search needs)
+    (λ c. search needs)
+    (λ c. search needs)
+    (λ c κs. search needs)
     returns-3
-    compare-values-requires
+    (λ c κs. search needs)
     returns-4)

@@ -9,18 +9,6 @@ use borrow.Author.Needs.{needs}
 use Rattle.labels.proofs.guard.difference_guard_holds.Statement.{statement}
 use Rattle.labels.proofs.guard.difference_guard_holds.Tie as tie
 
-read-byte-below-requires : tie.Need-read-byte-below-requires
-read-byte-below-requires c κs = search needs
-
-enum-known-c : tie.Need-enum-known-c
-enum-known-c c = search needs
-
-enum-told : tie.Need-enum-told
-enum-told c = search needs
-
-byte-fault-requires : tie.Need-byte-fault-requires
-byte-fault-requires c κs = search needs
-
 returns : tie.Need-returns
 unfolding differenceGuard clock yield holds
 returns c =
@@ -29,18 +17,6 @@ returns c =
     λ vars.
     handed-on byteFault (c .byte-fault .ensures) (c .before .enum-told .given .1)
     (mapped-fault _ (bind-fault _ _ _ fails))
-
-read-byte-below-requires-2 : tie.Need-read-byte-below-requires-2
-read-byte-below-requires-2 c κs = search needs
-
-enum-known-d : tie.Need-enum-known-d
-enum-known-d c = search needs
-
-enum-told-2 : tie.Need-enum-told-2
-enum-told-2 c = search needs
-
-byte-fault-requires-2 : tie.Need-byte-fault-requires-2
-byte-fault-requires-2 c κs = search needs
 
 returns-2 : tie.Need-returns-2
 unfolding differenceGuard clock yield holds
@@ -52,18 +28,6 @@ returns-2 c =
     λ vars.
     handed-on byteFault (c .byte-fault2 .ensures) (c .before .enum-told2 .given .1)
     (mapped-fault _ (bind-got _ _ _ read-c ∙ bind-fault _ _ _ fails))
-
-read-byte-below-requires-3 : tie.Need-read-byte-below-requires-3
-read-byte-below-requires-3 c κs = search needs
-
-enum-known-k : tie.Need-enum-known-k
-enum-known-k c = search needs
-
-enum-told-3 : tie.Need-enum-told-3
-enum-told-3 c = search needs
-
-byte-fault-requires-3 : tie.Need-byte-fault-requires-3
-byte-fault-requires-3 c κs = search needs
 
 returns-3 : tie.Need-returns-3
 unfolding differenceGuard clock yield holds
@@ -77,18 +41,6 @@ returns-3 c =
     λ vars.
     handed-on byteFault (c .byte-fault3 .ensures) (c .before .enum-told3 .given .1)
     (mapped-fault _ (bind-got _ _ _ read-c ∙ bind-got _ _ _ read-d ∙ bind-fault _ _ _ (relation-fault _ fails)))
-
-read-ticks-requires : tie.Need-read-ticks-requires
-read-ticks-requires c κs = search needs
-
-enum-known-w : tie.Need-enum-known-w
-enum-known-w c = search needs
-
-enum-told-4 : tie.Need-enum-told-4
-enum-told-4 c = search needs
-
-word-fault-requires : tie.Need-word-fault-requires
-word-fault-requires c κs = search needs
 
 returns-4 : tie.Need-returns-4
 unfolding differenceGuard clock yield holds
@@ -107,18 +59,6 @@ returns-4 c =
     ∙ bind-got _ _ _ read-d
     ∙ bind-got _ _ _ (relation-got _ read-k)
     ∙ bind-fault _ _ _ fails))
-
-time-of-requires : tie.Need-time-of-requires
-time-of-requires c κs = search needs
-
-time-of-requires-2 : tie.Need-time-of-requires-2
-time-of-requires-2 c κs = search needs
-
-sum-of-requires : tie.Need-sum-of-requires
-sum-of-requires c κs = search needs
-
-compare-clocks-requires : tie.Need-compare-clocks-requires
-compare-clocks-requires c κs = search needs
 
 returns-5 : tie.Need-returns-5
 unfolding differenceGuard clock yield holds
@@ -148,28 +88,28 @@ pub difference-guard-holds-spec : {M : Type 1} → statement M
 difference-guard-holds-spec =
     tie.close
     (tie.spec
-    read-byte-below-requires
-    enum-known-c
-    enum-told
-    byte-fault-requires
+    (λ c κs. search needs)
+    (λ c. search needs)
+    (λ c. search needs)
+    (λ c κs. search needs)
     returns
-    read-byte-below-requires-2
-    enum-known-d
-    enum-told-2
-    byte-fault-requires-2
+    (λ c κs. search needs)
+    (λ c. search needs)
+    (λ c. search needs)
+    (λ c κs. search needs)
     returns-2
-    read-byte-below-requires-3
-    enum-known-k
-    enum-told-3
-    byte-fault-requires-3
+    (λ c κs. search needs)
+    (λ c. search needs)
+    (λ c. search needs)
+    (λ c κs. search needs)
     returns-3
-    read-ticks-requires
-    enum-known-w
-    enum-told-4
-    word-fault-requires
+    (λ c κs. search needs)
+    (λ c. search needs)
+    (λ c. search needs)
+    (λ c κs. search needs)
     returns-4
-    time-of-requires
-    time-of-requires-2
-    sum-of-requires
-    compare-clocks-requires
+    (λ c κs. search needs)
+    (λ c κs. search needs)
+    (λ c κs. search needs)
+    (λ c κs. search needs)
     returns-5)

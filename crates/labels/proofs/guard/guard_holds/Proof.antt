@@ -9,32 +9,11 @@ use borrow.Author.Needs.{needs}
 use Rattle.labels.proofs.guard.guard_holds.Statement.{statement}
 use Rattle.labels.proofs.guard.guard_holds.Tie as tie
 
-read-byte-below-requires : tie.Need-read-byte-below-requires
-read-byte-below-requires c κs = search needs
-
-enum-known-b : tie.Need-enum-known-b
-enum-known-b c = search needs
-
-enum-told : tie.Need-enum-told
-enum-told c = search needs
-
-byte-fault-requires : tie.Need-byte-fault-requires
-byte-fault-requires c κs = search needs
-
 returns : tie.Need-returns
 returns c =
     let at-read-byte-below = c .before .before .before in
     let fails = answered (byteOf _) (at-read-byte-below .read-byte-below .ensures) (c .before .enum-told .given .1) in
     handed-on byteFault (c .byte-fault .ensures) (c .before .enum-told .given .1) (mapped-fault _ (guard-fault _ _ _ fails))
-
-data-guard-holds-requires : tie.Need-data-guard-holds-requires
-data-guard-holds-requires c κs = search needs
-
-clock-guard-holds-requires : tie.Need-clock-guard-holds-requires
-clock-guard-holds-requires c κs = search needs
-
-difference-guard-holds-requires : tie.Need-difference-guard-holds-requires
-difference-guard-holds-requires c κs = search needs
 
 returns-2 : tie.Need-returns-2
 returns-2 c =
@@ -60,14 +39,14 @@ pub guard-holds-spec : {M : Type 1} → statement M
 guard-holds-spec =
     tie.close
     (tie.spec
-    read-byte-below-requires
-    enum-known-b
-    enum-told
-    byte-fault-requires
+    (λ c κs. search needs)
+    (λ c. search needs)
+    (λ c. search needs)
+    (λ c κs. search needs)
     returns
-    data-guard-holds-requires
-    clock-guard-holds-requires
-    difference-guard-holds-requires
+    (λ c κs. search needs)
+    (λ c κs. search needs)
+    (λ c κs. search needs)
     returns-2
     returns-3
     returns-4)

@@ -10,33 +10,12 @@ use borrow.Author.Needs.{needs}
 use Rattle.labels.proofs.guard.read_data_guard.Statement.{statement}
 use Rattle.labels.proofs.guard.read_data_guard.Tie as tie
 
-read-byte-below-requires : tie.Need-read-byte-below-requires
-read-byte-below-requires c κs = search needs
-
-enum-known-k : tie.Need-enum-known-k
-enum-known-k c = search needs
-
-enum-told : tie.Need-enum-told
-enum-told c = search needs
-
-byte-fault-requires : tie.Need-byte-fault-requires
-byte-fault-requires c κs = search needs
-
 returns : tie.Need-returns
 unfolding dataGuard skipped yield
 returns c =
     let at-read-byte-below = c .before .before .before in
     let fails = answered (byteOf _) (at-read-byte-below .read-byte-below .ensures) (c .before .enum-told .given .1) in
     handed-on byteFault (c .byte-fault .ensures) (c .before .enum-told .given .1) (mapped-fault _ (bind-fault _ _ _ (relation-fault _ fails)))
-
-expression-at-requires : tie.Need-expression-at-requires
-expression-at-requires c κs = search needs
-
-enum-known-a : tie.Need-enum-known-a
-enum-known-a c = search needs
-
-enum-told-2 : tie.Need-enum-told-2
-enum-told-2 c = search needs
 
 returns-2 : tie.Need-returns-2
 unfolding dataGuard skipped yield
@@ -46,9 +25,6 @@ returns-2 c =
     let fails = answered (reached _ tt) (c .before .before .expression-at .ensures) (c .enum-told2 .given .1) in
     ap (reached _ tt) (c .enum-told2 .given .1)
     ∙ sym (mapped-fault _ (bind-got _ _ _ (relation-got _ read-k) ∙ bind-fault _ _ _ (fault-at _ _ fails)))
-
-expression-at-requires-2 : tie.Need-expression-at-requires-2
-expression-at-requires-2 c κs = search needs
 
 returns-3 : tie.Need-returns-3
 unfolding dataGuard skipped yield
@@ -65,14 +41,14 @@ pub read-data-guard-spec : {M : Type 1} → statement M
 read-data-guard-spec =
     tie.close
     (tie.spec
-    read-byte-below-requires
-    enum-known-k
-    enum-told
-    byte-fault-requires
+    (λ c κs. search needs)
+    (λ c. search needs)
+    (λ c. search needs)
+    (λ c κs. search needs)
     returns
-    expression-at-requires
-    enum-known-a
-    enum-told-2
+    (λ c κs. search needs)
+    (λ c. search needs)
+    (λ c. search needs)
     returns-2
-    expression-at-requires-2
+    (λ c κs. search needs)
     returns-3)

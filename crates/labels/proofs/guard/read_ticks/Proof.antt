@@ -7,15 +7,6 @@ use borrow.Author.Needs.{needs}
 use Rattle.labels.proofs.guard.read_ticks.Statement.{statement}
 use Rattle.labels.proofs.guard.read_ticks.Tie as tie
 
-read-word-requires : tie.Need-read-word-requires
-read-word-requires c κs = search needs
-
-enum-known-w : tie.Need-enum-known-w
-enum-known-w c = search needs
-
-enum-told : tie.Need-enum-told
-enum-told c = search needs
-
 returns : tie.Need-returns
 unfolding ticks
 returns c =
@@ -38,4 +29,4 @@ returns-3 c =
 
 pub read-ticks-spec : {M : Type 1} → statement M
 read-ticks-spec =
-    tie.close (tie.spec read-word-requires enum-known-w enum-told returns returns-2 returns-3)
+    tie.close (tie.spec (λ c κs. search needs) (λ c. search needs) (λ c. search needs) returns returns-2 returns-3)

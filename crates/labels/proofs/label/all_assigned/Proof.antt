@@ -29,15 +29,6 @@ loop-holds : tie.Need-loop-holds Inv-loop μ-loop
 unfolding all assign
 loop-holds c = ([], going-none _ _ _, refl, refl)
 
-updated-at-requires : tie.Need-updated-at-requires Inv-loop μ-loop
-updated-at-requires c κs = search needs
-
-enum-known-q : tie.Need-enum-known-q Inv-loop μ-loop
-enum-known-q c = search needs
-
-enum-told : tie.Need-enum-told Inv-loop μ-loop
-enum-told c = search needs
-
 returns : tie.Need-returns Inv-loop μ-loop
 returns c =
     let at-updated-at = c .before .before in
@@ -45,12 +36,6 @@ returns c =
     let fails = answered (reached _ _) (at-updated-at .updated-at .ensures .1) (c .enum-told .given .1) in
     let stops = going-stop _ _ _ (at-loop-test .before .loop .inv .1) (at-loop-test .loop-test .taken) (fault-at _ _ fails) in
     (λ us t e. no-answer (sym stops ∙ e), λ us t e. no-answer (sym stops ∙ e))
-
-add-i : tie.Need-add-i Inv-loop μ-loop
-add-i c = search needs
-
-loop-less : tie.Need-loop-less Inv-loop μ-loop
-loop-less c = search needs
 
 loop-again : tie.Need-loop-again Inv-loop μ-loop
 loop-again c =
@@ -84,11 +69,11 @@ all-assigned-spec =
     Inv-loop
     μ-loop
     loop-holds
-    updated-at-requires
-    enum-known-q
-    enum-told
+    (λ c κs. search needs)
+    (λ c. search needs)
+    (λ c. search needs)
     returns
-    add-i
-    loop-less
+    (λ c. search needs)
+    (λ c. search needs)
     loop-again
     returns-2)

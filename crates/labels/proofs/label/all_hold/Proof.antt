@@ -28,15 +28,6 @@ loop-holds : tie.Need-loop-holds Inv-loop μ-loop
 unfolding all
 loop-holds c = ([], going-none _ _ _, refl)
 
-guard-holds-requires : tie.Need-guard-holds-requires Inv-loop μ-loop
-guard-holds-requires c κs = search needs
-
-enum-known-h : tie.Need-enum-known-h Inv-loop μ-loop
-enum-known-h c = search needs
-
-enum-told : tie.Need-enum-told Inv-loop μ-loop
-enum-told c = search needs
-
 returns : tie.Need-returns Inv-loop μ-loop
 returns c =
     let at-loop-test = c .before .before .before in
@@ -55,12 +46,6 @@ returns-2 c =
     let m = mapped-at _ _ read-h in
     sym (not-all _ (going-has _ _ _ (at-loop-test .before .loop .inv .1) (at-loop-test .loop-test .taken) (m .1) e)
     (m .2 ∙ not-true _ (c .if1 .taken)))
-
-add-i : tie.Need-add-i Inv-loop μ-loop
-add-i c = search needs
-
-loop-less : tie.Need-loop-less Inv-loop μ-loop
-loop-less c = search needs
 
 loop-again : tie.Need-loop-again Inv-loop μ-loop
 loop-again c =
@@ -86,12 +71,12 @@ all-hold-spec =
     Inv-loop
     μ-loop
     loop-holds
-    guard-holds-requires
-    enum-known-h
-    enum-told
+    (λ c κs. search needs)
+    (λ c. search needs)
+    (λ c. search needs)
     returns
     returns-2
-    add-i
-    loop-less
+    (λ c. search needs)
+    (λ c. search needs)
     loop-again
     returns-3)

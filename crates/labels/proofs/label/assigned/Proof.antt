@@ -10,35 +10,11 @@ use borrow.Author.Needs.{needs}
 use Rattle.labels.proofs.label.assigned.Statement.{statement}
 use Rattle.labels.proofs.label.assigned.Tie as tie
 
-read-byte-requires : tie.Need-read-byte-requires
-read-byte-requires c κs = search needs
-
-enum-known-g : tie.Need-enum-known-g
-enum-known-g c = search needs
-
-enum-told : tie.Need-enum-told
-enum-told c = search needs
-
-unassigned-requires : tie.Need-unassigned-requires
-unassigned-requires c κs = search needs
-
 returns : tie.Need-returns
 unfolding body skipped
 returns c =
     let fails = bind-fault _ _ _ (answered (byteOf _) (c .before .before .before .read-byte .ensures .0) (c .before .enum-told .given .1)) in
     (λ b t e. no-answer (sym fails ∙ e), λ b t e. no-answer (sym fails ∙ e))
-
-read-byte-requires-2 : tie.Need-read-byte-requires-2
-read-byte-requires-2 c κs = search needs
-
-enum-known-a : tie.Need-enum-known-a
-enum-known-a c = search needs
-
-enum-told-2 : tie.Need-enum-told-2
-enum-told-2 c = search needs
-
-unassigned-requires-2 : tie.Need-unassigned-requires-2
-unassigned-requires-2 c κs = search needs
 
 returns-2 : tie.Need-returns-2
 unfolding body skipped
@@ -48,18 +24,6 @@ returns-2 c =
     let fails = answered (byteOf _) (c .before .before .before .read-byte2 .ensures .0) (c .before .enum-told2 .given .1) in
     let none = bind-got _ _ _ read-g ∙ bind-fault _ _ _ fails in
     (λ b t e. no-answer (sym none ∙ e), λ b t e. no-answer (sym none ∙ e))
-
-read-guards-requires : tie.Need-read-guards-requires
-read-guards-requires c κs = search needs
-
-enum-known-q : tie.Need-enum-known-q
-enum-known-q c = search needs
-
-enum-told-3 : tie.Need-enum-told-3
-enum-told-3 c = search needs
-
-unassigned-requires-3 : tie.Need-unassigned-requires-3
-unassigned-requires-3 c κs = search needs
 
 returns-3 : tie.Need-returns-3
 unfolding body skipped
@@ -72,9 +36,6 @@ returns-3 c =
       λ b t e. let w = body-parts _ _ e read-g read-a in no-answer (sym (fault-at _ _ fails) ∙ w .1),
       λ b t e. let w = body-parts _ _ e read-g read-a in no-answer (sym (fault-at _ _ fails) ∙ w .1),
     )
-
-all-assigned-requires : tie.Need-all-assigned-requires
-all-assigned-requires c κs = search needs
 
 returns-4 : tie.Need-returns-4
 unfolding body skipped update
@@ -94,20 +55,20 @@ pub assigned-spec : {M : Type 1} → statement M
 assigned-spec =
     tie.close
     (tie.spec
-    read-byte-requires
-    enum-known-g
-    enum-told
-    unassigned-requires
+    (λ c κs. search needs)
+    (λ c. search needs)
+    (λ c. search needs)
+    (λ c κs. search needs)
     returns
-    read-byte-requires-2
-    enum-known-a
-    enum-told-2
-    unassigned-requires-2
+    (λ c κs. search needs)
+    (λ c. search needs)
+    (λ c. search needs)
+    (λ c κs. search needs)
     returns-2
-    read-guards-requires
-    enum-known-q
-    enum-told-3
-    unassigned-requires-3
+    (λ c κs. search needs)
+    (λ c. search needs)
+    (λ c. search needs)
+    (λ c κs. search needs)
     returns-3
-    all-assigned-requires
+    (λ c κs. search needs)
     returns-4)

@@ -8,27 +8,9 @@ use borrow.Author.Needs.{needs}
 use Rattle.labels.proofs.label.guards_hold.Statement.{statement}
 use Rattle.labels.proofs.label.guards_hold.Tie as tie
 
-read-byte-requires : tie.Need-read-byte-requires
-read-byte-requires c κs = search needs
-
-enum-known-g : tie.Need-enum-known-g
-enum-known-g c = search needs
-
-enum-told : tie.Need-enum-told
-enum-told c = search needs
-
 returns : tie.Need-returns
 unfolding body
 returns c = λ w b t e. no-answer (sym (bind-fault _ _ _ (answered (byteOf _) (c .before .before .read-byte .ensures .0) (c .enum-told .given .1))) ∙ e)
-
-read-byte-requires-2 : tie.Need-read-byte-requires-2
-read-byte-requires-2 c κs = search needs
-
-enum-known-a : tie.Need-enum-known-a
-enum-known-a c = search needs
-
-enum-told-2 : tie.Need-enum-told-2
-enum-told-2 c = search needs
 
 returns-2 : tie.Need-returns-2
 unfolding body
@@ -37,9 +19,6 @@ returns-2 c =
     let read-g = answered (byteOf _) (at-g .before .before .read-byte .ensures .0) (at-g .g .given .1) in
     let fails = answered (byteOf _) (c .before .before .read-byte2 .ensures .0) (c .enum-told2 .given .1) in
     λ w b t e. no-answer (sym (bind-got _ _ _ read-g ∙ bind-fault _ _ _ fails) ∙ e)
-
-all-hold-requires : tie.Need-all-hold-requires
-all-hold-requires c κs = search needs
 
 returns-3 : tie.Need-returns-3
 unfolding body
@@ -54,13 +33,13 @@ pub guards-hold-spec : {M : Type 1} → statement M
 guards-hold-spec =
     tie.close
     (tie.spec
-    read-byte-requires
-    enum-known-g
-    enum-told
+    (λ c κs. search needs)
+    (λ c. search needs)
+    (λ c. search needs)
     returns
-    read-byte-requires-2
-    enum-known-a
-    enum-told-2
+    (λ c κs. search needs)
+    (λ c. search needs)
+    (λ c. search needs)
     returns-2
-    all-hold-requires
+    (λ c κs. search needs)
     returns-3)

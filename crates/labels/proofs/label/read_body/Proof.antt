@@ -11,36 +11,12 @@ use borrow.Author.Needs.{needs}
 use Rattle.labels.proofs.label.read_body.Statement.{statement}
 use Rattle.labels.proofs.label.read_body.Tie as tie
 
-read-byte-requires : tie.Need-read-byte-requires
-read-byte-requires c κs = search needs
-
-enum-known-g : tie.Need-enum-known-g
-enum-known-g c = search needs
-
-enum-told : tie.Need-enum-told
-enum-told c = search needs
-
-byte-fault-requires : tie.Need-byte-fault-requires
-byte-fault-requires c κs = search needs
-
 returns : tie.Need-returns
 unfolding body yield skipped update
 returns c =
     let at-read-byte = c .before .before .before in
     let fails = answered (byteOf _) (at-read-byte .read-byte .ensures .0) (c .before .enum-told .given .1) in
     handed-on byteFault (c .byte-fault .ensures) (c .before .enum-told .given .1) (mapped-fault _ (bind-fault _ _ _ fails))
-
-read-byte-requires-2 : tie.Need-read-byte-requires-2
-read-byte-requires-2 c κs = search needs
-
-enum-known-a : tie.Need-enum-known-a
-enum-known-a c = search needs
-
-enum-told-2 : tie.Need-enum-told-2
-enum-told-2 c = search needs
-
-byte-fault-requires-2 : tie.Need-byte-fault-requires-2
-byte-fault-requires-2 c κs = search needs
 
 returns-2 : tie.Need-returns-2
 unfolding body yield skipped update
@@ -51,18 +27,6 @@ returns-2 c =
     let fails = answered (byteOf _) (at-read-byte2 .read-byte2 .ensures .0) (c .before .enum-told2 .given .1) in
     handed-on byteFault (c .byte-fault2 .ensures) (c .before .enum-told2 .given .1)
     (mapped-fault _ (bind-got _ _ _ read-g ∙ bind-fault _ _ _ fails))
-
-read-guards-requires : tie.Need-read-guards-requires
-read-guards-requires c κs = search needs
-
-enum-known-q : tie.Need-enum-known-q
-enum-known-q c = search needs
-
-enum-told-3 : tie.Need-enum-told-3
-enum-told-3 c = search needs
-
-reached-fault-requires : tie.Need-reached-fault-requires
-reached-fault-requires c κs = search needs
 
 returns-3 : tie.Need-returns-3
 unfolding body yield skipped update
@@ -75,15 +39,6 @@ returns-3 c =
     let fails = answered (reached _ tt) (at-read-guards .read-guards .ensures) (c .before .enum-told3 .given .1) in
     handed-on reachedFault (c .reached-fault .ensures) (c .before .enum-told3 .given .1)
     (mapped-fault _ (bind-got _ _ _ read-g ∙ bind-got _ _ _ read-a ∙ bind-fault _ _ _ (fault-at _ _ fails)))
-
-read-updates-requires : tie.Need-read-updates-requires
-read-updates-requires c κs = search needs
-
-enum-known-u : tie.Need-enum-known-u
-enum-known-u c = search needs
-
-enum-told-4 : tie.Need-enum-told-4
-enum-told-4 c = search needs
 
 returns-4 : tie.Need-returns-4
 unfolding body yield skipped update
@@ -100,9 +55,6 @@ returns-4 c =
     ∙ bind-got _ _ _ read-a
     ∙ bind-got _ _ _ (mapped-at _ _ read-q .1)
     ∙ bind-fault _ _ _ (fault-at _ _ fails)))
-
-keeps-rule-requires : tie.Need-keeps-rule-requires
-keeps-rule-requires c κs = search needs
 
 returns-5 : tie.Need-returns-5
 unfolding body yield skipped update
@@ -128,24 +80,24 @@ pub read-body-spec : {M : Type 1} → statement M
 read-body-spec =
     tie.close
     (tie.spec
-    read-byte-requires
-    enum-known-g
-    enum-told
-    byte-fault-requires
+    (λ c κs. search needs)
+    (λ c. search needs)
+    (λ c. search needs)
+    (λ c κs. search needs)
     returns
-    read-byte-requires-2
-    enum-known-a
-    enum-told-2
-    byte-fault-requires-2
+    (λ c κs. search needs)
+    (λ c. search needs)
+    (λ c. search needs)
+    (λ c κs. search needs)
     returns-2
-    read-guards-requires
-    enum-known-q
-    enum-told-3
-    reached-fault-requires
+    (λ c κs. search needs)
+    (λ c. search needs)
+    (λ c. search needs)
+    (λ c κs. search needs)
     returns-3
-    read-updates-requires
-    enum-known-u
-    enum-told-4
+    (λ c κs. search needs)
+    (λ c. search needs)
+    (λ c. search needs)
     returns-4
-    keeps-rule-requires
+    (λ c κs. search needs)
     returns-5)

@@ -5,22 +5,10 @@ use borrow.Author.Needs.{needs}
 use Rattle.labels.proofs.label.read_channel.Statement.{statement}
 use Rattle.labels.proofs.label.read_channel.Tie as tie
 
-read-byte-requires : tie.Need-read-byte-requires
-read-byte-requires c κs = search needs
-
-enum-known-b : tie.Need-enum-known-b
-enum-known-b c = search needs
-
-enum-told : tie.Need-enum-told
-enum-told c = search needs
-
 returns : tie.Need-returns
 returns c =
     let fails = answered (byteOf _) (c .before .before .read-byte .ensures .0) (c .enum-told .given .1) in
     ap (byteOf _) (c .enum-told .given .1) ∙ sym (such-fault _ _ _ fails)
-
-channel-fits-requires : tie.Need-channel-fits-requires
-channel-fits-requires c κs = search needs
 
 returns-2 : tie.Need-returns-2
 returns-2 c =
@@ -38,10 +26,10 @@ pub read-channel-spec : {M : Type 1} → statement M
 read-channel-spec =
     tie.close
     (tie.spec
-    read-byte-requires
-    enum-known-b
-    enum-told
+    (λ c κs. search needs)
+    (λ c. search needs)
+    (λ c. search needs)
     returns
-    channel-fits-requires
+    (λ c κs. search needs)
     returns-2
     returns-3)

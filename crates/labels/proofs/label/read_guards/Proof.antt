@@ -21,15 +21,6 @@ abbrev μ-loop : tie.MeasureT-loop
 loop-holds : tie.Need-loop-holds Inv-loop μ-loop
 loop-holds c = ([], going-none _ _ _)
 
-read-guard-requires : tie.Need-read-guard-requires Inv-loop μ-loop
-read-guard-requires c κs = search needs
-
-enum-known-q : tie.Need-enum-known-q Inv-loop μ-loop
-enum-known-q c = search needs
-
-enum-told : tie.Need-enum-told Inv-loop μ-loop
-enum-told c = search needs
-
 returns : tie.Need-returns Inv-loop μ-loop
 unfolding skipped
 returns c =
@@ -38,12 +29,6 @@ returns c =
     ap (reached _ tt) (c .enum-told .given .1)
     ∙ sym (mapped-fault _ (going-stop _ _ _ (at-loop-test .before .loop .inv .1) (at-loop-test .loop-test .taken)
     (fault-at _ _ fails)))
-
-add-i : tie.Need-add-i Inv-loop μ-loop
-add-i c = search needs
-
-loop-less : tie.Need-loop-less Inv-loop μ-loop
-loop-less c = search needs
 
 loop-again : tie.Need-loop-again Inv-loop μ-loop
 unfolding skipped
@@ -66,11 +51,11 @@ read-guards-spec =
     Inv-loop
     μ-loop
     loop-holds
-    read-guard-requires
-    enum-known-q
-    enum-told
+    (λ c κs. search needs)
+    (λ c. search needs)
+    (λ c. search needs)
     returns
-    add-i
-    loop-less
+    (λ c. search needs)
+    (λ c. search needs)
     loop-again
     returns-2)

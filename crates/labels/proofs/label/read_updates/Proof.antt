@@ -26,33 +26,12 @@ loop-holds : tie.Need-loop-holds Inv-loop μ-loop
 unfolding concat
 loop-holds c = ([], going-none _ _ _, noted-none)
 
-read-update-requires : tie.Need-read-update-requires Inv-loop μ-loop
-read-update-requires c κs = search needs
-
-enum-known-u : tie.Need-enum-known-u Inv-loop μ-loop
-enum-known-u c = search needs
-
-enum-told : tie.Need-enum-told Inv-loop μ-loop
-enum-told c = search needs
-
-form-fault-requires : tie.Need-form-fault-requires Inv-loop μ-loop
-form-fault-requires c κs = search needs
-
 returns : tie.Need-returns Inv-loop μ-loop
 returns c =
     let at-read-update = c .before .before .before in
     handed-on formFault (c .form-fault .ensures) (c .before .enum-told .given .1) (mapped-fault _
     (going-stop _ _ _ (at-read-update .before .before .loop .inv .1) (at-read-update .before .loop-test .taken)
     (fault-at _ _ (answered (formRead _) (at-read-update .read-update .ensures) (c .before .enum-told .given .1)))))
-
-note-requires : tie.Need-note-requires Inv-loop μ-loop
-note-requires c κs = search needs
-
-add-i : tie.Need-add-i Inv-loop μ-loop
-add-i c = search needs
-
-loop-less : tie.Need-loop-less Inv-loop μ-loop
-loop-less c = search needs
 
 loop-again : tie.Need-loop-again Inv-loop μ-loop
 loop-again c =
@@ -77,13 +56,13 @@ read-updates-spec =
     Inv-loop
     μ-loop
     loop-holds
-    read-update-requires
-    enum-known-u
-    enum-told
-    form-fault-requires
+    (λ c κs. search needs)
+    (λ c. search needs)
+    (λ c. search needs)
+    (λ c κs. search needs)
     returns
-    note-requires
-    add-i
-    loop-less
+    (λ c κs. search needs)
+    (λ c. search needs)
+    (λ c. search needs)
     loop-again
     returns-2)

@@ -7,9 +7,6 @@ use borrow.Author.Needs.{needs}
 use Rattle.lists.proofs.mark.has.Statement.{statement}
 use Rattle.lists.proofs.mark.has.Tie as tie
 
-shr-result : tie.Need-shr-result
-shr-result c = search needs
-
 returns : tie.Need-returns
 unfolding has
 returns c = refl
@@ -18,4 +15,4 @@ returns-2 : tie.Need-returns-2
 returns-2 c = le-ltb _ 32 (c .if1 .left) ∙ sym (has-high 32 (c .before .args .marks) (c .before .args .i) (omega arith) (c .if1 .left))
 
 pub has-spec : {M : Type 1} → statement M
-has-spec = tie.close (tie.spec shr-result returns returns-2)
+has-spec = tie.close (tie.spec (λ c. search needs) returns returns-2)

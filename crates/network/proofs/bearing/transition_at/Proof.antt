@@ -9,15 +9,6 @@ use borrow.Author.Needs.{needs}
 use Rattle.network.proofs.bearing.transition_at.Statement.{statement}
 use Rattle.network.proofs.bearing.transition_at.Tie as tie
 
-mul-transition-of : tie.Need-mul-transition-of
-mul-transition-of c = search needs
-
-shared-slice-read-transition-of : tie.Need-shared-slice-read-transition-of
-shared-slice-read-transition-of c = search needs
-
-transition-of-requires : tie.Need-transition-of-requires
-transition-of-requires c κs = search needs
-
 returns : tie.Need-returns
 returns c = λ n L. let a = c .before .before .before .before .before .args in
     c .transition-of .ensures n L ∙ sym (getD-map (transitionOf n) (a .list .now) (a .i) 0 255 (c .before .before .if1 .taken))
@@ -31,8 +22,8 @@ pub transition-at-spec : {M : Type 1} → statement M
 transition-at-spec =
     tie.close
     (tie.spec
-    mul-transition-of
-    shared-slice-read-transition-of
-    transition-of-requires
+    (λ c. search needs)
+    (λ c. search needs)
+    (λ c κs. search needs)
     returns
     returns-2)

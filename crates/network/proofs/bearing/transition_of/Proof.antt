@@ -6,11 +6,8 @@ use Rattle.network.proofs.bearing.transition_of.Tie as tie
 returns : tie.Need-returns
 returns c = λ n L. no-transition L _ (c .if1 .taken)
 
-edge-of-requires : tie.Need-edge-of-requires
-edge-of-requires c κs = search needs
-
 returns-2 : tie.Need-returns-2
 returns-2 c = λ n L. c .edge-of .ensures _ n L (c .before .if1 .left) .transition
 
 pub transition-of-spec : {M : Type 1} → statement M
-transition-of-spec = tie.close (tie.spec returns edge-of-requires returns-2)
+transition-of-spec = tie.close (tie.spec returns (λ c κs. search needs) returns-2)

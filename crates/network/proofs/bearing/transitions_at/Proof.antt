@@ -19,18 +19,6 @@ abbrev μ-loop : tie.MeasureT-loop
 loop-holds : tie.Need-loop-holds Inv-loop μ-loop
 loop-holds c = λ n L. filled-none 16 _ _ (transitions-length n _) refl
 
-transition-at-requires : tie.Need-transition-at-requires Inv-loop μ-loop
-transition-at-requires c κs = search needs
-
-array-write-transitions : tie.Need-array-write-transitions Inv-loop μ-loop
-array-write-transitions c = omega arith
-
-add-i : tie.Need-add-i Inv-loop μ-loop
-add-i c = omega arith
-
-loop-less : tie.Need-loop-less Inv-loop μ-loop
-loop-less c = omega arith
-
 loop-again : tie.Need-loop-again Inv-loop μ-loop
 loop-again c = λ n L. filled-more 16 _ _ _ (c .before .before .loop .inv n L) 255 _ (c .before .loop-test .taken) (c .transition-at .ensures n L ∙ sym (transitions-at n _ _ (c .before .loop-test .taken)))
 
@@ -44,9 +32,9 @@ transitions-at-spec =
     Inv-loop
     μ-loop
     loop-holds
-    transition-at-requires
-    array-write-transitions
-    add-i
-    loop-less
+    (λ c κs. search needs)
+    (λ c. omega arith)
+    (λ c. omega arith)
+    (λ c. omega arith)
     loop-again
     returns)

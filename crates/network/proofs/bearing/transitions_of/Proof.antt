@@ -14,15 +14,6 @@ use Rattle.network.proofs.bearing.transitions_of.Tie as tie
 fits : (k : tie.After-known-told) → 13 ≤ length (k .before .before .before .before .before .before .before .args .file .now)
 fits k = found-fits _ (k .before .before .before .check .ensures .1 .0) (k .before .finding .given .1)
 
-check-requires : tie.Need-check-requires
-check-requires c κs = search needs
-
-enum-known-finding : tie.Need-enum-known-finding
-enum-known-finding c = search needs
-
-enum-told : tie.Need-enum-told
-enum-told c = search needs
-
 returns : tie.Need-returns
 returns c = let a = c .before .before .before .before .before .before .args in
     let h = c .before .before .check .ensures .0 (length-replicate {A = ℕ} 1024 0) in
@@ -34,12 +25,6 @@ sub-transitions-at c = omega (arith, fits c)
 part-transitions-at-start : tie.Need-part-transitions-at-start
 part-transitions-at-start c = omega (arith, fits c)
 
-part-transitions-at-end : tie.Need-part-transitions-at-end
-part-transitions-at-end c = search needs
-
-transitions-at-requires : tie.Need-transitions-at-requires
-transitions-at-requires c κs = search needs
-
 returns-2 : tie.Need-returns-2
 returns-2 c = let k = c .before .before .before in
     let a = k .before .before .before .before .before .before .before .args in
@@ -50,12 +35,12 @@ pub transitions-of-spec : {M : Type 1} → statement M
 transitions-of-spec =
     tie.close
     (tie.spec
-    check-requires
-    enum-known-finding
-    enum-told
+    (λ c κs. search needs)
+    (λ c. search needs)
+    (λ c. search needs)
     returns
     sub-transitions-at
     part-transitions-at-start
-    part-transitions-at-end
-    transitions-at-requires
+    (λ c. search needs)
+    (λ c κs. search needs)
     returns-2)

@@ -30,18 +30,6 @@ checked : (r : tie.After-check-rest) → let a = r .before .before .before .befo
     length (a .offsets .now) ≡ 1024 → CheckedAs (onward (a .file .now) 5) (r .check-rest .last .1 .1 .0) (networkOf (a .file .now)) (r .check-rest .result)
 checked r f = checked-file _ (counted (r .before .before .before)) _ (r .check-rest .result) (r .check-rest .ensures f)
 
-read-header-requires : tie.Need-read-header-requires
-read-header-requires c κs = search needs
-
-enum-known-h : tie.Need-enum-known-h
-enum-known-h c = search needs
-
-enum-told : tie.Need-enum-told
-enum-told c = search needs
-
-refuse-requires : tie.Need-refuse-requires
-refuse-requires c κs = search needs
-
 returns : tie.Need-returns
 returns c = let t = c .before .before in
     let e = c .refuse .ensures in
@@ -54,21 +42,9 @@ sub-check-rest c = omega (arith, fits c .0)
 part-check-rest-start : tie.Need-part-check-rest-start
 part-check-rest-start c = omega (arith, fits c .0)
 
-part-check-rest-end : tie.Need-part-check-rest-end
-part-check-rest-end c = search needs
-
 check-rest-requires : tie.Need-check-rest-requires
 check-rest-requires c κs = let k = c .before .before in
     (counts-at _ (counted k) .1, rest-fits (k .before .before .before .before .before .args .file .now) (fits k))
-
-enum-known-finding : tie.Need-enum-known-finding
-enum-known-finding c = search needs
-
-refuse-requires-2 : tie.Need-refuse-requires-2
-refuse-requires-2 c κs = search needs
-
-enum-told-2 : tie.Need-enum-told-2
-enum-told-2 c = search needs
 
 returns-2 : tie.Need-returns-2
 returns-2 c = let e = c .refuse2 .ensures in
@@ -84,17 +60,17 @@ pub check-spec : {M : Type 1} → statement M
 check-spec =
     tie.close
     (tie.spec
-    read-header-requires
-    enum-known-h
-    enum-told
-    refuse-requires
+    (λ c κs. search needs)
+    (λ c. search needs)
+    (λ c. search needs)
+    (λ c κs. search needs)
     returns
     sub-check-rest
     part-check-rest-start
-    part-check-rest-end
+    (λ c. search needs)
     check-rest-requires
-    enum-known-finding
-    refuse-requires-2
-    enum-told-2
+    (λ c. search needs)
+    (λ c κs. search needs)
+    (λ c. search needs)
     returns-2
     returns-3)

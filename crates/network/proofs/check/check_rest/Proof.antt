@@ -9,41 +9,11 @@ use borrow.Author.Needs.{needs}
 use Rattle.network.proofs.check.check_rest.Statement.{statement}
 use Rattle.network.proofs.check.check_rest.Tie as tie
 
-read-locations-requires : tie.Need-read-locations-requires
-read-locations-requires c κs = search needs
-
-enum-known-l : tie.Need-enum-known-l
-enum-known-l c = search needs
-
-enum-told : tie.Need-enum-told
-enum-told c = search needs
-
-reached-fault-requires : tie.Need-reached-fault-requires
-reached-fault-requires c κs = search needs
-
-number-of-requires : tie.Need-number-of-requires
-number-of-requires c κs = search needs
-
 returns : tie.Need-returns
 returns c = let t = c .before .before in
     let a = t .before .before .before .before .args in
     λ f. locations-fault (a .counts) (a .rest .now) (t .enum-told .given .0 .0) (answered (reached _ tt) (t .before .before .read-locations .ensures) (t .enum-told .given .1))
     ∙ ap refused (sym (c .number-of .ensures ∙ ap faultNumber (c .before .reached-fault .ensures ∙ ap reachedFault (t .enum-told .given .1))))
-
-read-edges-requires : tie.Need-read-edges-requires
-read-edges-requires c κs = search needs
-
-enum-known-q : tie.Need-enum-known-q
-enum-known-q c = search needs
-
-enum-told-2 : tie.Need-enum-told-2
-enum-told-2 c = search needs
-
-reached-fault-requires-2 : tie.Need-reached-fault-requires-2
-reached-fault-requires-2 c κs = search needs
-
-number-of-requires-2 : tie.Need-number-of-requires-2
-number-of-requires-2 c κs = search needs
 
 returns-2 : tie.Need-returns-2
 returns-2 c = let t = c .before .before in
@@ -63,9 +33,6 @@ returns-3 c = let d = c .before in
     let e = d .before .before .before .read-edges in
     let es = answered (reached _ (e .result .once)) (e .ensures .0) (d .before .q .given .1) in
     λ f. rest-fault (a .counts) (a .rest .now) _ ls _ _ es (c .if1 .taken)
-
-keeps-rules-requires : tie.Need-keeps-rules-requires
-keeps-rules-requires c κs = search needs
 
 returns-4 : tie.Need-returns-4
 returns-4 c = let r = c .before in
@@ -93,19 +60,19 @@ pub check-rest-spec : {M : Type 1} → statement M
 check-rest-spec =
     tie.close
     (tie.spec
-    read-locations-requires
-    enum-known-l
-    enum-told
-    reached-fault-requires
-    number-of-requires
+    (λ c κs. search needs)
+    (λ c. search needs)
+    (λ c. search needs)
+    (λ c κs. search needs)
+    (λ c κs. search needs)
     returns
-    read-edges-requires
-    enum-known-q
-    enum-told-2
-    reached-fault-requires-2
-    number-of-requires-2
+    (λ c κs. search needs)
+    (λ c. search needs)
+    (λ c. search needs)
+    (λ c κs. search needs)
+    (λ c κs. search needs)
     returns-2
     returns-3
-    keeps-rules-requires
+    (λ c κs. search needs)
     returns-4
     returns-5)

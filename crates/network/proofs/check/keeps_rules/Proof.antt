@@ -5,19 +5,10 @@ use borrow.Author.Needs.{needs}
 use Rattle.network.proofs.check.keeps_rules.Statement.{statement}
 use Rattle.network.proofs.check.keeps_rules.Tie as tie
 
-one-initial-each-requires : tie.Need-one-initial-each-requires
-one-initial-each-requires c κs = search needs
-
-all-join-requires : tie.Need-all-join-requires
-all-join-requires c κs = search needs
-
-all-ascend-requires : tie.Need-all-ascend-requires
-all-ascend-requires c κs = search needs
-
 returns : tie.Need-returns
 unfolding sound
 returns c = λ n L h. ap₂ _&&_ (c .before .before .one-initial-each .ensures n (L .located)) (ap₂ _&&_ (c .before .all-join .ensures n L) (ap₂ _&&_ (c .all-ascend .ensures n L) (sym h)))
 
 pub keeps-rules-spec : {M : Type 1} → statement M
 keeps-rules-spec =
-    tie.close (tie.spec one-initial-each-requires all-join-requires all-ascend-requires returns)
+    tie.close (tie.spec (λ c κs. search needs) (λ c κs. search needs) (λ c κs. search needs) returns)

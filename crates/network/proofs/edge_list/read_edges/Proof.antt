@@ -16,23 +16,8 @@ Inv-loop rest at counts offsets₀ once₀ place₀ count i₀ offsets once plac
 abbrev μ-loop : tie.MeasureT-loop
 μ-loop rest at counts offsets₀ once₀ place₀ count i₀ offsets once place i = counts .edges - i
 
-cast-count : tie.Need-cast-count Inv-loop μ-loop
-cast-count c = search needs
-
 loop-holds : tie.Need-loop-holds Inv-loop μ-loop
 loop-holds c = edging-none _ _ _ _
-
-edge-at-requires : tie.Need-edge-at-requires Inv-loop μ-loop
-edge-at-requires c κs = search needs
-
-enum-known-e : tie.Need-enum-known-e Inv-loop μ-loop
-enum-known-e c = search needs
-
-enum-told : tie.Need-enum-told Inv-loop μ-loop
-enum-told c = search needs
-
-test-fault-requires : tie.Need-test-fault-requires Inv-loop μ-loop
-test-fault-requires c κs = search needs
 
 returns : tie.Need-returns Inv-loop μ-loop
 returns c = let l = c .before .before .before in
@@ -47,19 +32,10 @@ cast-offsets c = let l = c .before .before .before in
     let here = mapped-at _ _ (answered (testOf _) (l .edge-at .ensures (a .pre .0)) (c .before .e .given .1)) in
     omega (arith, recorded-before _ _ (l .before .before .loop .place) (here .1), a .pre .1)
 
-mul-offsets : tie.Need-mul-offsets Inv-loop μ-loop
-mul-offsets c = search needs
-
 element-write-offsets : tie.Need-element-write-offsets Inv-loop μ-loop
 element-write-offsets c = let l = c .before .before .before in
     let a = l .before .before .before .before .before in
     omega (arith, few-edges (a .args .counts) (a .pre .0), l .before .loop-test .taken)
-
-add-i : tie.Need-add-i Inv-loop μ-loop
-add-i c = omega arith
-
-loop-less : tie.Need-loop-less Inv-loop μ-loop
-loop-less c = omega arith
 
 loop-again : tie.Need-loop-again Inv-loop μ-loop
 loop-again c = let l = c .before .before .before in
@@ -76,17 +52,17 @@ read-edges-spec =
     (tie.spec
     Inv-loop
     μ-loop
-    cast-count
+    (λ c. search needs)
     loop-holds
-    edge-at-requires
-    enum-known-e
-    enum-told
-    test-fault-requires
+    (λ c κs. search needs)
+    (λ c. search needs)
+    (λ c. search needs)
+    (λ c κs. search needs)
     returns
     cast-offsets
-    mul-offsets
+    (λ c. search needs)
     element-write-offsets
-    add-i
-    loop-less
+    (λ c. omega arith)
+    (λ c. omega arith)
     loop-again
     returns-2)

@@ -24,18 +24,6 @@ loop-holds : tie.Need-loop-holds Inv-loop μ-loop
 unfolding initials
 loop-holds c = (omega arith, λ n L. omega arith)
 
-is-initial-of-requires : tie.Need-is-initial-of-requires Inv-loop μ-loop
-is-initial-of-requires c κs = search needs
-
-add-count : tie.Need-add-count Inv-loop μ-loop
-add-count c = omega arith
-
-add-i : tie.Need-add-i Inv-loop μ-loop
-add-i c = omega arith
-
-loop-less : tie.Need-loop-less Inv-loop μ-loop
-loop-less c = omega arith
-
 loop-again : tie.Need-loop-again Inv-loop μ-loop
 loop-again c = let l = c .before .before in
     let g = l .before .before .loop .inv in
@@ -54,9 +42,9 @@ count-initials-spec =
     Inv-loop
     μ-loop
     loop-holds
-    is-initial-of-requires
-    add-count
-    add-i
-    loop-less
+    (λ c κs. search needs)
+    (λ c. omega arith)
+    (λ c. omega arith)
+    (λ c. omega arith)
     loop-again
     returns)

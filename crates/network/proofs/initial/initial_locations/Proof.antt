@@ -24,21 +24,6 @@ loop-holds : tie.Need-loop-holds Inv-loop μ-loop
 unfolding below range
 loop-holds c = λ n L. filled-none 16 _ _ refl refl
 
-cast-start-of : tie.Need-cast-start-of Inv-loop μ-loop
-cast-start-of c = omega arith
-
-start-of-requires : tie.Need-start-of-requires Inv-loop μ-loop
-start-of-requires c κs = search needs
-
-array-write-locations : tie.Need-array-write-locations Inv-loop μ-loop
-array-write-locations c = omega arith
-
-add-a : tie.Need-add-a Inv-loop μ-loop
-add-a c = omega arith
-
-loop-less : tie.Need-loop-less Inv-loop μ-loop
-loop-less c = omega arith
-
 loop-again : tie.Need-loop-again Inv-loop μ-loop
 loop-again c = λ n L. filled-more 16 _ _ _ (c .before .before .loop .inv n L) 0 _ (c .before .loop-test .taken) (c .start-of .ensures n L ∙ sym (getD-mapped _ 16 _ 0 (c .before .loop-test .taken)))
 
@@ -52,10 +37,10 @@ initial-locations-spec =
     Inv-loop
     μ-loop
     loop-holds
-    cast-start-of
-    start-of-requires
-    array-write-locations
-    add-a
-    loop-less
+    (λ c. omega arith)
+    (λ c κs. search needs)
+    (λ c. omega arith)
+    (λ c. omega arith)
+    (λ c. omega arith)
     loop-again
     returns)

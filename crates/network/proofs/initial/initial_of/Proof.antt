@@ -24,18 +24,9 @@ loop-holds : tie.Need-loop-holds Inv-loop μ-loop
 unfolding initials
 loop-holds c = λ n L. refl
 
-is-initial-of-requires : tie.Need-is-initial-of-requires Inv-loop μ-loop
-is-initial-of-requires c κs = search needs
-
 returns : tie.Need-returns Inv-loop μ-loop
 returns c = λ n L. let l = c .before .before in
     sym (ap (λ (k : List ℕ). getD k 0 0) (l .before .before .loop .inv n L ∙ keep-next _ (below-next (L .locations) _ (l .if1 .taken)) (sym (c .before .is-initial-of .ensures n L) ∙ c .if2 .taken)))
-
-add-i : tie.Need-add-i Inv-loop μ-loop
-add-i c = omega arith
-
-loop-less : tie.Need-loop-less Inv-loop μ-loop
-loop-less c = omega arith
 
 loop-again : tie.Need-loop-again Inv-loop μ-loop
 loop-again c = λ n L. let l = c .before .before in
@@ -52,9 +43,9 @@ initial-of-spec =
     Inv-loop
     μ-loop
     loop-holds
-    is-initial-of-requires
+    (λ c κs. search needs)
     returns
-    add-i
-    loop-less
+    (λ c. omega arith)
+    (λ c. omega arith)
     loop-again
     returns-2)

@@ -22,18 +22,9 @@ abbrev μ-loop : tie.MeasureT-loop
 loop-holds : tie.Need-loop-holds Inv-loop μ-loop
 loop-holds c = λ n L. refl
 
-count-initials-requires : tie.Need-count-initials-requires Inv-loop μ-loop
-count-initials-requires c κs = search needs
-
 returns : tie.Need-returns Inv-loop μ-loop
 returns c = λ n L. let l = c .before .before in
     sym (l .before .before .loop .inv n L ∙ all-stop _ (below-next (L .automata) _ (l .if1 .taken)) (ap (λ (x : ℕ). eqb x 1) (sym (c .before .count-initials .ensures n L)) ∙ ne-eqb _ 1 (c .if2 .taken)))
-
-add-a : tie.Need-add-a Inv-loop μ-loop
-add-a c = omega arith
-
-loop-less : tie.Need-loop-less Inv-loop μ-loop
-loop-less c = omega arith
 
 loop-again : tie.Need-loop-again Inv-loop μ-loop
 loop-again c = λ n L. let l = c .before .before in
@@ -50,9 +41,9 @@ one-initial-each-spec =
     Inv-loop
     μ-loop
     loop-holds
-    count-initials-requires
+    (λ c κs. search needs)
     returns
-    add-a
-    loop-less
+    (λ c. omega arith)
+    (λ c. omega arith)
     loop-again
     returns-2)

@@ -22,27 +22,12 @@ loop-holds c = (omega arith, λ n L. refl)
 sub-edge-of : tie.Need-sub-edge-of Inv-loop μ-loop
 sub-edge-of c = c .before .before .loop .inv .0
 
-edge-of-requires : tie.Need-edge-of-requires Inv-loop μ-loop
-edge-of-requires c κs = search needs
-
-edge-of-requires-2 : tie.Need-edge-of-requires-2 Inv-loop μ-loop
-edge-of-requires-2 c κs = search needs
-
-precedes-requires : tie.Need-precedes-requires Inv-loop μ-loop
-precedes-requires c κs = search needs
-
 returns : tie.Need-returns Inv-loop μ-loop
 returns c = λ n L. let l = c .before .before .before .before in
     let v = l .before .before .loop .inv in
     let x = kept-key L (c .before .before .before .edge-of .ensures _ n L (omega (arith, l .if1 .taken))) in
     let y = kept-key L (c .before .before .edge-of2 .ensures _ n L (l .if1 .taken)) in
     sym (v .1 n L ∙ ascend-stop L _ (v .0) (l .if1 .taken) (c .before .precedes .ensures ∙ ap₂ lexLess x y) (not-true _ (c .if2 .taken)))
-
-add-i : tie.Need-add-i Inv-loop μ-loop
-add-i c = omega arith
-
-loop-less : tie.Need-loop-less Inv-loop μ-loop
-loop-less c = omega arith
 
 loop-again : tie.Need-loop-again Inv-loop μ-loop
 loop-again c = (
@@ -65,11 +50,11 @@ all-ascend-spec =
     μ-loop
     loop-holds
     sub-edge-of
-    edge-of-requires
-    edge-of-requires-2
-    precedes-requires
+    (λ c κs. search needs)
+    (λ c κs. search needs)
+    (λ c κs. search needs)
     returns
-    add-i
-    loop-less
+    (λ c. omega arith)
+    (λ c. omega arith)
     loop-again
     returns-2)

@@ -4,14 +4,8 @@ use borrow.Author.Needs.{needs}
 use Rattle.network.proofs.laid.joins.Statement.{statement}
 use Rattle.network.proofs.laid.joins.Tie as tie
 
-automaton-of-requires : tie.Need-automaton-of-requires
-automaton-of-requires c κs = search needs
-
-automaton-of-requires-2 : tie.Need-automaton-of-requires-2
-automaton-of-requires-2 c κs = search needs
-
 returns : tie.Need-returns
 returns c = λ n L. ap₂ eqb (c .before .automaton-of .ensures n L) (c .automaton-of2 .ensures n L)
 
 pub joins-spec : {M : Type 1} → statement M
-joins-spec = tie.close (tie.spec automaton-of-requires automaton-of-requires-2 returns)
+joins-spec = tie.close (tie.spec (λ c κs. search needs) (λ c κs. search needs) returns)

@@ -30,40 +30,10 @@ abbrev μ-loop : tie.MeasureT-loop
 loop-holds : tie.Need-loop-holds Inv-loop μ-loop
 loop-holds c = λ k s d K. refl
 
-cast-has : tie.Need-cast-has Inv-loop μ-loop
-cast-has c = search needs
-
-cast-has-2 : tie.Need-cast-has-2 Inv-loop μ-loop
-cast-has-2 c = omega arith
-
-has-requires : tie.Need-has-requires Inv-loop μ-loop
-has-requires c κs = search needs
-
-cast-has-3 : tie.Need-cast-has-3 Inv-loop μ-loop
-cast-has-3 c = search needs
-
-cast-has-4 : tie.Need-cast-has-4 Inv-loop μ-loop
-cast-has-4 c = omega arith
-
-has-requires-2 : tie.Need-has-requires-2 Inv-loop μ-loop
-has-requires-2 c κs = search needs
-
-array-read-flag-agrees : tie.Need-array-read-flag-agrees Inv-loop μ-loop
-array-read-flag-agrees c = search needs
-
-flag-agrees-requires : tie.Need-flag-agrees-requires Inv-loop μ-loop
-flag-agrees-requires c κs = search needs
-
 returns : tie.Need-returns Inv-loop μ-loop
 unfolding flagsAgree
 returns c = λ k s d K. let l = c .before .before .before .before .before .before in
     sym (l .before .loop .inv k s d K ∙ all-stop _ (below-next refl _ (l .loop-test .taken)) (flag-kept K _ _ (c .before .flag-agrees .ensures) (c .before .before .before .before .has .ensures) (c .before .before .has2 .ensures) ∙ not-true _ (c .if1 .taken)))
-
-add-a : tie.Need-add-a Inv-loop μ-loop
-add-a c = omega arith
-
-loop-less : tie.Need-loop-less Inv-loop μ-loop
-loop-less c = omega arith
 
 loop-again : tie.Need-loop-again Inv-loop μ-loop
 loop-again c = λ k s d K. let l = c .before .before .before .before .before .before in
@@ -80,16 +50,16 @@ flags-agree-spec =
     Inv-loop
     μ-loop
     loop-holds
-    cast-has
-    cast-has-2
-    has-requires
-    cast-has-3
-    cast-has-4
-    has-requires-2
-    array-read-flag-agrees
-    flag-agrees-requires
+    (λ c. search needs)
+    (λ c. omega arith)
+    (λ c κs. search needs)
+    (λ c. search needs)
+    (λ c. omega arith)
+    (λ c κs. search needs)
+    (λ c. search needs)
+    (λ c κs. search needs)
     returns
-    add-a
-    loop-less
+    (λ c. omega arith)
+    (λ c. omega arith)
     loop-again
     returns-2)

@@ -5,21 +5,6 @@ use borrow.Author.Needs.{needs}
 use Rattle.network_moves.proofs.after.taken.Statement.{statement}
 use Rattle.network_moves.proofs.after.taken.Tie as tie
 
-automaton-of-requires : tie.Need-automaton-of-requires
-automaton-of-requires c κs = search needs
-
-assigned-by-requires : tie.Need-assigned-by-requires
-assigned-by-requires c κs = search needs
-
-with-location-requires : tie.Need-with-location-requires
-with-location-requires c κs = search needs
-
-with-flags-requires : tie.Need-with-flags-requires
-with-flags-requires c κs = search needs
-
-reset-requires : tie.Need-reset-requires
-reset-requires c κs = search needs
-
 returns : tie.Need-returns
 returns c =
     let f = c .before in
@@ -35,9 +20,9 @@ pub taken-spec : {M : Type 1} → statement M
 taken-spec =
     tie.close
     (tie.spec
-    automaton-of-requires
-    assigned-by-requires
-    with-location-requires
-    with-flags-requires
-    reset-requires
+    (λ c κs. search needs)
+    (λ c κs. search needs)
+    (λ c κs. search needs)
+    (λ c κs. search needs)
+    (λ c κs. search needs)
     returns)

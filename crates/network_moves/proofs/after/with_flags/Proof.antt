@@ -7,15 +7,6 @@ use borrow.Author.Needs.{needs}
 use Rattle.network_moves.proofs.after.with_flags.Statement.{statement}
 use Rattle.network_moves.proofs.after.with_flags.Tie as tie
 
-array-read-overwrite : tie.Need-array-read-overwrite
-array-read-overwrite c = search needs
-
-overwrite-requires : tie.Need-overwrite-requires
-overwrite-requires c κs = search needs
-
-array-write-next : tie.Need-array-write-next
-array-write-next c = search needs
-
 returns : tie.Need-returns
 returns c = ap (λ (v : ℕ). set (c .before .before .args .t1) (c .before .before .args .automaton) v) (c .overwrite .ensures)
 
@@ -24,4 +15,4 @@ returns-2 c = let e : length (c .before .args .t1) ≡ 16 = search needs in sym 
 
 pub with-flags-spec : {M : Type 1} → statement M
 with-flags-spec =
-    tie.close (tie.spec array-read-overwrite overwrite-requires array-write-next returns returns-2)
+    tie.close (tie.spec (λ c. search needs) (λ c κs. search needs) (λ c. search needs) returns returns-2)

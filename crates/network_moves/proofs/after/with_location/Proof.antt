@@ -6,14 +6,8 @@ use borrow.Author.Needs.{needs}
 use Rattle.network_moves.proofs.after.with_location.Statement.{statement}
 use Rattle.network_moves.proofs.after.with_location.Tie as tie
 
-array-write-next : tie.Need-array-write-next
-array-write-next c = search needs
-
-returns : tie.Need-returns
-returns c = search needs
-
 returns-2 : tie.Need-returns-2
 returns-2 c = let e : length (c .before .args .locations) ≡ 16 = search needs in sym (set-out (c .before .args .locations) (c .before .args .automaton) _ (omega arith))
 
 pub with-location-spec : {M : Type 1} → statement M
-with-location-spec = tie.close (tie.spec array-write-next returns returns-2)
+with-location-spec = tie.close (tie.spec (λ c. search needs) (λ c. search needs) returns-2)

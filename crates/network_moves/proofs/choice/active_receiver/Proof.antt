@@ -6,20 +6,8 @@ use borrow.Author.Needs.{needs}
 use Rattle.network_moves.proofs.choice.active_receiver.Statement.{statement}
 use Rattle.network_moves.proofs.choice.active_receiver.Tie as tie
 
-hears-requires : tie.Need-hears-requires
-hears-requires c κs = search needs
-
 returns : tie.Need-returns
 returns c = λ n L h. sym (not-heard n _ _ _ (sym (c .before .hears .ensures _ n L h) ∙ not-true _ (c .if1 .taken)))
-
-edge-of-requires : tie.Need-edge-of-requires
-edge-of-requires c κs = search needs
-
-is-active-requires : tie.Need-is-active-requires
-is-active-requires c κs = search needs
-
-automaton-of-requires : tie.Need-automaton-of-requires
-automaton-of-requires c κs = search needs
 
 returns-2 : tie.Need-returns-2
 returns-2 c = λ n L h. let e = c .before .before .before in
@@ -36,10 +24,10 @@ pub active-receiver-spec : {M : Type 1} → statement M
 active-receiver-spec =
     tie.close
     (tie.spec
-    hears-requires
+    (λ c κs. search needs)
     returns
-    edge-of-requires
-    is-active-requires
-    automaton-of-requires
+    (λ c κs. search needs)
+    (λ c κs. search needs)
+    (λ c κs. search needs)
     returns-2
     returns-3)

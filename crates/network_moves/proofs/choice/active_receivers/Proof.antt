@@ -27,25 +27,10 @@ abbrev μ-loop : tie.MeasureT-loop
 loop-holds : tie.Need-loop-holds Inv-loop μ-loop
 loop-holds c = (refl, omega arith, λ n L. refl)
 
-cast-i : tie.Need-cast-i Inv-loop μ-loop
-cast-i c = search needs
-
 returns : tie.Need-returns Inv-loop μ-loop
 returns c = λ n L. let t = c .before in
     let k = t .before .before .before .before .args .counts in
     absurd (omega (arith, few-edges k (L .located .in-range), t .if1 .taken, c .if2 .taken))
-
-active-receiver-requires : tie.Need-active-receiver-requires Inv-loop μ-loop
-active-receiver-requires c κs = search needs
-
-array-write-receivers : tie.Need-array-write-receivers Inv-loop μ-loop
-array-write-receivers c = search needs
-
-add-m : tie.Need-add-m Inv-loop μ-loop
-add-m c = search needs
-
-loop-less : tie.Need-loop-less Inv-loop μ-loop
-loop-less c = omega arith
 
 loop-again : tie.Need-loop-again Inv-loop μ-loop
 loop-again c = let l = c .before .before .before .before in
@@ -71,11 +56,11 @@ active-receivers-spec =
     Inv-loop
     μ-loop
     loop-holds
-    cast-i
+    (λ c. search needs)
     returns
-    active-receiver-requires
-    array-write-receivers
-    add-m
-    loop-less
+    (λ c κs. search needs)
+    (λ c. search needs)
+    (λ c. search needs)
+    (λ c. omega arith)
     loop-again
     returns-2)

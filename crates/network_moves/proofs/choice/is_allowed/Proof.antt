@@ -9,36 +9,6 @@ use Rattle.network_moves.proofs.choice.is_allowed.Tie as tie
 returns : tie.Need-returns
 returns c = λ n L h l. absurd (omega arith)
 
-members-of-requires : tie.Need-members-of-requires
-members-of-requires c κs = search needs
-
-owners-of-requires : tie.Need-owners-of-requires
-owners-of-requires c κs = search needs
-
-case-of-requires : tie.Need-case-of-requires
-case-of-requires c κs = search needs
-
-enum-told : tie.Need-enum-told
-enum-told c = search needs
-
-enum-told-2 : tie.Need-enum-told-2
-enum-told-2 c = search needs
-
-enum-known-case : tie.Need-enum-known-case
-enum-known-case c = search needs
-
-sub-none-fits : tie.Need-sub-none-fits
-sub-none-fits c = search needs
-
-part-none-fits-start : tie.Need-part-none-fits-start
-part-none-fits-start c = search needs
-
-part-none-fits-end : tie.Need-part-none-fits-end
-part-none-fits-end c = search needs
-
-none-fits-requires : tie.Need-none-fits-requires
-none-fits-requires c κs = search needs
-
 returns-2 : tie.Need-returns-2
 returns-2 c = λ n L h l. let k = c .before .before in
     let m = k .before .before in
@@ -64,16 +34,16 @@ is-allowed-spec =
     tie.close
     (tie.spec
     returns
-    members-of-requires
-    owners-of-requires
-    case-of-requires
-    enum-told
-    enum-told-2
-    enum-known-case
-    sub-none-fits
-    part-none-fits-start
-    part-none-fits-end
-    none-fits-requires
+    (λ c κs. search needs)
+    (λ c κs. search needs)
+    (λ c κs. search needs)
+    (λ c. search needs)
+    (λ c. search needs)
+    (λ c. search needs)
+    (λ c. search needs)
+    (λ c. search needs)
+    (λ c. search needs)
+    (λ c κs. search needs)
     returns-2
     returns-3
     returns-4)

@@ -3,16 +3,10 @@ use borrow.Author.Needs.{needs}
 use Rattle.network_moves.proofs.choice.member_of.Statement.{statement}
 use Rattle.network_moves.proofs.choice.member_of.Tie as tie
 
-edge-of-requires : tie.Need-edge-of-requires
-edge-of-requires c κs = search needs
-
-automaton-of-requires : tie.Need-automaton-of-requires
-automaton-of-requires c κs = search needs
-
 returns : tie.Need-returns
 returns c = λ n L h. let K = c .before .edge-of .ensures _ n L h in
     let o = owner-kept K n (c .automaton-of .ensures n (L .located)) in
     λ j. record { signal = K .signal j; channel = K .channel j; owner = o j }
 
 pub member-of-spec : {M : Type 1} → statement M
-member-of-spec = tie.close (tie.spec edge-of-requires automaton-of-requires returns)
+member-of-spec = tie.close (tie.spec (λ c κs. search needs) (λ c κs. search needs) returns)

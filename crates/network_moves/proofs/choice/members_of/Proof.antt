@@ -25,27 +25,6 @@ loop-holds c = (refl, omega arith, λ n L h. refl)
 returns : tie.Need-returns Inv-loop μ-loop
 returns c = λ n L h l. absurd (omega arith)
 
-mul-m : tie.Need-mul-m Inv-loop μ-loop
-mul-m c = search needs
-
-shared-slice-read-m : tie.Need-shared-slice-read-m Inv-loop μ-loop
-shared-slice-read-m c = search needs
-
-member-of-requires : tie.Need-member-of-requires Inv-loop μ-loop
-member-of-requires c κs = search needs
-
-mul-members : tie.Need-mul-members Inv-loop μ-loop
-mul-members c = search needs
-
-array-set-from-members : tie.Need-array-set-from-members Inv-loop μ-loop
-array-set-from-members c = omega arith
-
-add-i : tie.Need-add-i Inv-loop μ-loop
-add-i c = omega arith
-
-loop-less : tie.Need-loop-less Inv-loop μ-loop
-loop-less c = omega arith
-
 loop-again : tie.Need-loop-again Inv-loop μ-loop
 loop-again c = let l = c .before .before .before .before in
     let a = l .before .before .before .args in
@@ -70,12 +49,12 @@ members-of-spec =
     μ-loop
     loop-holds
     returns
-    mul-m
-    shared-slice-read-m
-    member-of-requires
-    mul-members
-    array-set-from-members
-    add-i
-    loop-less
+    (λ c. search needs)
+    (λ c. search needs)
+    (λ c κs. search needs)
+    (λ c. search needs)
+    (λ c. omega arith)
+    (λ c. omega arith)
+    (λ c. omega arith)
     loop-again
     returns-2)

@@ -32,22 +32,10 @@ abbrev μ-loop : tie.MeasureT-loop
 loop-holds : tie.Need-loop-holds Inv-loop μ-loop
 loop-holds c = λ n L. refl
 
-place-requires : tie.Need-place-requires Inv-loop μ-loop
-place-requires c κs = search needs
-
-is-location-of-requires : tie.Need-is-location-of-requires Inv-loop μ-loop
-is-location-of-requires c κs = search needs
-
 returns : tie.Need-returns Inv-loop μ-loop
 returns c = λ n L. let l = c .before .before .before in
     let here = ap (λ (x : ℕ). isOf n x (l .before .before .loop .a)) (sym (c .before .before .place .ensures)) ∙ sym (c .before .is-location-of .ensures n L) in
     sym (l .before .before .loop .inv n L ∙ all-stop _ (below-next (L .automata) _ (l .if1 .taken)) (here ∙ not-true _ (c .if2 .taken)))
-
-add-a : tie.Need-add-a Inv-loop μ-loop
-add-a c = omega arith
-
-loop-less : tie.Need-loop-less Inv-loop μ-loop
-loop-less c = omega arith
 
 loop-again : tie.Need-loop-again Inv-loop μ-loop
 loop-again c = λ n L. let l = c .before .before .before in
@@ -65,10 +53,10 @@ at-own-locations-spec =
     Inv-loop
     μ-loop
     loop-holds
-    place-requires
-    is-location-of-requires
+    (λ c κs. search needs)
+    (λ c κs. search needs)
     returns
-    add-a
-    loop-less
+    (λ c. omega arith)
+    (λ c. omega arith)
     loop-again
     returns-2)

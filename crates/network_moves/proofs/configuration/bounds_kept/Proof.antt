@@ -24,23 +24,11 @@ loop-holds : tie.Need-loop-holds Inv-loop μ-loop
 unfolding boundsKept
 loop-holds c = λ n L. refl
 
-place-requires : tie.Need-place-requires Inv-loop μ-loop
-place-requires c κs = search needs
-
-keeps-bounds-requires : tie.Need-keeps-bounds-requires Inv-loop μ-loop
-keeps-bounds-requires c κs = search needs
-
 returns : tie.Need-returns Inv-loop μ-loop
 returns c = λ n L. let l = c .before .before .before in
     let cs = l .before .before .before .before .before .args .c .clocks in
     let here = ap (λ (x : ℕ). keeps (locationAt n x .bounds) cs) (sym (c .before .before .place .ensures)) ∙ sym (c .before .keeps-bounds .ensures n L) in
     sym (l .before .before .loop .inv n L ∙ all-stop _ (below-next (L .automata) _ (l .if1 .taken)) (here ∙ not-true _ (c .if2 .taken)))
-
-add-a : tie.Need-add-a Inv-loop μ-loop
-add-a c = omega arith
-
-loop-less : tie.Need-loop-less Inv-loop μ-loop
-loop-less c = omega arith
 
 loop-again : tie.Need-loop-again Inv-loop μ-loop
 loop-again c = λ n L. let l = c .before .before .before in
@@ -59,10 +47,10 @@ bounds-kept-spec =
     Inv-loop
     μ-loop
     loop-holds
-    place-requires
-    keeps-bounds-requires
+    (λ c κs. search needs)
+    (λ c κs. search needs)
     returns
-    add-a
-    loop-less
+    (λ c. omega arith)
+    (λ c. omega arith)
     loop-again
     returns-2)

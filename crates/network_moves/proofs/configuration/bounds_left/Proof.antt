@@ -37,30 +37,12 @@ Inv-loop rest counts c clocks ticks₀ a₀ ticks a =
 abbrev μ-loop : tie.MeasureT-loop
 μ-loop rest counts c clocks ticks₀ a₀ ticks a = counts .automata - a
 
-cast-limit-left : tie.Need-cast-limit-left Inv-loop μ-loop
-cast-limit-left c = search needs
-
-limit-left-requires : tie.Need-limit-left-requires Inv-loop μ-loop
-limit-left-requires c κs = search needs
-
 loop-holds : tie.Need-loop-holds Inv-loop μ-loop
 unfolding boundsKept
 loop-holds c = λ n L. let a = c .before .before .before .before .args in (
   refl,
   ap (ticksUnder n (a .c) (below (n .automata))) (ap (λ (k : ℕ). limitLeft k (a .c .clocks)) (L .clocks) ∙ sym (c .limit-left .ensures)),
 )
-
-place-requires : tie.Need-place-requires Inv-loop μ-loop
-place-requires c κs = search needs
-
-left-under-requires : tie.Need-left-under-requires Inv-loop μ-loop
-left-under-requires c κs = search needs
-
-enum-known-left : tie.Need-enum-known-left Inv-loop μ-loop
-enum-known-left c = search needs
-
-enum-told : tie.Need-enum-told Inv-loop μ-loop
-enum-told c = search needs
 
 -- what is told of the automaton at hand
 here : (c : tie.After-left-under Inv-loop μ-loop) (n : Network) →
@@ -80,12 +62,6 @@ returns c = λ n L. let under = c .before .before in
     let at-loop = l .before .before in
     let broken = was-broken _ _ (sym (c .enum-told .given .1) ∙ here under n L) in
     sym (where-broken _ (at-loop .loop .inv n L .0 ∙ all-stop _ (below-next (L .automata) _ (l .if1 .taken)) broken))
-
-add-a : tie.Need-add-a Inv-loop μ-loop
-add-a c = omega arith
-
-loop-less : tie.Need-loop-less Inv-loop μ-loop
-loop-less c = omega arith
 
 loop-again : tie.Need-loop-again Inv-loop μ-loop
 loop-again c = λ n L. let under = c .before .before .before in
@@ -110,15 +86,15 @@ bounds-left-spec =
     (tie.spec
     Inv-loop
     μ-loop
-    cast-limit-left
-    limit-left-requires
+    (λ c. search needs)
+    (λ c κs. search needs)
     loop-holds
-    place-requires
-    left-under-requires
-    enum-known-left
-    enum-told
+    (λ c κs. search needs)
+    (λ c κs. search needs)
+    (λ c. search needs)
+    (λ c. search needs)
     returns
-    add-a
-    loop-less
+    (λ c. omega arith)
+    (λ c. omega arith)
     loop-again
     returns-2)

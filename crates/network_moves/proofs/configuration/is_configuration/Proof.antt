@@ -5,14 +5,8 @@ use borrow.Author.Needs.{needs}
 use Rattle.network_moves.proofs.configuration.is_configuration.Statement.{statement}
 use Rattle.network_moves.proofs.configuration.is_configuration.Tie as tie
 
-stands-requires : tie.Need-stands-requires
-stands-requires c κs = search needs
-
-bounds-kept-requires : tie.Need-bounds-kept-requires
-bounds-kept-requires c κs = search needs
-
 returns : tie.Need-returns
 returns c = λ n L. ap₂ _&&_ (c .before .stands .ensures n L) (c .bounds-kept .ensures n L) ∙ configuration-is n _
 
 pub is-configuration-spec : {M : Type 1} → statement M
-is-configuration-spec = tie.close (tie.spec stands-requires bounds-kept-requires returns)
+is-configuration-spec = tie.close (tie.spec (λ c κs. search needs) (λ c κs. search needs) returns)

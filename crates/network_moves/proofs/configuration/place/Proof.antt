@@ -7,9 +7,6 @@ use Rattle.network_moves.proofs.configuration.place.Statement.{statemen
 use Rattle.network_moves.proofs.configuration.place.Tie as tie
 
 -- src/configuration.rt:49:17
-array-read-result : tie.Need-array-read-result
-array-read-result c = search needs
-
 -- src/configuration.rt:44:1
 returns : tie.Need-returns
 unfolding place
@@ -21,4 +18,4 @@ unfolding place
 returns-2 c = let e : length (c .before .before .args .c .locations) ≡ 16 = search needs in sym (List·getD-eq-default (c .before .before .args .c .locations) 0 {n = c .before .before .args .automaton} (omega arith))
 
 pub place-spec : {M : Type 1} → statement M
-place-spec = tie.close (tie.spec array-read-result returns returns-2)
+place-spec = tie.close (tie.spec (λ c. search needs) returns returns-2)

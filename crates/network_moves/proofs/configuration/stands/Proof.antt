@@ -7,33 +7,6 @@ use borrow.Author.Needs.{needs}
 use Rattle.network_moves.proofs.configuration.stands.Statement.{statement}
 use Rattle.network_moves.proofs.configuration.stands.Tie as tie
 
-cast-automata : tie.Need-cast-automata
-cast-automata c = search needs
-
-cast-timed : tie.Need-cast-timed
-cast-timed c = search needs
-
-at-own-locations-requires : tie.Need-at-own-locations-requires
-at-own-locations-requires c κs = search needs
-
-zero-bytes-past-requires : tie.Need-zero-bytes-past-requires
-zero-bytes-past-requires c κs = search needs
-
-zero-bytes-past-requires-2 : tie.Need-zero-bytes-past-requires-2
-zero-bytes-past-requires-2 c κs = search needs
-
-cast-zeros-past : tie.Need-cast-zeros-past
-cast-zeros-past c = search needs
-
-zeros-past-requires : tie.Need-zeros-past-requires
-zeros-past-requires c κs = search needs
-
-in-limit-requires : tie.Need-in-limit-requires
-in-limit-requires c κs = search needs
-
-zero-past-requires : tie.Need-zero-past-requires
-zero-past-requires c κs = search needs
-
 returns : tie.Need-returns
 unfolding stands
 returns c = λ n L. let a = c .before .before .before .before .before .before .before .before .before .before .before .before .before .before .args in
@@ -48,13 +21,13 @@ pub stands-spec : {M : Type 1} → statement M
 stands-spec =
     tie.close
     (tie.spec
-    cast-automata
-    cast-timed
-    at-own-locations-requires
-    zero-bytes-past-requires
-    zero-bytes-past-requires-2
-    cast-zeros-past
-    zeros-past-requires
-    in-limit-requires
-    zero-past-requires
+    (λ c. search needs)
+    (λ c. search needs)
+    (λ c κs. search needs)
+    (λ c κs. search needs)
+    (λ c κs. search needs)
+    (λ c. search needs)
+    (λ c κs. search needs)
+    (λ c κs. search needs)
+    (λ c κs. search needs)
     returns)

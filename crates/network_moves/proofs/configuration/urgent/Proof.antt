@@ -22,21 +22,9 @@ loop-holds : tie.Need-loop-holds Inv-loop μ-loop
 unfolding urgent
 loop-holds c = λ n L. refl
 
-place-requires : tie.Need-place-requires Inv-loop μ-loop
-place-requires c κs = search needs
-
-is-urgent-requires : tie.Need-is-urgent-requires Inv-loop μ-loop
-is-urgent-requires c κs = search needs
-
 returns : tie.Need-returns Inv-loop μ-loop
 returns c = λ n L. let l = c .before .before .before in
     sym (l .before .before .loop .inv n L ∙ any-stop _ (below-next (L .automata) _ (l .if1 .taken)) (ap (urgentAt n) (sym (c .before .before .place .ensures)) ∙ sym (c .before .is-urgent .ensures n L) ∙ c .if2 .taken))
-
-add-a : tie.Need-add-a Inv-loop μ-loop
-add-a c = omega arith
-
-loop-less : tie.Need-loop-less Inv-loop μ-loop
-loop-less c = omega arith
 
 loop-again : tie.Need-loop-again Inv-loop μ-loop
 loop-again c = λ n L. let l = c .before .before .before in
@@ -53,10 +41,10 @@ urgent-spec =
     Inv-loop
     μ-loop
     loop-holds
-    place-requires
-    is-urgent-requires
+    (λ c κs. search needs)
+    (λ c κs. search needs)
     returns
-    add-a
-    loop-less
+    (λ c. omega arith)
+    (λ c. omega arith)
     loop-again
     returns-2)

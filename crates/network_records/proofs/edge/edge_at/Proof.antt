@@ -16,18 +16,6 @@ use Rattle.network_records.proofs.edge.edge_at.Tie as tie
 fits : (k : tie.After-known-told) → (k .before .p .given .0 .0 ≤ k .before .p .given .0 .1 .0) × (k .before .p .given .0 .1 .0 ≤ length (k .before .before .before .before .before .args .rest .now))
 fits k = frame-fits _ (k .before .before .before .read-long-frame .ensures .1) (k .before .p .given .1)
 
-read-long-frame-requires : tie.Need-read-long-frame-requires
-read-long-frame-requires c κs = search needs
-
-enum-known-p : tie.Need-enum-known-p
-enum-known-p c = search needs
-
-enum-told : tie.Need-enum-told
-enum-told c = search needs
-
-frame-fault-requires : tie.Need-frame-fault-requires
-frame-fault-requires c κs = search needs
-
 returns : tie.Need-returns
 returns c = λ g. rw (c .frame-fault .ensures ∙ ap frameFault (c .before .enum-told .given .1))
     (sym (mapped-fault _ (recorded-fault _ _ _ (answered (frameOf _) (c .before .before .before .read-long-frame .ensures .0) (c .before .enum-told .given .1)))))
@@ -40,15 +28,6 @@ part-read-edge-start c = omega (arith, fits c)
 
 part-read-edge-end : tie.Need-part-read-edge-end
 part-read-edge-end c = omega (arith, fits c)
-
-read-edge-requires : tie.Need-read-edge-requires
-read-edge-requires c κs = search needs
-
-enum-known-q : tie.Need-enum-known-q
-enum-known-q c = search needs
-
-enum-told-2 : tie.Need-enum-told-2
-enum-told-2 c = search needs
 
 returns-2 : tie.Need-returns-2
 returns-2 c = λ g. let k = c .before .before .before .before in
@@ -77,17 +56,17 @@ pub edge-at-spec : {M : Type 1} → statement M
 edge-at-spec =
     tie.close
     (tie.spec
-    read-long-frame-requires
-    enum-known-p
-    enum-told
-    frame-fault-requires
+    (λ c κs. search needs)
+    (λ c. search needs)
+    (λ c. search needs)
+    (λ c κs. search needs)
     returns
     sub-read-edge
     part-read-edge-start
     part-read-edge-end
-    read-edge-requires
-    enum-known-q
-    enum-told-2
+    (λ c κs. search needs)
+    (λ c. search needs)
+    (λ c. search needs)
     returns-2
     sub-if1
     returns-3

@@ -8,15 +8,6 @@ use borrow.Author.Needs.{needs}
 use Rattle.network_records.proofs.edge.read_edge_label.Statement.{statement}
 use Rattle.network_records.proofs.edge.read_edge_label.Tie as tie
 
-channels-of-requires : tie.Need-channels-of-requires
-channels-of-requires c κs = search needs
-
-read-label-requires : tie.Need-read-label-requires
-read-label-requires c κs = search needs
-
-label-once-requires : tie.Need-label-once-requires
-label-once-requires c κs = search needs
-
 returns : tie.Need-returns
 returns c = λ g. let a = c .before .before .before .before .args in
     let l = c .before .read-label in
@@ -25,4 +16,4 @@ returns c = λ g. let a = c .before .before .before .before .args in
 
 pub read-edge-label-spec : {M : Type 1} → statement M
 read-edge-label-spec =
-    tie.close (tie.spec channels-of-requires read-label-requires label-once-requires returns)
+    tie.close (tie.spec (λ c κs. search needs) (λ c κs. search needs) (λ c κs. search needs) returns)

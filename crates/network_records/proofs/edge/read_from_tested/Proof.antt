@@ -8,34 +8,10 @@ use borrow.Author.Needs.{needs}
 use Rattle.network_records.proofs.edge.read_from_tested.Statement.{statement}
 use Rattle.network_records.proofs.edge.read_from_tested.Tie as tie
 
-read-tested-requires : tie.Need-read-tested-requires
-read-tested-requires c κs = search needs
-
-enum-known-m : tie.Need-enum-known-m
-enum-known-m c = search needs
-
-enum-told : tie.Need-enum-told
-enum-told c = search needs
-
-short-fault-requires : tie.Need-short-fault-requires
-short-fault-requires c κs = search needs
-
 returns : tie.Need-returns
 unfolding edgeFromTested
 returns c = λ g s d t. rw (c .short-fault .ensures ∙ ap shortFault (c .before .enum-told .given .1))
     (sym (mapped-fault keepsOnce (bind-fault _ _ _ (answered (shortOf _) (c .before .before .before .read-tested .ensures) (c .before .enum-told .given .1)))))
-
-read-needed-requires : tie.Need-read-needed-requires
-read-needed-requires c κs = search needs
-
-enum-known-v : tie.Need-enum-known-v
-enum-known-v c = search needs
-
-enum-told-2 : tie.Need-enum-told-2
-enum-told-2 c = search needs
-
-short-fault-requires-2 : tie.Need-short-fault-requires-2
-short-fault-requires-2 c κs = search needs
 
 returns-2 : tie.Need-returns-2
 unfolding edgeFromTested
@@ -44,18 +20,6 @@ returns-2 c = λ g s d t.
     rw (c .short-fault2 .ensures ∙ ap shortFault (c .before .enum-told2 .given .1))
     (sym (mapped-fault keepsOnce (bind-got _ _ _ (answered (shortOf _) (k1 .before .before .before .read-tested .ensures) (k1 .before .m .given .1))
     ∙ bind-fault _ _ _ (answered (shortOf _) (c .before .before .before .read-needed .ensures) (c .before .enum-told2 .given .1)))))
-
-read-byte-requires : tie.Need-read-byte-requires
-read-byte-requires c κs = search needs
-
-enum-known-w : tie.Need-enum-known-w
-enum-known-w c = search needs
-
-enum-told-3 : tie.Need-enum-told-3
-enum-told-3 c = search needs
-
-byte-fault-requires : tie.Need-byte-fault-requires
-byte-fault-requires c κs = search needs
 
 returns-3 : tie.Need-returns-3
 unfolding edgeFromTested
@@ -66,18 +30,6 @@ returns-3 c = λ g s d t.
     (sym (mapped-fault keepsOnce (bind-got _ _ _ (answered (shortOf _) (k1 .before .before .before .read-tested .ensures) (k1 .before .m .given .1))
     ∙ bind-got _ _ _ (answered (shortOf _) (k2 .before .before .before .read-needed .ensures) (k2 .before .v .given .1))
     ∙ bind-fault _ _ _ (answered (byteOf _) (c .before .before .before .read-byte .ensures .0) (c .before .enum-told3 .given .1)))))
-
-read-values-requires : tie.Need-read-values-requires
-read-values-requires c κs = search needs
-
-enum-known-y : tie.Need-enum-known-y
-enum-known-y c = search needs
-
-enum-told-4 : tie.Need-enum-told-4
-enum-told-4 c = search needs
-
-byte-fault-requires-2 : tie.Need-byte-fault-requires-2
-byte-fault-requires-2 c κs = search needs
 
 returns-4 : tie.Need-returns-4
 unfolding edgeFromTested
@@ -90,9 +42,6 @@ returns-4 c = λ g s d t.
     ∙ bind-got _ _ _ (answered (shortOf _) (k2 .before .before .before .read-needed .ensures) (k2 .before .v .given .1))
     ∙ bind-got _ _ _ (answered (byteOf _) (k3 .before .before .before .read-byte .ensures .0) (k3 .before .w .given .1))
     ∙ bind-fault _ _ _ (answered (byteOf _) (c .before .before .before .read-values .ensures) (c .before .enum-told4 .given .1)))))
-
-read-edge-label-requires : tie.Need-read-edge-label-requires
-read-edge-label-requires c κs = search needs
 
 returns-5 : tie.Need-returns-5
 unfolding edgeFromTested
@@ -111,25 +60,25 @@ pub read-from-tested-spec : {M : Type 1} → statement M
 read-from-tested-spec =
     tie.close
     (tie.spec
-    read-tested-requires
-    enum-known-m
-    enum-told
-    short-fault-requires
+    (λ c κs. search needs)
+    (λ c. search needs)
+    (λ c. search needs)
+    (λ c κs. search needs)
     returns
-    read-needed-requires
-    enum-known-v
-    enum-told-2
-    short-fault-requires-2
+    (λ c κs. search needs)
+    (λ c. search needs)
+    (λ c. search needs)
+    (λ c κs. search needs)
     returns-2
-    read-byte-requires
-    enum-known-w
-    enum-told-3
-    byte-fault-requires
+    (λ c κs. search needs)
+    (λ c. search needs)
+    (λ c. search needs)
+    (λ c κs. search needs)
     returns-3
-    read-values-requires
-    enum-known-y
-    enum-told-4
-    byte-fault-requires-2
+    (λ c κs. search needs)
+    (λ c. search needs)
+    (λ c. search needs)
+    (λ c κs. search needs)
     returns-4
-    read-edge-label-requires
+    (λ c κs. search needs)
     returns-5)

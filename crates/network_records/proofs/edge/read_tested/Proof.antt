@@ -5,20 +5,8 @@ use borrow.Author.Needs.{needs}
 use Rattle.network_records.proofs.edge.read_tested.Statement.{statement}
 use Rattle.network_records.proofs.edge.read_tested.Tie as tie
 
-read-short-requires : tie.Need-read-short-requires
-read-short-requires c κs = search needs
-
-enum-known-h : tie.Need-enum-known-h
-enum-known-h c = search needs
-
-enum-told : tie.Need-enum-told
-enum-told c = search needs
-
 returns : tie.Need-returns
 returns c = ap (shortOf _) (c .enum-told .given .1) ∙ sym (such-fault _ _ _ (answered (shortOf _) (c .before .before .read-short .ensures .0) (c .enum-told .given .1)))
-
-tested-fits-requires : tie.Need-tested-fits-requires
-tested-fits-requires c κs = search needs
 
 returns-2 : tie.Need-returns-2
 returns-2 c = sym (such-got _ _ _ (answered (shortOf _) (c .before .before .before .before .before .read-short .ensures .0) (c .before .before .before .h .given .1)) (sym (c .before .tested-fits .ensures) ∙ c .if1 .taken))
@@ -30,10 +18,10 @@ pub read-tested-spec : {M : Type 1} → statement M
 read-tested-spec =
     tie.close
     (tie.spec
-    read-short-requires
-    enum-known-h
-    enum-told
+    (λ c κs. search needs)
+    (λ c. search needs)
+    (λ c. search needs)
     returns
-    tested-fits-requires
+    (λ c κs. search needs)
     returns-2
     returns-3)

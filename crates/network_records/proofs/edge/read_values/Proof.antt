@@ -7,23 +7,8 @@ use borrow.Author.Needs.{needs}
 use Rattle.network_records.proofs.edge.read_values.Statement.{statement}
 use Rattle.network_records.proofs.edge.read_values.Tie as tie
 
-read-byte-requires : tie.Need-read-byte-requires
-read-byte-requires c κs = search needs
-
-enum-known-b : tie.Need-enum-known-b
-enum-known-b c = search needs
-
-enum-told : tie.Need-enum-told
-enum-told c = search needs
-
 returns : tie.Need-returns
 returns c = ap (byteOf _) (c .enum-told .given .1) ∙ sym (such-fault _ _ _ (answered (byteOf _) (c .before .before .read-byte .ensures .0) (c .enum-told .given .1)))
-
-cast-subset : tie.Need-cast-subset
-cast-subset c = search needs
-
-subset-requires : tie.Need-subset-requires
-subset-requires c κs = search needs
 
 returns-2 : tie.Need-returns-2
 returns-2 c = let g = c .before .before .before in
@@ -37,11 +22,11 @@ pub read-values-spec : {M : Type 1} → statement M
 read-values-spec =
     tie.close
     (tie.spec
-    read-byte-requires
-    enum-known-b
-    enum-told
+    (λ c κs. search needs)
+    (λ c. search needs)
+    (λ c. search needs)
     returns
-    cast-subset
-    subset-requires
+    (λ c. search needs)
+    (λ c κs. search needs)
     returns-2
     returns-3)

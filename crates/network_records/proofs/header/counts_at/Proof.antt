@@ -4,36 +4,6 @@ use borrow.Author.Needs.{needs}
 use Rattle.network_records.proofs.header.counts_at.Statement.{statement}
 use Rattle.network_records.proofs.header.counts_at.Tie as tie
 
-byte-at-requires : tie.Need-byte-at-requires
-byte-at-requires c κs = search needs
-
-byte-at-requires-2 : tie.Need-byte-at-requires-2
-byte-at-requires-2 c κs = search needs
-
-byte-at-requires-3 : tie.Need-byte-at-requires-3
-byte-at-requires-3 c κs = search needs
-
-byte-at-requires-4 : tie.Need-byte-at-requires-4
-byte-at-requires-4 c κs = search needs
-
-short-of-requires : tie.Need-short-of-requires
-short-of-requires c κs = search needs
-
-byte-at-requires-5 : tie.Need-byte-at-requires-5
-byte-at-requires-5 c κs = search needs
-
-byte-at-requires-6 : tie.Need-byte-at-requires-6
-byte-at-requires-6 c κs = search needs
-
-byte-at-requires-7 : tie.Need-byte-at-requires-7
-byte-at-requires-7 c κs = search needs
-
-byte-at-requires-8 : tie.Need-byte-at-requires-8
-byte-at-requires-8 c κs = search needs
-
-byte-at-requires-9 : tie.Need-byte-at-requires-9
-byte-at-requires-9 c κs = search needs
-
 returns : tie.Need-returns
 returns c = λ j. record {
   version = c .before .before .before .before .before .before .before .before .before .byte-at .ensures j;
@@ -50,14 +20,14 @@ pub counts-at-spec : {M : Type 1} → statement M
 counts-at-spec =
     tie.close
     (tie.spec
-    byte-at-requires
-    byte-at-requires-2
-    byte-at-requires-3
-    byte-at-requires-4
-    byte-at-requires-5
-    short-of-requires
-    byte-at-requires-6
-    byte-at-requires-7
-    byte-at-requires-8
-    byte-at-requires-9
+    (λ c κs. search needs)
+    (λ c κs. search needs)
+    (λ c κs. search needs)
+    (λ c κs. search needs)
+    (λ c κs. search needs)
+    (λ c κs. search needs)
+    (λ c κs. search needs)
+    (λ c κs. search needs)
+    (λ c κs. search needs)
+    (λ c κs. search needs)
     returns)

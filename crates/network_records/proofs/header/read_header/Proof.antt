@@ -6,17 +6,8 @@ use borrow.Author.Needs.{needs}
 use Rattle.network_records.proofs.header.read_header.Statement.{statement}
 use Rattle.network_records.proofs.header.read_header.Tie as tie
 
-headed-requires : tie.Need-headed-requires
-headed-requires c κs = search needs
-
 returns : tie.Need-returns
 returns c = (not-headed _ (sym (c .before .headed .ensures) ∙ not-true _ (c .if1 .taken)), tt)
-
-counts-at-requires : tie.Need-counts-at-requires
-counts-at-requires c κs = search needs
-
-in-range-requires : tie.Need-in-range-requires
-in-range-requires c κs = search needs
 
 returns-2 : tie.Need-returns-2
 returns-2 c = let s = c .before .before .before in
@@ -32,4 +23,4 @@ returns-3 c = let s = c .before .before .before in
 pub read-header-spec : {M : Type 1} → statement M
 read-header-spec =
     tie.close
-    (tie.spec headed-requires returns counts-at-requires in-range-requires returns-2 returns-3)
+    (tie.spec (λ c κs. search needs) returns (λ c κs. search needs) (λ c κs. search needs) returns-2 returns-3)

@@ -8,13 +8,7 @@ use Rattle.network_records.proofs.location.automaton_of.Statement.{stat
 use Rattle.network_records.proofs.location.automaton_of.Tie as tie
 
 -- src/location.rt:95:36
-location-place-requires : tie.Need-location-place-requires
-location-place-requires c κs = search needs
-
 -- src/location.rt:95:9
-byte-at-requires : tie.Need-byte-at-requires
-byte-at-requires c κs = search needs
-
 -- src/location.rt:91:1
 returns : tie.Need-returns
 returns c = λ n L. c .byte-at .ensures ∙ ap (λ (p : ℕ). getD (c .before .before .before .before .before .args .rest .now) p 0) (c .before .location-place .ensures) ∙ automaton-byte L (c .before .before .if1 .taken)
@@ -24,4 +18,4 @@ returns-2 : tie.Need-returns-2
 returns-2 c = λ n L. ap (λ (l : Location). l .automaton) (sym (no-location L (c .if1 .left)))
 
 pub automaton-of-spec : {M : Type 1} → statement M
-automaton-of-spec = tie.close (tie.spec location-place-requires byte-at-requires returns returns-2)
+automaton-of-spec = tie.close (tie.spec (λ c κs. search needs) (λ c κs. search needs) returns returns-2)

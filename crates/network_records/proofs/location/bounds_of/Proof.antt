@@ -9,15 +9,6 @@ use borrow.Author.Needs.{needs}
 use Rattle.network_records.proofs.location.bounds_of.Statement.{statement}
 use Rattle.network_records.proofs.location.bounds_of.Tie as tie
 
-location-place-requires : tie.Need-location-place-requires
-location-place-requires c κs = search needs
-
-cast-read-row : tie.Need-cast-read-row
-cast-read-row c = search needs
-
-read-row-requires : tie.Need-read-row-requires
-read-row-requires c κs = search needs
-
 returns : tie.Need-returns
 returns c = λ n L l. let q = c .before .read-row in
     let a = c .before .before .before .before .before .args in
@@ -25,4 +16,4 @@ returns c = λ n L l. let q = c .before .read-row in
 
 pub bounds-of-spec : {M : Type 1} → statement M
 bounds-of-spec =
-    tie.close (tie.spec location-place-requires cast-read-row read-row-requires returns)
+    tie.close (tie.spec (λ c κs. search needs) (λ c. search needs) (λ c κs. search needs) returns)

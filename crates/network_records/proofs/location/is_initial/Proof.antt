@@ -9,13 +9,7 @@ use Rattle.network_records.proofs.location.is_initial.Statement.{statem
 use Rattle.network_records.proofs.location.is_initial.Tie as tie
 
 -- src/location.rt:115:36
-location-place-requires : tie.Need-location-place-requires
-location-place-requires c κs = search needs
-
 -- src/location.rt:115:9
-byte-at-requires : tie.Need-byte-at-requires
-byte-at-requires c κs = search needs
-
 -- src/location.rt:111:1
 returns : tie.Need-returns
 returns c = λ n L. ap (λ (x : ℕ). eqb x 1) (c .byte-at .ensures ∙ ap (λ (p : ℕ). getD (c .before .before .before .before .before .args .rest .now) p 0) (c .before .location-place .ensures) ∙ initial-byte L (c .before .before .if1 .taken))
@@ -25,4 +19,4 @@ returns-2 : tie.Need-returns-2
 returns-2 c = λ n L. ap (λ (l : Location). eqb (l .initial) 1) (sym (no-location L (c .if1 .left)))
 
 pub is-initial-spec : {M : Type 1} → statement M
-is-initial-spec = tie.close (tie.spec location-place-requires byte-at-requires returns returns-2)
+is-initial-spec = tie.close (tie.spec (λ c κs. search needs) (λ c κs. search needs) returns returns-2)

@@ -9,13 +9,7 @@ use Rattle.network_records.proofs.location.is_urgent.Statement.{stateme
 use Rattle.network_records.proofs.location.is_urgent.Tie as tie
 
 -- src/location.rt:105:36
-location-place-requires : tie.Need-location-place-requires
-location-place-requires c κs = search needs
-
 -- src/location.rt:105:9
-byte-at-requires : tie.Need-byte-at-requires
-byte-at-requires c κs = search needs
-
 -- src/location.rt:101:1
 returns : tie.Need-returns
 unfolding urgentAt
@@ -27,4 +21,4 @@ unfolding urgentAt
 returns-2 c = λ n L. ap (λ (l : Location). eqb (l .urgent) 1) (sym (no-location L (c .if1 .left)))
 
 pub is-urgent-spec : {M : Type 1} → statement M
-is-urgent-spec = tie.close (tie.spec location-place-requires byte-at-requires returns returns-2)
+is-urgent-spec = tie.close (tie.spec (λ c κs. search needs) (λ c κs. search needs) returns returns-2)

@@ -8,12 +8,6 @@ use borrow.Author.Needs.{needs}
 use Rattle.network_records.proofs.location.keeps_bounds.Statement.{statement}
 use Rattle.network_records.proofs.location.keeps_bounds.Tie as tie
 
-bounds-of-requires : tie.Need-bounds-of-requires
-bounds-of-requires c κs = search needs
-
-keeps-requires : tie.Need-keeps-requires
-keeps-requires c κs = search needs
-
 returns : tie.Need-returns
 returns c = λ n L. c .keeps .ensures ∙ ap (λ (b : List ℕ). keeps b (c .before .before .before .before .before .args .clocks)) (c .before .bounds-of .ensures n L (c .before .before .if1 .taken))
 
@@ -22,4 +16,4 @@ unfolding keeps
 returns-2 c = λ n L. ap (λ (l : Location). keeps (l .bounds) (c .before .before .before .args .clocks)) (sym (no-location L (c .if1 .left)))
 
 pub keeps-bounds-spec : {M : Type 1} → statement M
-keeps-bounds-spec = tie.close (tie.spec bounds-of-requires keeps-requires returns returns-2)
+keeps-bounds-spec = tie.close (tie.spec (λ c κs. search needs) (λ c κs. search needs) returns returns-2)

@@ -10,15 +10,6 @@ use borrow.Author.Needs.{needs}
 use Rattle.network_records.proofs.location.left_under.Statement.{statement}
 use Rattle.network_records.proofs.location.left_under.Tie as tie
 
-bounds-of-requires : tie.Need-bounds-of-requires
-bounds-of-requires c κs = search needs
-
-cast-under-row : tie.Need-cast-under-row
-cast-under-row c = search needs
-
-under-row-requires : tie.Need-under-row-requires
-under-row-requires c κs = search needs
-
 returns : tie.Need-returns
 returns c = λ n L. let a = c .before .before .before .before .before .before .args in
     let at-bounds = c .before .before in
@@ -34,4 +25,4 @@ returns-2 c = λ n L. let a = c .before .before .before .args in
 
 pub left-under-spec : {M : Type 1} → statement M
 left-under-spec =
-    tie.close (tie.spec bounds-of-requires cast-under-row under-row-requires returns returns-2)
+    tie.close (tie.spec (λ c κs. search needs) (λ c. search needs) (λ c κs. search needs) returns returns-2)

@@ -14,18 +14,6 @@ fits : (c : tie.After-known-told) →
     (p .0 ≤ p .1 .0) × (p .1 .0 ≤ length (c .before .before .before .before .before .args .s .now))
 fits c = frame-fits _ (c .before .before .before .read-frame .ensures .1) (c .before .p .given .1)
 
-read-frame-requires : tie.Need-read-frame-requires
-read-frame-requires c κs = search needs
-
-enum-known-p : tie.Need-enum-known-p
-enum-known-p c = search needs
-
-enum-told : tie.Need-enum-told
-enum-told c = search needs
-
-frame-fault-requires : tie.Need-frame-fault-requires
-frame-fault-requires c κs = search needs
-
 returns : tie.Need-returns
 unfolding skipped
 returns c =
@@ -41,14 +29,8 @@ part-read-location-start c = omega (arith, fits c)
 part-read-location-end : tie.Need-part-read-location-end
 part-read-location-end c = omega (arith, fits c)
 
-read-location-requires : tie.Need-read-location-requires
-read-location-requires c κs = search needs
-
 sub-whole : tie.Need-sub-whole
 sub-whole c = fits (c .before .before) .0
-
-whole-requires : tie.Need-whole-requires
-whole-requires c κs = search needs
 
 returns-2 : tie.Need-returns-2
 unfolding skipped
@@ -62,15 +44,15 @@ pub location-at-spec : {M : Type 1} → statement M
 location-at-spec =
     tie.close
     (tie.spec
-    read-frame-requires
-    enum-known-p
-    enum-told
-    frame-fault-requires
+    (λ c κs. search needs)
+    (λ c. search needs)
+    (λ c. search needs)
+    (λ c κs. search needs)
     returns
     sub-read-location
     part-read-location-start
     part-read-location-end
-    read-location-requires
+    (λ c κs. search needs)
     sub-whole
-    whole-requires
+    (λ c κs. search needs)
     returns-2)

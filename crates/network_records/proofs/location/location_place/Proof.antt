@@ -6,13 +6,7 @@ use Rattle.network_records.proofs.location.location_place.Statement.{st
 use Rattle.network_records.proofs.location.location_place.Tie as tie
 
 -- src/location.rt:87:29
-mul-result : tie.Need-mul-result
-mul-result c = search needs
-
 -- src/location.rt:87:25
-add-result : tie.Need-add-result
-add-result c = search needs
-
 -- src/location.rt:87:9
 mul-result-2 : tie.Need-mul-result-2
 mul-result-2 c = let l = mul-le-mul {n₁ = c .args .i} {m₁ = 4 + 4 * c .args .clocks} {n₂ = 255} {m₂ = 1024} (omega arith) (omega arith) in omega arith
@@ -26,9 +20,6 @@ add-result-3 : tie.Need-add-result-3
 add-result-3 c = let l = mul-le-mul {n₁ = c .args .i} {m₁ = 4 + 4 * c .args .clocks} {n₂ = 255} {m₂ = 1024} (omega arith) (omega arith) in omega arith
 
 -- src/location.rt:84:1
-returns : tie.Need-returns
-returns c = search needs
-
 pub location-place-spec : {M : Type 1} → statement M
 location-place-spec =
-    tie.close (tie.spec mul-result add-result mul-result-2 add-result-2 add-result-3 returns)
+    tie.close (tie.spec (λ c. search needs) (λ c. search needs) mul-result-2 add-result-2 add-result-3 (λ c. search needs))

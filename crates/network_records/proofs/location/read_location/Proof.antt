@@ -9,52 +9,16 @@ use borrow.Author.Needs.{needs}
 use Rattle.network_records.proofs.location.read_location.Statement.{statement}
 use Rattle.network_records.proofs.location.read_location.Tie as tie
 
-read-byte-below-requires : tie.Need-read-byte-below-requires
-read-byte-below-requires c κs = search needs
-
-enum-known-a : tie.Need-enum-known-a
-enum-known-a c = search needs
-
-enum-told : tie.Need-enum-told
-enum-told c = search needs
-
-byte-fault-requires : tie.Need-byte-fault-requires
-byte-fault-requires c κs = search needs
-
 returns : tie.Need-returns
 unfolding location skipped
 returns c = rw (c .byte-fault .ensures ∙ ap byteFault (c .before .enum-told .given .1))
     (sym (mapped-fault _ (bind-fault _ _ _ (answered (byteOf _) (c .before .before .before .read-byte-below .ensures) (c .before .enum-told .given .1)))))
-
-read-byte-below-requires-2 : tie.Need-read-byte-below-requires-2
-read-byte-below-requires-2 c κs = search needs
-
-enum-known-u : tie.Need-enum-known-u
-enum-known-u c = search needs
-
-enum-told-2 : tie.Need-enum-told-2
-enum-told-2 c = search needs
-
-byte-fault-requires-2 : tie.Need-byte-fault-requires-2
-byte-fault-requires-2 c κs = search needs
 
 returns-2 : tie.Need-returns-2
 unfolding location skipped
 returns-2 c = rw (c .byte-fault2 .ensures ∙ ap byteFault (c .before .enum-told2 .given .1))
     (sym (mapped-fault _ (bind-got _ _ _ (answered (byteOf _) (c .before .before .before .before .before .before .before .read-byte-below .ensures) (c .before .before .before .before .before .a .given .1))
     ∙ bind-fault _ _ _ (answered (byteOf _) (c .before .before .before .read-byte-below2 .ensures) (c .before .enum-told2 .given .1)))))
-
-read-byte-below-requires-3 : tie.Need-read-byte-below-requires-3
-read-byte-below-requires-3 c κs = search needs
-
-enum-known-i : tie.Need-enum-known-i
-enum-known-i c = search needs
-
-enum-told-3 : tie.Need-enum-told-3
-enum-told-3 c = search needs
-
-byte-fault-requires-3 : tie.Need-byte-fault-requires-3
-byte-fault-requires-3 c κs = search needs
 
 returns-3 : tie.Need-returns-3
 unfolding location skipped
@@ -64,9 +28,6 @@ returns-3 c = let k2 = c .before .before .before .before in
     (sym (mapped-fault _ (bind-got _ _ _ (answered (byteOf _) (k1 .before .before .before .read-byte-below .ensures) (k1 .before .a .given .1))
     ∙ bind-got _ _ _ (answered (byteOf _) (k2 .before .before .before .read-byte-below2 .ensures) (k2 .before .u .given .1))
     ∙ bind-fault _ _ _ (answered (byteOf _) (c .before .before .before .read-byte-below3 .ensures) (c .before .enum-told3 .given .1)))))
-
-read-bounds-requires : tie.Need-read-bounds-requires
-read-bounds-requires c κs = search needs
 
 returns-4 : tie.Need-returns-4
 unfolding location skipped
@@ -82,20 +43,20 @@ pub read-location-spec : {M : Type 1} → statement M
 read-location-spec =
     tie.close
     (tie.spec
-    read-byte-below-requires
-    enum-known-a
-    enum-told
-    byte-fault-requires
+    (λ c κs. search needs)
+    (λ c. search needs)
+    (λ c. search needs)
+    (λ c κs. search needs)
     returns
-    read-byte-below-requires-2
-    enum-known-u
-    enum-told-2
-    byte-fault-requires-2
+    (λ c κs. search needs)
+    (λ c. search needs)
+    (λ c. search needs)
+    (λ c κs. search needs)
     returns-2
-    read-byte-below-requires-3
-    enum-known-i
-    enum-told-3
-    byte-fault-requires-3
+    (λ c κs. search needs)
+    (λ c. search needs)
+    (λ c. search needs)
+    (λ c κs. search needs)
     returns-3
-    read-bounds-requires
+    (λ c κs. search needs)
     returns-4)

@@ -19,25 +19,10 @@ abbrev μ-loop : tie.MeasureT-loop
 loop-holds : tie.Need-loop-holds Inv-loop μ-loop
 loop-holds c = skipping-none _ _ _
 
-location-at-requires : tie.Need-location-at-requires Inv-loop μ-loop
-location-at-requires c κs = search needs
-
-enum-known-q : tie.Need-enum-known-q Inv-loop μ-loop
-enum-known-q c = search needs
-
-enum-told : tie.Need-enum-told Inv-loop μ-loop
-enum-told c = search needs
-
 returns : tie.Need-returns Inv-loop μ-loop
 returns c = let l = c .before .before in
     ap (reached _ tt) (c .enum-told .given .1)
     ∙ sym (skipping-stop _ _ _ (l .before .before .before .loop .inv) (l .before .if1 .taken) (answered (reached _ tt) (l .location-at .ensures) (c .enum-told .given .1)))
-
-add-i : tie.Need-add-i Inv-loop μ-loop
-add-i c = omega arith
-
-loop-less : tie.Need-loop-less Inv-loop μ-loop
-loop-less c = omega arith
 
 loop-again : tie.Need-loop-again Inv-loop μ-loop
 loop-again c = let l = c .before .before .before in
@@ -53,11 +38,11 @@ read-locations-spec =
     Inv-loop
     μ-loop
     loop-holds
-    location-at-requires
-    enum-known-q
-    enum-told
+    (λ c κs. search needs)
+    (λ c. search needs)
+    (λ c. search needs)
     returns
-    add-i
-    loop-less
+    (λ c. omega arith)
+    (λ c. omega arith)
     loop-again
     returns-2)

@@ -12,18 +12,6 @@ use borrow.Author.Needs.{needs}
 use Rattle.paired_run.proofs.carry.carried.Statement.{statement}
 use Rattle.paired_run.proofs.carry.carried.Tie as tie
 
-transitions-of-requires : tie.Need-transitions-of-requires
-transitions-of-requires c κs = search needs
-
-tabled-requires : tie.Need-tabled-requires
-tabled-requires c κs = search needs
-
-first-sixteen-requires : tie.Need-first-sixteen-requires
-first-sixteen-requires c κs = search needs
-
-least-requires : tie.Need-least-requires
-least-requires c κs = search needs
-
 returns : tie.Need-returns
 returns c =
     let table = c .before .before .before in
@@ -39,8 +27,8 @@ pub carried-spec : {M : Type 1} → statement M
 carried-spec =
     tie.close
     (tie.spec
-    transitions-of-requires
-    tabled-requires
-    first-sixteen-requires
-    least-requires
+    (λ c κs. search needs)
+    (λ c κs. search needs)
+    (λ c κs. search needs)
+    (λ c κs. search needs)
     returns)

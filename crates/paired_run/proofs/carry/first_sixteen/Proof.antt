@@ -16,24 +16,6 @@ abbrev μ-loop : tie.MeasureT-loop
 loop-holds : tie.Need-loop-holds Inv-loop μ-loop
 loop-holds c = λ e. filled-none 16 _ _ (length-take-le 16 (c .args .items .now) (omega arith)) refl
 
-mul-list : tie.Need-mul-list Inv-loop μ-loop
-mul-list c = omega arith
-
-element-copy-out-list : tie.Need-element-copy-out-list Inv-loop μ-loop
-element-copy-out-list c = omega arith
-
-mul-list-2 : tie.Need-mul-list-2 Inv-loop μ-loop
-mul-list-2 c = omega arith
-
-array-write-list : tie.Need-array-write-list Inv-loop μ-loop
-array-write-list c = omega arith
-
-add-i : tie.Need-add-i Inv-loop μ-loop
-add-i c = omega arith
-
-loop-less : tie.Need-loop-less Inv-loop μ-loop
-loop-less c = omega arith
-
 loop-again : tie.Need-loop-again Inv-loop μ-loop
 loop-again c = λ e. filled-more 16 _ _ _ (c .before .before .loop .inv e) 0 _ (c .before .loop-test .taken) (sym (getD-take 16 (c .before .before .before .args .items .now) (c .before .before .loop .i) 0 (c .before .loop-test .taken)))
 
@@ -47,11 +29,11 @@ first-sixteen-spec =
     Inv-loop
     μ-loop
     loop-holds
-    mul-list
-    element-copy-out-list
-    mul-list-2
-    array-write-list
-    add-i
-    loop-less
+    (λ c. omega arith)
+    (λ c. omega arith)
+    (λ c. omega arith)
+    (λ c. omega arith)
+    (λ c. omega arith)
+    (λ c. omega arith)
     loop-again
     returns)

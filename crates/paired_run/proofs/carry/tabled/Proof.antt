@@ -18,18 +18,6 @@ abbrev μ-loop : tie.MeasureT-loop
 loop-holds : tie.Need-loop-holds Inv-loop μ-loop
 loop-holds c = (omega arith, λ e h. kept-first (c .args .transitions .now) (c .args .items .now) e h)
 
-sub-i : tie.Need-sub-i Inv-loop μ-loop
-sub-i c = omega arith
-
-element-copy-out-with-transition : tie.Need-element-copy-out-with-transition Inv-loop μ-loop
-element-copy-out-with-transition c = omega arith
-
-with-transition-requires : tie.Need-with-transition-requires Inv-loop μ-loop
-with-transition-requires c κs = search needs
-
-loop-less : tie.Need-loop-less Inv-loop μ-loop
-loop-less c = omega arith
-
 loop-again : tie.Need-loop-again Inv-loop μ-loop
 loop-again c = let q = c .before .before .before .before in
     (omega arith, λ e h. kept-before (q .before .args .transitions .now) (q .loop .i) (omega arith) (omega arith) (c .with-transition .ensures _ (q .loop .inv .1 e h)))
@@ -45,9 +33,9 @@ tabled-spec =
     Inv-loop
     μ-loop
     loop-holds
-    sub-i
-    element-copy-out-with-transition
-    with-transition-requires
-    loop-less
+    (λ c. omega arith)
+    (λ c. omega arith)
+    (λ c κs. search needs)
+    (λ c. omega arith)
     loop-again
     returns)

@@ -18,15 +18,6 @@ use Rattle.paired_run.proofs.owe.named.Tie as tie
 long : (c : tie.After-enum-told) → 11 ≤ length (c .before .before .before .before .before .args .file .now)
 long c = chart-long _ (verdict-done-at (chartOf _) (sym (c .before .before .checked .ensures .0) ∙ c .enum-told .given .1) .1)
 
-checked-requires : tie.Need-checked-requires
-checked-requires c κs = search needs
-
-enum-told : tie.Need-enum-told
-enum-told c = search needs
-
-enum-told-2 : tie.Need-enum-told-2
-enum-told-2 c = search needs
-
 returns : tie.Need-returns
 returns c = λ d h right. refused-not (sym (was-refused (chartOf _) (c .before .before .checked .ensures .0) (c .enum-told2 .given .1)) ∙ h)
 
@@ -35,15 +26,6 @@ sub-named-in c = omega (arith, long (c .before))
 
 part-named-in-start : tie.Need-part-named-in-start
 part-named-in-start c = omega (arith, long (c .before))
-
-part-named-in-end : tie.Need-part-named-in-end
-part-named-in-end c = search needs
-
-slice-aggregate-named-in : tie.Need-slice-aggregate-named-in
-slice-aggregate-named-in c = search needs
-
-named-in-requires : tie.Need-named-in-requires
-named-in-requires c κs = search needs
 
 returns-2 : tie.Need-returns-2
 returns-2 c =
@@ -60,13 +42,13 @@ pub named-spec : {M : Type 1} → statement M
 named-spec =
     tie.close
     (tie.spec
-    checked-requires
-    enum-told
-    enum-told-2
+    (λ c κs. search needs)
+    (λ c. search needs)
+    (λ c. search needs)
     returns
     sub-named-in
     part-named-in-start
-    part-named-in-end
-    slice-aggregate-named-in
-    named-in-requires
+    (λ c. search needs)
+    (λ c. search needs)
+    (λ c κs. search needs)
     returns-2)

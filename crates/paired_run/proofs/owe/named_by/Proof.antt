@@ -7,24 +7,6 @@ use Rattle.paired_run.proofs.owe.named_by.Tie as tie
 returns : tie.Need-returns
 returns c = (omega arith, λ d k L h. absurd (omega (arith, few-transitions k (L .stated .in-range), c .if1 .taken)))
 
-cast-exit-of : tie.Need-cast-exit-of
-cast-exit-of c = search needs
-
-exit-of-requires : tie.Need-exit-of-requires
-exit-of-requires c κs = search needs
-
-one-requires : tie.Need-one-requires
-one-requires c κs = search needs
-
-cast-entry-of : tie.Need-cast-entry-of
-cast-entry-of c = search needs
-
-entry-of-requires : tie.Need-entry-of-requires
-entry-of-requires c κs = search needs
-
-one-requires-2 : tie.Need-one-requires-2
-one-requires-2 c κs = search needs
-
 add-result : tie.Need-add-result
 add-result c = omega (arith, c .before .before .one .ensures .1, c .one2 .ensures .1)
 
@@ -39,11 +21,11 @@ named-by-spec =
     tie.close
     (tie.spec
     returns
-    cast-exit-of
-    exit-of-requires
-    one-requires
-    cast-entry-of
-    entry-of-requires
-    one-requires-2
+    (λ c. search needs)
+    (λ c κs. search needs)
+    (λ c κs. search needs)
+    (λ c. search needs)
+    (λ c κs. search needs)
+    (λ c κs. search needs)
     add-result
     returns-2)

@@ -10,38 +10,14 @@ use Rattle.paired_run.proofs.run.after_move.Tie as tie
 long : (c : tie.After-list2) → length (c .before .before .before .before .before .args .carried .list) ≡ 16
 long c = search needs
 
-one-less-requires : tie.Need-one-less-requires
-one-less-requires c κs = search needs
-
 returns : tie.Need-returns
 returns c = λ d x h S safe. follows-none d x _ S _ (c .before .if1 .taken) (c .one-less .ensures)
-
-sub-step : tie.Need-sub-step
-sub-step c = search needs
-
-part-step-start : tie.Need-part-step-start
-part-step-start c = search needs
 
 part-step-end : tie.Need-part-step-end
 part-step-end c = omega (arith, long c)
 
-step-requires : tie.Need-step-requires
-step-requires c κs = search needs
-
-sub-named : tie.Need-sub-named
-sub-named c = search needs
-
-part-named-start : tie.Need-part-named-start
-part-named-start c = search needs
-
 part-named-end : tie.Need-part-named-end
 part-named-end c = omega (arith, long (c .before .before .before .before))
-
-named-requires : tie.Need-named-requires
-named-requires c κs = search needs
-
-wrapping-add-u64-requires : tie.Need-wrapping-add-u64-requires
-wrapping-add-u64-requires c κs = search needs
 
 returns-2 : tie.Need-returns-2
 returns-2 c =
@@ -57,15 +33,15 @@ pub after-move-spec : {M : Type 1} → statement M
 after-move-spec =
     tie.close
     (tie.spec
-    one-less-requires
+    (λ c κs. search needs)
     returns
-    sub-step
-    part-step-start
+    (λ c. search needs)
+    (λ c. search needs)
     part-step-end
-    step-requires
-    sub-named
-    part-named-start
+    (λ c κs. search needs)
+    (λ c. search needs)
+    (λ c. search needs)
     part-named-end
-    named-requires
-    wrapping-add-u64-requires
+    (λ c κs. search needs)
+    (λ c κs. search needs)
     returns-2)

@@ -3,26 +3,8 @@ use borrow.Author.Needs.{needs}
 use Rattle.paired_run.proofs.run.after_step.Statement.{statement}
 use Rattle.paired_run.proofs.run.after_step.Tie as tie
 
-step-requires : tie.Need-step-requires
-step-requires c κs = search needs
-
-enum-told : tie.Need-enum-told
-enum-told c = search needs
-
-enum-told-2 : tie.Need-enum-told-2
-enum-told-2 c = search needs
-
-refused-requires : tie.Need-refused-requires
-refused-requires c κs = search needs
-
 returns : tie.Need-returns
 returns c = λ d n calls F S. step-refused F calls S _ (c .before .before .before .before .step .ensures) (c .before .enum-told2 .given .1) (c .refused .ensures _ S)
-
-carried-requires : tie.Need-carried-requires
-carried-requires c κs = search needs
-
-after-move-requires : tie.Need-after-move-requires
-after-move-requires c κs = search needs
 
 returns-2 : tie.Need-returns-2
 returns-2 c = λ d n calls F S.
@@ -35,11 +17,11 @@ pub after-step-spec : {M : Type 1} → statement M
 after-step-spec =
     tie.close
     (tie.spec
-    step-requires
-    enum-told
-    enum-told-2
-    refused-requires
+    (λ c κs. search needs)
+    (λ c. search needs)
+    (λ c. search needs)
+    (λ c κs. search needs)
     returns
-    carried-requires
-    after-move-requires
+    (λ c κs. search needs)
+    (λ c κs. search needs)
     returns-2)

@@ -4,11 +4,8 @@ use borrow.Author.Needs.{needs}
 use Rattle.paired_run.proofs.run.refused.Statement.{statement}
 use Rattle.paired_run.proofs.run.refused.Tie as tie
 
-no-transitions-requires : tie.Need-no-transitions-requires
-no-transitions-requires c κs = search needs
-
 returns : tie.Need-returns
 returns c = λ x S. record { stands = S; reads = sym (append-nil (x .reading)); accepted = refl; verdict = refl }
 
 pub refused-spec : {M : Type 1} → statement M
-refused-spec = tie.close (tie.spec no-transitions-requires returns)
+refused-spec = tie.close (tie.spec (λ c κs. search needs) returns)

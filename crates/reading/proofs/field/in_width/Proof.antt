@@ -7,9 +7,6 @@ use borrow.Author.Needs.{needs}
 use Rattle.reading.proofs.field.in_width.Statement.{statement}
 use Rattle.reading.proofs.field.in_width.Tie as tie
 
-shr-result : tie.Need-shr-result
-shr-result c = search needs
-
 returns : tie.Need-returns
 returns c = bits-fit (c .before .args .x) (c .before .args .width)
 
@@ -17,4 +14,4 @@ returns-2 : tie.Need-returns-2
 returns-2 c = sym (lt-ltb _ _ (lt-of-lt-of-le (c .before .fits .x .fits) (pow-mono (c .if1 .left))))
 
 pub in-width-spec : {M : Type 1} → statement M
-in-width-spec = tie.close (tie.spec shr-result returns returns-2)
+in-width-spec = tie.close (tie.spec (λ c. search needs) returns returns-2)

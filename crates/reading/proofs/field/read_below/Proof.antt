@@ -7,15 +7,6 @@ use borrow.Author.Needs.{needs}
 use Rattle.reading.proofs.field.read_below.Statement.{statement}
 use Rattle.reading.proofs.field.read_below.Tie as tie
 
-read-byte-requires : tie.Need-read-byte-requires
-read-byte-requires c κs = search needs
-
-enum-known-b : tie.Need-enum-known-b
-enum-known-b c = search needs
-
-enum-told : tie.Need-enum-told
-enum-told c = search needs
-
 returns : tie.Need-returns
 returns c =
     let fails = answered (byteOf _) (c .before .before .read-byte .ensures .0) (c .enum-told .given .1) in
@@ -34,4 +25,4 @@ returns-3 c = (sym (such-not _ _ _ (answered (byteOf _) (c .before .before .befo
 
 pub read-below-spec : {M : Type 1} → statement M
 read-below-spec =
-    tie.close (tie.spec read-byte-requires enum-known-b enum-told returns returns-2 returns-3)
+    tie.close (tie.spec (λ c κs. search needs) (λ c. search needs) (λ c. search needs) returns returns-2 returns-3)

@@ -5,12 +5,6 @@ use borrow.Author.Needs.{needs}
 use Rattle.reading.proofs.field.read_byte.Statement.{statement}
 use Rattle.reading.proofs.field.read_byte.Tie as tie
 
-shared-slice-read-t7 : tie.Need-shared-slice-read-t7
-shared-slice-read-t7 c = search needs
-
-add-t8 : tie.Need-add-t8
-add-t8 c = search needs
-
 returns : tie.Need-returns
 returns c = (sym (byte-some _ _ (c .before .if1 .taken)), omega arith)
 
@@ -18,4 +12,4 @@ returns-2 : tie.Need-returns-2
 returns-2 c = (sym (byte-none _ _ (c .if1 .left)), omega arith)
 
 pub read-byte-spec : {M : Type 1} → statement M
-read-byte-spec = tie.close (tie.spec shared-slice-read-t7 add-t8 returns returns-2)
+read-byte-spec = tie.close (tie.spec (λ c. search needs) (λ c. search needs) returns returns-2)

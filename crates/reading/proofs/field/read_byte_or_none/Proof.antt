@@ -5,20 +5,8 @@ use borrow.Author.Needs.{needs}
 use Rattle.reading.proofs.field.read_byte_or_none.Statement.{statement}
 use Rattle.reading.proofs.field.read_byte_or_none.Tie as tie
 
-read-byte-requires : tie.Need-read-byte-requires
-read-byte-requires c κs = search needs
-
-enum-known-b : tie.Need-enum-known-b
-enum-known-b c = search needs
-
-enum-told : tie.Need-enum-told
-enum-told c = search needs
-
 returns : tie.Need-returns
 returns c = ap (byteOf _) (c .enum-told .given .1) ∙ sym (such-fault _ _ _ (answered (byteOf _) (c .before .before .read-byte .ensures .0) (c .enum-told .given .1)))
-
-known-or-none-requires : tie.Need-known-or-none-requires
-known-or-none-requires c κs = search needs
 
 returns-2 : tie.Need-returns-2
 returns-2 c =
@@ -36,10 +24,10 @@ pub read-byte-or-none-spec : {M : Type 1} → statement M
 read-byte-or-none-spec =
     tie.close
     (tie.spec
-    read-byte-requires
-    enum-known-b
-    enum-told
+    (λ c κs. search needs)
+    (λ c. search needs)
+    (λ c. search needs)
     returns
-    known-or-none-requires
+    (λ c κs. search needs)
     returns-2
     returns-3)

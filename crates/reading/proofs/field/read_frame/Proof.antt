@@ -6,18 +6,6 @@ use borrow.Author.Needs.{needs}
 use Rattle.reading.proofs.field.read_frame.Statement.{statement}
 use Rattle.reading.proofs.field.read_frame.Tie as tie
 
-read-byte-requires : tie.Need-read-byte-requires
-read-byte-requires c κs = search needs
-
-enum-known-b : tie.Need-enum-known-b
-enum-known-b c = search needs
-
-enum-told : tie.Need-enum-told
-enum-told c = search needs
-
-byte-fault-requires : tie.Need-byte-fault-requires
-byte-fault-requires c κs = search needs
-
 returns : tie.Need-returns
 returns c =
     let at-read-byte = c .before .before .before in
@@ -25,9 +13,6 @@ returns c =
       handed-on byteFault (c .byte-fault .ensures) (c .before .enum-told .given .1) (framed-fault _ _ fails),
       tt,
     )
-
-cast-frame-of : tie.Need-cast-frame-of
-cast-frame-of c = search needs
 
 frame-of-requires : tie.Need-frame-of-requires
 frame-of-requires c κs = omega (arith, ap byteEnd (c .before .b .given .1), c .before .before .before .read-byte .ensures .1)
@@ -42,11 +27,11 @@ pub read-frame-spec : {M : Type 1} → statement M
 read-frame-spec =
     tie.close
     (tie.spec
-    read-byte-requires
-    enum-known-b
-    enum-told
-    byte-fault-requires
+    (λ c κs. search needs)
+    (λ c. search needs)
+    (λ c. search needs)
+    (λ c κs. search needs)
     returns
-    cast-frame-of
+    (λ c. search needs)
     frame-of-requires
     returns-2)

@@ -6,18 +6,6 @@ use borrow.Author.Needs.{needs}
 use Rattle.reading.proofs.field.read_long_frame.Statement.{statement}
 use Rattle.reading.proofs.field.read_long_frame.Tie as tie
 
-read-short-requires : tie.Need-read-short-requires
-read-short-requires c κs = search needs
-
-enum-known-h : tie.Need-enum-known-h
-enum-known-h c = search needs
-
-enum-told : tie.Need-enum-told
-enum-told c = search needs
-
-short-fault-requires : tie.Need-short-fault-requires
-short-fault-requires c κs = search needs
-
 returns : tie.Need-returns
 returns c =
     let at-read-short = c .before .before .before in
@@ -25,9 +13,6 @@ returns c =
       handed-on shortFault (c .short-fault .ensures) (c .before .enum-told .given .1) (framed-fault _ _ fails),
       tt,
     )
-
-cast-frame-of : tie.Need-cast-frame-of
-cast-frame-of c = search needs
 
 frame-of-requires : tie.Need-frame-of-requires
 frame-of-requires c κs = omega (arith, ap shortEnd (c .before .h .given .1), c .before .before .before .read-short .ensures .1)
@@ -42,11 +27,11 @@ pub read-long-frame-spec : {M : Type 1} → statement M
 read-long-frame-spec =
     tie.close
     (tie.spec
-    read-short-requires
-    enum-known-h
-    enum-told
-    short-fault-requires
+    (λ c κs. search needs)
+    (λ c. search needs)
+    (λ c. search needs)
+    (λ c κs. search needs)
     returns
-    cast-frame-of
+    (λ c. search needs)
     frame-of-requires
     returns-2)

@@ -5,23 +5,8 @@ use borrow.Author.Needs.{needs}
 use Rattle.reading.proofs.field.read_long_marks.Statement.{statement}
 use Rattle.reading.proofs.field.read_long_marks.Tie as tie
 
-read-short-requires : tie.Need-read-short-requires
-read-short-requires c κs = search needs
-
-enum-known-h : tie.Need-enum-known-h
-enum-known-h c = search needs
-
-enum-told : tie.Need-enum-told
-enum-told c = search needs
-
 returns : tie.Need-returns
 returns c = ap (shortOf _) (c .enum-told .given .1) ∙ sym (such-fault _ _ _ (answered (shortOf _) (c .before .before .read-short .ensures .0) (c .enum-told .given .1)))
-
-cast-in-width : tie.Need-cast-in-width
-cast-in-width c = search needs
-
-in-width-requires : tie.Need-in-width-requires
-in-width-requires c κs = search needs
 
 returns-2 : tie.Need-returns-2
 returns-2 c =
@@ -39,11 +24,11 @@ pub read-long-marks-spec : {M : Type 1} → statement M
 read-long-marks-spec =
     tie.close
     (tie.spec
-    read-short-requires
-    enum-known-h
-    enum-told
+    (λ c κs. search needs)
+    (λ c. search needs)
+    (λ c. search needs)
     returns
-    cast-in-width
-    in-width-requires
+    (λ c. search needs)
+    (λ c κs. search needs)
     returns-2
     returns-3)

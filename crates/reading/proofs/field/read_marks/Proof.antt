@@ -5,23 +5,8 @@ use borrow.Author.Needs.{needs}
 use Rattle.reading.proofs.field.read_marks.Statement.{statement}
 use Rattle.reading.proofs.field.read_marks.Tie as tie
 
-read-byte-requires : tie.Need-read-byte-requires
-read-byte-requires c κs = search needs
-
-enum-known-b : tie.Need-enum-known-b
-enum-known-b c = search needs
-
-enum-told : tie.Need-enum-told
-enum-told c = search needs
-
 returns : tie.Need-returns
 returns c = ap (byteOf _) (c .enum-told .given .1) ∙ sym (such-fault _ _ _ (answered (byteOf _) (c .before .before .read-byte .ensures .0) (c .enum-told .given .1)))
-
-cast-in-width : tie.Need-cast-in-width
-cast-in-width c = search needs
-
-in-width-requires : tie.Need-in-width-requires
-in-width-requires c κs = search needs
 
 returns-2 : tie.Need-returns-2
 returns-2 c =
@@ -39,11 +24,11 @@ pub read-marks-spec : {M : Type 1} → statement M
 read-marks-spec =
     tie.close
     (tie.spec
-    read-byte-requires
-    enum-known-b
-    enum-told
+    (λ c κs. search needs)
+    (λ c. search needs)
+    (λ c. search needs)
     returns
-    cast-in-width
-    in-width-requires
+    (λ c. search needs)
+    (λ c κs. search needs)
     returns-2
     returns-3)

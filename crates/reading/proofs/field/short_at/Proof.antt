@@ -6,15 +6,6 @@ use borrow.Author.Needs.{needs}
 use Rattle.reading.proofs.field.short_at.Statement.{statement}
 use Rattle.reading.proofs.field.short_at.Tie as tie
 
-read-short-requires : tie.Need-read-short-requires
-read-short-requires c κs = search needs
-
-enum-known-h : tie.Need-enum-known-h
-enum-known-h c = search needs
-
-enum-told : tie.Need-enum-told
-enum-told c = search needs
-
 returns : tie.Need-returns
 returns c = λ x t e. no-answer (sym (answered (shortOf _) (c .before .before .read-short .ensures .0) (c .enum-told .given .1)) ∙ e)
 
@@ -22,4 +13,4 @@ returns-2 : tie.Need-returns-2
 returns-2 c = λ x t e. got-value (sym (answered (shortOf _) (c .before .before .before .read-short .ensures .0) (c .before .h .given .1)) ∙ e)
 
 pub short-at-spec : {M : Type 1} → statement M
-short-at-spec = tie.close (tie.spec read-short-requires enum-known-h enum-told returns returns-2)
+short-at-spec = tie.close (tie.spec (λ c κs. search needs) (λ c. search needs) (λ c. search needs) returns returns-2)

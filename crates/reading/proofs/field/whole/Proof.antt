@@ -3,15 +3,6 @@ use borrow.Author.Needs.{needs}
 use Rattle.reading.proofs.field.whole.Statement.{statement}
 use Rattle.reading.proofs.field.whole.Tie as tie
 
-enum-known-q : tie.Need-enum-known-q
-enum-known-q c = search needs
-
-enum-told : tie.Need-enum-told
-enum-told c = search needs
-
-returns : tie.Need-returns
-returns c = search needs
-
 returns-2 : tie.Need-returns-2
 returns-2 c = rw (c .before .before .q .given .1, lt-ltb _ _ (c .if1 .taken))
 
@@ -19,4 +10,4 @@ returns-3 : tie.Need-returns-3
 returns-3 c = rw (c .before .before .q .given .1, le-ltb _ _ (c .if1 .left))
 
 pub whole-spec : {M : Type 1} → statement M
-whole-spec = tie.close (tie.spec enum-known-q enum-told returns returns-2 returns-3)
+whole-spec = tie.close (tie.spec (λ c. search needs) (λ c. search needs) (λ c. search needs) returns-2 returns-3)

@@ -13,26 +13,8 @@ abbrev μ-loop : tie.MeasureT-loop
 loop-holds : tie.Need-loop-holds Inv-loop μ-loop
 loop-holds c = tt
 
-mul-show-number : tie.Need-mul-show-number Inv-loop μ-loop
-mul-show-number c = omega arith
-
-element-copy-out-show-number : tie.Need-element-copy-out-show-number Inv-loop μ-loop
-element-copy-out-show-number c = omega arith
-
-show-number-requires : tie.Need-show-number-requires Inv-loop μ-loop
-show-number-requires c κs = search needs
-
-add-i : tie.Need-add-i Inv-loop μ-loop
-add-i c = omega arith
-
-loop-less : tie.Need-loop-less Inv-loop μ-loop
-loop-less c = omega arith
-
 loop-again : tie.Need-loop-again Inv-loop μ-loop
 loop-again c = tt
-
-returns : tie.Need-returns Inv-loop μ-loop
-returns c = search needs
 
 pub show-list-spec : {M : Type 1} → statement M
 show-list-spec =
@@ -41,10 +23,10 @@ show-list-spec =
     Inv-loop
     μ-loop
     loop-holds
-    mul-show-number
-    element-copy-out-show-number
-    show-number-requires
-    add-i
-    loop-less
+    (λ c. omega arith)
+    (λ c. omega arith)
+    (λ c κs. search needs)
+    (λ c. omega arith)
+    (λ c. omega arith)
     loop-again
-    returns)
+    (λ c. search needs))

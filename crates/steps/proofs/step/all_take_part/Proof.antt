@@ -20,25 +20,10 @@ abbrev μ-loop : tie.MeasureT-loop
 loop-holds : tie.Need-loop-holds Inv-loop μ-loop
 loop-holds c = refl
 
-mul-m : tie.Need-mul-m Inv-loop μ-loop
-mul-m c = search needs
-
-array-copy-out-m : tie.Need-array-copy-out-m Inv-loop μ-loop
-array-copy-out-m c = search needs
-
-takes-part-requires : tie.Need-takes-part-requires Inv-loop μ-loop
-takes-part-requires c κs = search needs
-
 returns : tie.Need-returns Inv-loop μ-loop
 returns c = let l = c .before .before .before in
     let k : l .before .before .args .count ≤ length (l .before .before .args .t1) = omega arith in
     sym (l .before .loop .inv ∙ all-stop _ (taken-next _ _ k _ _ (l .loop-test .taken)) (sym (c .before .takes-part .ensures) ∙ not-true _ (c .if1 .taken)))
-
-add-i : tie.Need-add-i Inv-loop μ-loop
-add-i c = omega arith
-
-loop-less : tie.Need-loop-less Inv-loop μ-loop
-loop-less c = omega arith
 
 loop-again : tie.Need-loop-again Inv-loop μ-loop
 loop-again c = let l = c .before .before .before in
@@ -57,11 +42,11 @@ all-take-part-spec =
     Inv-loop
     μ-loop
     loop-holds
-    mul-m
-    array-copy-out-m
-    takes-part-requires
+    (λ c. search needs)
+    (λ c. search needs)
+    (λ c κs. search needs)
     returns
-    add-i
-    loop-less
+    (λ c. omega arith)
+    (λ c. omega arith)
     loop-again
     returns-2)

@@ -34,40 +34,19 @@ returns : tie.Need-returns
 unfolding caseOf
 returns c = ap (λ (n : ℕ). caseOf (c .before .args .rendezvous) (take n (c .before .args .t1))) (sym (c .if1 .taken))
 
-array-copy-out-m : tie.Need-array-copy-out-m
-array-copy-out-m c = search needs
-
-owners-distinct-requires : tie.Need-owners-distinct-requires
-owners-distinct-requires c κs = search needs
-
 returns-2 : tie.Need-returns-2
 returns-2 c = let o = c .before in
     sym (case-owners _ (first (o .before .before)) (sym (o .owners-distinct .ensures) ∙ not-true _ (c .if2 .taken)))
-
-sub-allowed-if : tie.Need-sub-allowed-if
-sub-allowed-if c = search needs
-
-allowed-if-requires : tie.Need-allowed-if-requires
-allowed-if-requires c κs = search needs
 
 returns-3 : tie.Need-returns-3
 returns-3 c = let e = c .before .before .before in
     let f = e .before .before .before in
     c .allowed-if .ensures ∙ sym (case-alone _ (first f) (owners e) (others f) (eq-eqb _ 0 (c .before .if3 .taken)))
 
-one-sender-requires : tie.Need-one-sender-requires
-one-sender-requires c κs = search needs
-
 returns-4 : tie.Need-returns-4
 returns-4 c = let o = c .before in
     let e = o .before .before .before in
     sym (case-senders _ (first (e .before .before .before)) (owners e) (ne-eqb _ 0 (o .before .if3 .left)) (sym (o .one-sender .ensures) ∙ not-true _ (c .if4 .taken)))
-
-sub-allowed-if-2 : tie.Need-sub-allowed-if-2
-sub-allowed-if-2 c = search needs
-
-allowed-if-requires-2 : tie.Need-allowed-if-requires-2
-allowed-if-requires-2 c κs = search needs
 
 returns-5 : tie.Need-returns-5
 returns-5 c =
@@ -90,15 +69,15 @@ case-among-spec =
     tie.close
     (tie.spec
     returns
-    array-copy-out-m
-    owners-distinct-requires
+    (λ c. search needs)
+    (λ c κs. search needs)
     returns-2
-    sub-allowed-if
-    allowed-if-requires
+    (λ c. search needs)
+    (λ c κs. search needs)
     returns-3
-    one-sender-requires
+    (λ c κs. search needs)
     returns-4
-    sub-allowed-if-2
-    allowed-if-requires-2
+    (λ c. search needs)
+    (λ c κs. search needs)
     returns-5
     returns-6)

@@ -8,15 +8,6 @@ use borrow.Author.Needs.{needs}
 use Rattle.steps.proofs.step.case_of.Statement.{statement}
 use Rattle.steps.proofs.step.case_of.Tie as tie
 
-case-among-requires : tie.Need-case-among-requires
-case-among-requires c κs = search needs
-
-case-among-requires-2 : tie.Need-case-among-requires-2
-case-among-requires-2 c κs = search needs
-
-returns : tie.Need-returns
-returns c = search needs
-
 returns-2 : tie.Need-returns-2
 returns-2 c = let a = c .before .before .args in
     let s : length (a .members) ≤ 16 = omega arith in
@@ -24,4 +15,4 @@ returns-2 c = let a = c .before .before .args in
     c .case-among2 .ensures ∙ ap (caseOf _) (take-all 16 _ s ∙ sym (take-all _ _ k))
 
 pub case-of-spec : {M : Type 1} → statement M
-case-of-spec = tie.close (tie.spec case-among-requires case-among-requires-2 returns returns-2)
+case-of-spec = tie.close (tie.spec (λ c κs. search needs) (λ c κs. search needs) (λ c. search needs) returns-2)

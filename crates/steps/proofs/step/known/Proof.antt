@@ -13,12 +13,6 @@ returns-2 : tie.Need-returns-2
 unfolding known
 returns-2 c = rw (le-leb 1 _ (c .before .if1 .left), lt-leb _ 16 (c .if2 .taken))
 
-ascends-requires : tie.Need-ascends-requires
-ascends-requires c κs = search needs
-
-all-below-requires : tie.Need-all-below-requires
-all-below-requires c κs = search needs
-
 returns-3 : tie.Need-returns-3
 unfolding known
 returns-3 c = let e = c .before .before in
@@ -31,4 +25,4 @@ returns-4 c = let e = c .before in
 
 pub known-spec : {M : Type 1} → statement M
 known-spec =
-    tie.close (tie.spec returns returns-2 ascends-requires all-below-requires returns-3 returns-4)
+    tie.close (tie.spec returns returns-2 (λ c κs. search needs) (λ c κs. search needs) returns-3 returns-4)

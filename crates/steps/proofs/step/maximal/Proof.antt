@@ -41,9 +41,6 @@ shared-slice-read-if3 :
     tie.Need-shared-slice-read-if3 Inv-chosen μ-chosen Inv-receivers μ-receivers
 shared-slice-read-if3 c = omega (arith, c .before .if2 .left)
 
-add-c : tie.Need-add-c Inv-chosen μ-chosen Inv-receivers μ-receivers
-add-c c = omega arith
-
 chosen-less : tie.Need-chosen-less Inv-chosen μ-chosen Inv-receivers μ-receivers
 chosen-less c = omega (arith, c .before .before .if2 .left)
 
@@ -53,12 +50,6 @@ chosen-again c = let a = c .before .before .before in
     let g = a .chosen .inv in
     let k : a .chosen .c < length (a .before .before .before .before .before .args .owners .now) = omega (arith, c .before .before .if2 .left) in
     (g .0, g .1 ∙ any-next _ (drop-next _ _ 0 k) (ne-eqb _ _ (c .if3 .left)), omega arith)
-
-add-r : tie.Need-add-r Inv-chosen μ-chosen Inv-receivers μ-receivers
-add-r c = omega arith
-
-receivers-less : tie.Need-receivers-less Inv-chosen μ-chosen Inv-receivers μ-receivers
-receivers-less c = omega arith
 
 receivers-again : tie.Need-receivers-again Inv-chosen μ-chosen Inv-receivers μ-receivers
 unfolding elem
@@ -96,11 +87,11 @@ maximal-spec =
     shared-slice-read-owner
     chosen-holds
     shared-slice-read-if3
-    add-c
+    (λ c. omega arith)
     chosen-less
     chosen-again
-    add-r
-    receivers-less
+    (λ c. omega arith)
+    (λ c. omega arith)
     receivers-again
     returns
     returns-2)

@@ -4,12 +4,6 @@ use Rattle.steps.specs.Cases.{oneSender}
 use Rattle.steps.proofs.step.one_sender.Statement.{statement}
 use Rattle.steps.proofs.step.one_sender.Tie as tie
 
-count-senders-requires : tie.Need-count-senders-requires
-count-senders-requires c κs = search needs
-
-all-take-part-requires : tie.Need-all-take-part-requires
-all-take-part-requires c κs = search needs
-
 returns : tie.Need-returns
 unfolding oneSender
 returns c = rw (← c .before .before .count-senders .ensures, eq-eqb _ 1 (c .before .if1 .taken)) (c .all-take-part .ensures)
@@ -20,4 +14,4 @@ returns-2 c = rw (← c .before .count-senders .ensures, ne-eqb _ 1 (c .if1 .lef
 
 pub one-sender-spec : {M : Type 1} → statement M
 one-sender-spec =
-    tie.close (tie.spec count-senders-requires all-take-part-requires returns returns-2)
+    tie.close (tie.spec (λ c κs. search needs) (λ c κs. search needs) returns returns-2)

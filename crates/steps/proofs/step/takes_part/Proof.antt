@@ -4,12 +4,6 @@ use borrow.Author.Needs.{needs}
 use Rattle.steps.proofs.step.takes_part.Statement.{statement}
 use Rattle.steps.proofs.step.takes_part.Tie as tie
 
-signals-on-requires : tie.Need-signals-on-requires
-signals-on-requires c κs = search needs
-
-signals-on-requires-2 : tie.Need-signals-on-requires-2
-signals-on-requires-2 c κs = search needs
-
 returns : tie.Need-returns
 unfolding takesPart
 returns c = rw (sym (c .before .signals-on .ensures) ∙ c .if1 .taken) (c .if1 .taken)
@@ -19,4 +13,4 @@ unfolding takesPart
 returns-2 c = rw (sym (c .before .before .signals-on .ensures) ∙ c .before .if1 .left) (c .signals-on2 .ensures)
 
 pub takes-part-spec : {M : Type 1} → statement M
-takes-part-spec = tie.close (tie.spec signals-on-requires signals-on-requires-2 returns returns-2)
+takes-part-spec = tie.close (tie.spec (λ c κs. search needs) (λ c κs. search needs) returns returns-2)

@@ -42,30 +42,6 @@ remained c h =
     ∙ cond-yes _ _ (le-leb 1 (a .a .denominator) h)
     ∙ ap (λ (y : ℤ). floorMod (y +ℤ pos (a .a .numerator)) (a .a .denominator)) (read-back _ (y .ok) ∙ y .ensures)
 
-variable-value-requires : tie.Need-variable-value-requires
-variable-value-requires c κs = search needs
-
-variable-value-requires-2 : tie.Need-variable-value-requires-2
-variable-value-requires-2 c κs = search needs
-
-steps-after-requires : tie.Need-steps-after-requires
-steps-after-requires c κs = search needs
-
-number-of-requires : tie.Need-number-of-requires
-number-of-requires c κs = search needs
-
-stored-requires : tie.Need-stored-requires
-stored-requires c κs = search needs
-
-remainder-after-requires : tie.Need-remainder-after-requires
-remainder-after-requires c κs = search needs
-
-is-number-requires : tie.Need-is-number-requires
-is-number-requires c κs = search needs
-
-stored-requires-2 : tie.Need-stored-requires-2
-stored-requires-2 c κs = search needs
-
 returns : tie.Need-returns
 unfolding stays updated
 returns c =
@@ -86,12 +62,12 @@ pub after-advance-spec : {M : Type 1} → statement M
 after-advance-spec =
     tie.close
     (tie.spec
-    variable-value-requires
-    variable-value-requires-2
-    steps-after-requires
-    number-of-requires
-    stored-requires
-    remainder-after-requires
-    is-number-requires
-    stored-requires-2
+    (λ c κs. search needs)
+    (λ c κs. search needs)
+    (λ c κs. search needs)
+    (λ c κs. search needs)
+    (λ c κs. search needs)
+    (λ c κs. search needs)
+    (λ c κs. search needs)
+    (λ c κs. search needs)
     returns)

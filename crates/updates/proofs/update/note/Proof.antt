@@ -4,21 +4,6 @@ use Rattle.updates.proofs.Updates.{noted-two}
 use Rattle.updates.proofs.update.note.Statement.{statement}
 use Rattle.updates.proofs.update.note.Tie as tie
 
-enum-known-form : tie.Need-enum-known-form
-enum-known-form c = search needs
-
-note-variable-requires : tie.Need-note-variable-requires
-note-variable-requires c κs = search needs
-
-enum-known-form-2 : tie.Need-enum-known-form-2
-enum-known-form-2 c = search needs
-
-note-variable-requires-2 : tie.Need-note-variable-requires-2
-note-variable-requires-2 c κs = search needs
-
-note-variable-requires-3 : tie.Need-note-variable-requires-3
-note-variable-requires-3 c κs = search needs
-
 returns : tie.Need-returns
 returns c vs n = rw (c .before .before .before .form .given .1) (c .note-variable .ensures vs n)
 
@@ -33,10 +18,10 @@ pub note-spec : {M : Type 1} → statement M
 note-spec =
     tie.close
     (tie.spec
-    enum-known-form
-    note-variable-requires
-    enum-known-form-2
-    note-variable-requires-2
-    note-variable-requires-3
+    (λ c. search needs)
+    (λ c κs. search needs)
+    (λ c. search needs)
+    (λ c κs. search needs)
+    (λ c κs. search needs)
     returns
     returns-2)

@@ -7,35 +7,11 @@ use Rattle.updates.specs.Update.{advanced}
 use Rattle.updates.proofs.update.read_advance.Statement.{statement}
 use Rattle.updates.proofs.update.read_advance.Tie as tie
 
-read-byte-below-requires : tie.Need-read-byte-below-requires
-read-byte-below-requires c κs = search needs
-
-enum-known-a : tie.Need-enum-known-a
-enum-known-a c = search needs
-
-enum-told : tie.Need-enum-told
-enum-told c = search needs
-
-byte-fault-requires : tie.Need-byte-fault-requires
-byte-fault-requires c κs = search needs
-
 returns : tie.Need-returns
 unfolding advanced
 returns c =
     let fails = answered (byteOf _) (c .before .before .before .read-byte-below .ensures) (c .before .enum-told .given .1) in
     handed-on byteFault (c .byte-fault .ensures) (c .before .enum-told .given .1) (bind-fault _ _ _ fails)
-
-read-byte-below-requires-2 : tie.Need-read-byte-below-requires-2
-read-byte-below-requires-2 c κs = search needs
-
-enum-known-b : tie.Need-enum-known-b
-enum-known-b c = search needs
-
-enum-told-2 : tie.Need-enum-told-2
-enum-told-2 c = search needs
-
-byte-fault-requires-2 : tie.Need-byte-fault-requires-2
-byte-fault-requires-2 c κs = search needs
 
 returns-2 : tie.Need-returns-2
 unfolding advanced
@@ -45,18 +21,6 @@ returns-2 c =
     let read-a = answered (byteOf _) (at-a .before .before .read-byte-below .ensures) (at-a .a .given .1) in
     let fails = answered (byteOf _) (at-read .read-byte-below2 .ensures) (c .before .enum-told2 .given .1) in
     handed-on byteFault (c .byte-fault2 .ensures) (c .before .enum-told2 .given .1) (bind-got _ _ _ read-a ∙ bind-fault _ _ _ fails)
-
-read-short-requires : tie.Need-read-short-requires
-read-short-requires c κs = search needs
-
-enum-known-p : tie.Need-enum-known-p
-enum-known-p c = search needs
-
-enum-told-3 : tie.Need-enum-told-3
-enum-told-3 c = search needs
-
-short-fault-requires : tie.Need-short-fault-requires
-short-fault-requires c κs = search needs
 
 returns-3 : tie.Need-returns-3
 unfolding advanced
@@ -69,18 +33,6 @@ returns-3 c =
     let fails = answered (shortOf _) (at-read .read-short .ensures .0) (c .before .enum-told3 .given .1) in
     handed-on shortFault (c .short-fault .ensures) (c .before .enum-told3 .given .1)
     (bind-got _ _ _ read-a ∙ bind-got _ _ _ read-b ∙ bind-fault _ _ _ fails)
-
-read-denominator-requires : tie.Need-read-denominator-requires
-read-denominator-requires c κs = search needs
-
-enum-known-q : tie.Need-enum-known-q
-enum-known-q c = search needs
-
-enum-told-4 : tie.Need-enum-told-4
-enum-told-4 c = search needs
-
-short-fault-requires-2 : tie.Need-short-fault-requires-2
-short-fault-requires-2 c κs = search needs
 
 returns-4 : tie.Need-returns-4
 unfolding advanced
@@ -113,24 +65,24 @@ pub read-advance-spec : {M : Type 1} → statement M
 read-advance-spec =
     tie.close
     (tie.spec
-    read-byte-below-requires
-    enum-known-a
-    enum-told
-    byte-fault-requires
+    (λ c κs. search needs)
+    (λ c. search needs)
+    (λ c. search needs)
+    (λ c κs. search needs)
     returns
-    read-byte-below-requires-2
-    enum-known-b
-    enum-told-2
-    byte-fault-requires-2
+    (λ c κs. search needs)
+    (λ c. search needs)
+    (λ c. search needs)
+    (λ c κs. search needs)
     returns-2
-    read-short-requires
-    enum-known-p
-    enum-told-3
-    short-fault-requires
+    (λ c κs. search needs)
+    (λ c. search needs)
+    (λ c. search needs)
+    (λ c κs. search needs)
     returns-3
-    read-denominator-requires
-    enum-known-q
-    enum-told-4
-    short-fault-requires-2
+    (λ c κs. search needs)
+    (λ c. search needs)
+    (λ c. search needs)
+    (λ c κs. search needs)
     returns-4
     returns-5)

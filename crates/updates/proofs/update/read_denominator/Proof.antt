@@ -6,15 +6,6 @@ use Rattle.reading.proofs.Places.{such-got, such-not, such-fault, answered}
 use Rattle.updates.proofs.update.read_denominator.Statement.{statement}
 use Rattle.updates.proofs.update.read_denominator.Tie as tie
 
-read-short-requires : tie.Need-read-short-requires
-read-short-requires c κs = search needs
-
-enum-known-h : tie.Need-enum-known-h
-enum-known-h c = search needs
-
-enum-told : tie.Need-enum-told
-enum-told c = search needs
-
 returns : tie.Need-returns
 returns c =
     let fails = answered (shortOf _) (c .before .before .read-short .ensures .0) (c .enum-told .given .1) in
@@ -34,4 +25,4 @@ returns-3 c =
 
 pub read-denominator-spec : {M : Type 1} → statement M
 read-denominator-spec =
-    tie.close (tie.spec read-short-requires enum-known-h enum-told returns returns-2 returns-3)
+    tie.close (tie.spec (λ c κs. search needs) (λ c. search needs) (λ c. search needs) returns returns-2 returns-3)

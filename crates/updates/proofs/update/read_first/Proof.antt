@@ -5,22 +5,10 @@ use Rattle.reading.proofs.Places.{such-got, such-not, such-fault, answered}
 use Rattle.updates.proofs.update.read_first.Statement.{statement}
 use Rattle.updates.proofs.update.read_first.Tie as tie
 
-read-byte-requires : tie.Need-read-byte-requires
-read-byte-requires c κs = search needs
-
-enum-known-b : tie.Need-enum-known-b
-enum-known-b c = search needs
-
-enum-told : tie.Need-enum-told
-enum-told c = search needs
-
 returns : tie.Need-returns
 returns c =
     let fails = answered (byteOf _) (c .before .before .read-byte .ensures .0) (c .enum-told .given .1) in
     ap (byteOf _) (c .enum-told .given .1) ∙ sym (such-fault _ _ _ fails)
-
-opens-requires : tie.Need-opens-requires
-opens-requires c κs = search needs
 
 returns-2 : tie.Need-returns-2
 returns-2 c =
@@ -37,4 +25,4 @@ returns-3 c =
 pub read-first-spec : {M : Type 1} → statement M
 read-first-spec =
     tie.close
-    (tie.spec read-byte-requires enum-known-b enum-told returns opens-requires returns-2 returns-3)
+    (tie.spec (λ c κs. search needs) (λ c. search needs) (λ c. search needs) returns (λ c κs. search needs) returns-2 returns-3)

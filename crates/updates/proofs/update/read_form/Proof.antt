@@ -6,26 +6,11 @@ use Rattle.updates.proofs.Updates.{form-advance, form-assignment, form-
 use Rattle.updates.proofs.update.read_form.Statement.{statement}
 use Rattle.updates.proofs.update.read_form.Tie as tie
 
-read-first-requires : tie.Need-read-first-requires
-read-first-requires c κs = search needs
-
-enum-known-b : tie.Need-enum-known-b
-enum-known-b c = search needs
-
-enum-told : tie.Need-enum-told
-enum-told c = search needs
-
-byte-fault-requires : tie.Need-byte-fault-requires
-byte-fault-requires c κs = search needs
-
 returns : tie.Need-returns
 returns c =
     let at-read-first = c .before .before .before in
     let fails = answered (byteOf _) (at-read-first .read-first .ensures) (c .before .enum-told .given .1) in
     handed-on byteFault (c .byte-fault .ensures) (c .before .enum-told .given .1) (form-fault _ _ _ fails)
-
-read-advance-requires : tie.Need-read-advance-requires
-read-advance-requires c κs = search needs
 
 returns-2 : tie.Need-returns-2
 returns-2 c =
@@ -43,11 +28,11 @@ pub read-form-spec : {M : Type 1} → statement M
 read-form-spec =
     tie.close
     (tie.spec
-    read-first-requires
-    enum-known-b
-    enum-told
-    byte-fault-requires
+    (λ c κs. search needs)
+    (λ c. search needs)
+    (λ c. search needs)
+    (λ c κs. search needs)
     returns
-    read-advance-requires
+    (λ c κs. search needs)
     returns-2
     returns-3)

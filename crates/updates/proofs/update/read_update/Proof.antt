@@ -16,42 +16,15 @@ form-read : (c : tie.After-known-told) →
     form (a .version) (a .variables) (onward (a .s .now) (a .at)) ≡ got (c .before .f .given .0 .0) (onward (a .s .now) (c .before .f .given .0 .1 .0))
 form-read c = answered (formRead _) (c .before .before .before .read-form .ensures) (c .before .f .given .1)
 
-read-form-requires : tie.Need-read-form-requires
-read-form-requires c κs = search needs
-
-enum-known-f : tie.Need-enum-known-f
-enum-known-f c = search needs
-
-enum-told : tie.Need-enum-told
-enum-told c = search needs
-
 returns : tie.Need-returns
 returns c =
     let fails = answered (formRead _) (c .before .before .read-form .ensures) (c .enum-told .given .1) in
     ap (formRead _) (c .enum-told .given .1) ∙ sym (mapped-fault _ (update-fault _ _ _ fails))
 
-enum-told-2 : tie.Need-enum-told-2
-enum-told-2 c = search needs
-
-enum-told-3 : tie.Need-enum-told-3
-enum-told-3 c = search needs
-
 returns-2 : tie.Need-returns-2
 returns-2 c =
     let at-f = c .before .before in
     got-by (c .enum-told3 .given .1) (mapped-got _ (update-advance _ _ _ (form-read at-f) (c .enum-told3 .given .1)))
-
-expression-at-requires : tie.Need-expression-at-requires
-expression-at-requires c κs = search needs
-
-enum-known-q : tie.Need-enum-known-q
-enum-known-q c = search needs
-
-enum-told-4 : tie.Need-enum-told-4
-enum-told-4 c = search needs
-
-reached-fault-requires : tie.Need-reached-fault-requires
-reached-fault-requires c κs = search needs
 
 returns-3 : tie.Need-returns-3
 unfolding skipped
@@ -74,16 +47,16 @@ pub read-update-spec : {M : Type 1} → statement M
 read-update-spec =
     tie.close
     (tie.spec
-    read-form-requires
-    enum-known-f
-    enum-told
+    (λ c κs. search needs)
+    (λ c. search needs)
+    (λ c. search needs)
     returns
-    enum-told-2
-    enum-told-3
+    (λ c. search needs)
+    (λ c. search needs)
     returns-2
-    expression-at-requires
-    enum-known-q
-    enum-told-4
-    reached-fault-requires
+    (λ c κs. search needs)
+    (λ c. search needs)
+    (λ c. search needs)
+    (λ c κs. search needs)
     returns-3
     returns-4)

@@ -6,19 +6,10 @@ use borrow.Author.Needs.{needs}
 use Rattle.updates.proofs.update.stored.Statement.{statement}
 use Rattle.updates.proofs.update.stored.Tie as tie
 
-mul-next : tie.Need-mul-next
-mul-next c = search needs
-
-array-set-from-next : tie.Need-array-set-from-next
-array-set-from-next c = search needs
-
-returns : tie.Need-returns
-returns c = search needs
-
 returns-2 : tie.Need-returns-2
 returns-2 c =
     let e : length (c .before .args .values) ≡ 16 = search needs in
     sym (set-out (c .before .args .values) (c .before .args .variable) _ (omega arith))
 
 pub stored-spec : {M : Type 1} → statement M
-stored-spec = tie.close (tie.spec mul-next array-set-from-next returns returns-2)
+stored-spec = tie.close (tie.spec (λ c. search needs) (λ c. search needs) (λ c. search needs) returns-2)

@@ -27,21 +27,6 @@ form-read : (c : tie.After-known-told) →
     form (a .version) (a .variables) (onward (a .s .now) (a .at)) ≡ got (c .before .f .given .0 .0) (onward (a .s .now) (c .before .f .given .0 .1 .0))
 form-read c = answered (formRead _) (c .before .before .before .read-form .ensures) (c .before .f .given .1)
 
-read-form-requires : tie.Need-read-form-requires
-read-form-requires c κs = search needs
-
-enum-known-f : tie.Need-enum-known-f
-enum-known-f c = search needs
-
-enum-told : tie.Need-enum-told
-enum-told c = search needs
-
-form-fault-requires : tie.Need-form-fault-requires
-form-fault-requires c κs = search needs
-
-not-updated-requires : tie.Need-not-updated-requires
-not-updated-requires c κs = search needs
-
 returns : tie.Need-returns
 returns c =
     let at-enum = c .before .before in
@@ -51,30 +36,6 @@ returns c =
       ap (reached _ _) (c .not-updated .ensures)
           ∙ handed-on formFault (c .before .form-fault .ensures) (at-enum .enum-told .given .1) (mapped-fault _ (update-fault _ _ _ fails)),
     )
-
-enum-known-form : tie.Need-enum-known-form
-enum-known-form c = search needs
-
-after-advance-requires : tie.Need-after-advance-requires
-after-advance-requires c κs = search needs
-
-enum-known-form-2 : tie.Need-enum-known-form-2
-enum-known-form-2 c = search needs
-
-value-from-requires : tie.Need-value-from-requires
-value-from-requires c κs = search needs
-
-enum-known-x : tie.Need-enum-known-x
-enum-known-x c = search needs
-
-enum-told-2 : tie.Need-enum-told-2
-enum-told-2 c = search needs
-
-value-fault-requires : tie.Need-value-fault-requires
-value-fault-requires c κs = search needs
-
-not-updated-requires-2 : tie.Need-not-updated-requires-2
-not-updated-requires-2 c κs = search needs
 
 returns-2 : tie.Need-returns-2
 returns-2 c =
@@ -88,15 +49,6 @@ returns-2 c =
       ap (reached _ _) (c .not-updated2 .ensures)
           ∙ handed-on valueFault (c .before .value-fault .ensures) (at-enum .enum-told2 .given .1) (mapped-fault _ missing),
     )
-
-is-number-requires : tie.Need-is-number-requires
-is-number-requires c κs = search needs
-
-number-of-requires : tie.Need-number-of-requires
-number-of-requires c κs = search needs
-
-stored-requires : tie.Need-stored-requires
-stored-requires c κs = search needs
 
 returns-3 : tie.Need-returns-3
 returns-3 c =
@@ -128,23 +80,23 @@ pub updated-at-spec : {M : Type 1} → statement M
 updated-at-spec =
     tie.close
     (tie.spec
-    read-form-requires
-    enum-known-f
-    enum-told
-    form-fault-requires
-    not-updated-requires
+    (λ c κs. search needs)
+    (λ c. search needs)
+    (λ c. search needs)
+    (λ c κs. search needs)
+    (λ c κs. search needs)
     returns
-    enum-known-form
-    after-advance-requires
-    enum-known-form-2
-    value-from-requires
-    enum-known-x
-    enum-told-2
-    value-fault-requires
-    not-updated-requires-2
+    (λ c. search needs)
+    (λ c κs. search needs)
+    (λ c. search needs)
+    (λ c κs. search needs)
+    (λ c. search needs)
+    (λ c. search needs)
+    (λ c κs. search needs)
+    (λ c κs. search needs)
     returns-2
-    is-number-requires
-    number-of-requires
-    stored-requires
+    (λ c κs. search needs)
+    (λ c κs. search needs)
+    (λ c κs. search needs)
     returns-3
     returns-4)

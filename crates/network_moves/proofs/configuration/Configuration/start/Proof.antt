@@ -5,12 +5,9 @@ use borrow.Author.Needs.{needs}
 use Rattle.network_moves.proofs.configuration.Configuration.start.Statement.{statement}
 use Rattle.network_moves.proofs.configuration.Configuration.start.Tie as tie
 
-initial-locations-requires : tie.Need-initial-locations-requires
-initial-locations-requires c κs = search needs
-
 returns : tie.Need-returns
 unfolding start
 returns c = λ n L j. record { locations = c .initial-locations .ensures n L j; flags = replicate 16 0; variables = replicate 16 (pos 0); clocks = replicate 8 0 }
 
 pub start-spec : {M : Type 1} → statement M
-start-spec = tie.close (tie.spec initial-locations-requires returns)
+start-spec = tie.close (tie.spec (λ c κs. search needs) returns)
