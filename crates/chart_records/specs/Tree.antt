@@ -1,9 +1,9 @@
 -- The tree of states. A parent's number is smaller than its child's.
-use Prim.Native.Nat.{ℕ, zero, suc, _-_}
+use Prim.Native.Nat.{ℕ, zero, suc}
 use mathlib.Core.Bool.{Bool, cond, not, _&&_}
 use mathlib.Core.List.{List, [], _∷_}
 use lib.Dec.{eqb}
-use Rattle.lists.specs.Lists.{has, all, any, below, keep, implies, elem}
+use Rattle.lists.specs.Lists.{has, all, any, keep, implies, elem}
 use Rattle.chart_records.specs.Chart.{Chart, stateAt, states, parentOf, basic, sequential, parallel}
 
 -- s and the states above it, up to the root, at most n of them

@@ -1,7 +1,6 @@
 -- Laws of the exits that places are at, as bits: the flags that an edge writes, and their values.
 use mathlib.Core.Path.{_≡_, ap, _∙_}
 use mathlib.Core.Bool.{xor}
-use Prim.Native.Nat.{_-_}
 use lib.Bits as Words
 use Rattle.lists.specs.Lists.{bitsOf}
 use Rattle.lists.proofs.Bits.{xor-bits, and-bits}

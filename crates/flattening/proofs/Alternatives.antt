@@ -1,7 +1,7 @@
 -- The alternatives of an exit: for an active composite state just one of them is where the automata stand, if the state
 -- is completed, and else none.
 use mathlib.Core.Path.{_≡_, refl, sym, ap, _∙_, subst}
-use mathlib.Core.Bool.{Bool, true, false, not, _&&_}
+use mathlib.Core.Bool.{Bool, true, false, _&&_}
 use mathlib.Core.Logic.{_⊎_, inl, inr, ⊎-elim}
 use mathlib.Core.List.{List, [], _∷_, map, List·Memᴰ as Mem, List·Memᴰ·head as here, List·Memᴰ·tail as there, List·Memᴰ·not-nil as not-nil, Memᴰ·cast as cast, List·Memᴰ·cases-cons as cases-cons, List·Memᴰ·eq-of-singleton as eq-of-singleton}
 use Prim.Native.Nat.{ℕ, zero, suc, _+_, _^_, _≤_, _<_}
@@ -9,8 +9,8 @@ use native.Mathlib.Omega.{arith}
 use native.Mathlib.Decide.{ℕ-discrete}
 use borrow.Author.Tests.{eqb-true, eq-eqb}
 use lib.ListN.{length}
-use Rattle.lists.specs.Lists.{has, all, any, below, bitsOf, concat}
-use Rattle.lists.proofs.Bools.{parts, clash, decided, and-l, and-r, both, or-l, or-r, or-cases, same}
+use Rattle.lists.specs.Lists.{has, any, bitsOf, concat}
+use Rattle.lists.proofs.Bools.{parts, clash, decided, and-l, and-r, both, or-l, or-r, or-cases}
 use Rattle.lists.proofs.Lists.{any-at, any-by}
 use Rattle.lists.proofs.Concat.{concat-at, concat-by}
 use Rattle.lists.proofs.Once.{Once}

@@ -1,5 +1,4 @@
 -- The edges of a step, one after the other: what each does to the configuration.
-use Prim.Native.Nat.{ℕ}
 use mathlib.Core.List.{List, map}
 use lib.IntN.{ℤ}
 use lib.ListN.{getD, set}

@@ -6,8 +6,8 @@ use mathlib.Core.Path.{_≡_}
 use mathlib.Core.Bool.{Bool, _&&_}
 use mathlib.Core.List.{List}
 use Rattle.lists.specs.Lists.{implies, subset}
-use Rattle.reading.specs.Reading.{Read, got, fault, Reader, yield, _>>=_, byte, byte2, such, recorded}
-use Rattle.reading.specs.Places.{onward, faultOf}
+use Rattle.reading.specs.Reading.{got, Reader, yield, _>>=_, byte, byte2, such, recorded}
+use Rattle.reading.specs.Places.{onward}
 use Rattle.labels.specs.Label.{limits, Label, label, body, assignsOnce}
 use Rattle.labels.specs.declared.label.LabelRead.{LabelRead}
 use Rattle.labels.specs.declared.label.LabelRead.the-variants as Lb

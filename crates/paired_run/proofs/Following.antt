@@ -8,7 +8,7 @@ use native.Mathlib.Decide.{ℕ-discrete}
 use native.Mathlib.Nat.{mod-eq-of-lt}
 use lib.ListN.{length, take}
 use lib.Seq.{length-take-le}
-use Rattle.reading.specs.Answer.{Answer, done, refused}
+use Rattle.reading.specs.Answer.{Answer, done}
 use Rattle.steps.specs.Moves.{known}
 use Rattle.reading.proofs.Answer.{unless-at, done-injective}
 use Rattle.reading.proofs.Verdicts.{was-done, was-refused}

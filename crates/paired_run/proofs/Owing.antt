@@ -7,8 +7,6 @@ use native.Mathlib.Omega.{arith}
 use borrow.Author.Tests.{leb-true}
 use lib.Dec.{leb, eqb}
 use lib.ListN.{length, getD, drop, drop-of-length-le}
-use Rattle.steps.specs.Moves.{known}
-use Rattle.lists.proofs.Lists.{getD-mem}
 use Rattle.lists.proofs.Parts.{drop-next}
 use Rattle.chart_records.specs.Chart.{Chart, inRange, transitionAt}
 use Rattle.chart_records.specs.declared.header.Counts.{Counts}

@@ -2,15 +2,15 @@
 use mathlib.Core.Path.{_≡_, refl, sym, ap, _∙_}
 use mathlib.Core.Bool.{Bool, true, false, cond}
 use mathlib.Core.List.{List, [], _∷_, _++_}
-use Prim.Native.Nat.{ℕ, zero, suc, _+_, _-_, _≤_}
+use Prim.Native.Nat.{ℕ, zero, suc, _+_, _≤_}
 use native.Mathlib.Omega.{arith}
 use borrow.Author.Tests.{le-leb, leb-true}
 use lib.Dec.{leb}
 use lib.ListN.{length, drop, length-append, List·getD-append}
 use lib.Seq.{drop-append-le}
-use Rattle.reading.specs.Reading.{Fault, got, fault, length-fault, Reader, yield, _>>=_, field, byte, byte2, byte4, such, many, mapped}
+use Rattle.reading.specs.Reading.{Fault, got, fault, length-fault, Reader, yield, _>>=_, field, byte, byte2, byte4, such, many}
 use Rattle.reading.specs.Places.{onward}
-use Rattle.reading.proofs.Reading.{no-answer, bind-at, such-at, mapped-got, mapped-at}
+use Rattle.reading.proofs.Reading.{no-answer, bind-at, such-at}
 use Rattle.reading.proofs.Places.{onward-all, onward-onward, length-onward, bind-got, such-got}
 
 pub record InFront {A : Type 0} (r : Reader A) : Type 0 where

@@ -5,7 +5,7 @@ use mathlib.Core.List.{Memᴰ·append-left as append-left, Memᴰ·append-right 
 use Prim.Native.Nat.{ℕ, zero, suc, _+_, _*_, _-_, _≤_, _<_}
 use native.Mathlib.Omega.{arith}
 use native.Mathlib.Nat.{zero-mul, suc-mul}
-use lib.ListN.{length, getD, take, length-append}
+use lib.ListN.{length, getD, length-append}
 use Rattle.reading.specs.Reading.{Fault, Read, got, fault, Reader, yield, next, _>>=_, many}
 use Rattle.reading.specs.Places.{onward}
 use Rattle.reading.proofs.Places.{onward-all, onward-onward}

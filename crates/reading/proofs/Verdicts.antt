@@ -3,7 +3,7 @@ use mathlib.Core.Path.{_≡_, refl, sym, ap, _∙_}
 use Prim.Native.Nat.{ℕ}
 use native.Mathlib.Omega.{arith}
 use Rattle.reading.specs.Answer.{Answer, done, refused}
-use Rattle.reading.specs.Verdict.{verdictOf, verdictNumber, orKept}
+use Rattle.reading.specs.Verdict.{verdictOf, orKept}
 use Rattle.reading.specs.declared.verdict.Verdict.{Verdict}
 use Rattle.reading.specs.declared.verdict.Verdict.the-variants as Vd
 

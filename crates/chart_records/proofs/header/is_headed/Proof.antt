@@ -1,5 +1,5 @@
 use borrow.Author.Tests.{le-leb, lt-leb, not-true, not-false}
-use mathlib.Core.Path.{_≡_, sym, _∙_}
+use mathlib.Core.Path.{sym, _∙_}
 use Rattle.chart_records.specs.Chart.{headed}
 use borrow.Author.Needs.{needs}
 use Rattle.chart_records.proofs.header.is_headed.Statement.{statement}
