@@ -37,6 +37,23 @@ total\t146\t5\t134\t2
 clock\t200\t-\t-\t-
 """
 
+# nine crates have edits; of two with as many seconds the first by name comes first
+MANY = [('low', 1), ('b', 30), ('a', 30), ('many', 20), ('many', 25), ('many', 5), ('four', 4), ('five', 5), ('a_longer_name', 200),
+        ('six', 6), ('seven', 7)]
+MANY = ''.join(f'rt: must-fail {crate}/x: refused, as it must be (first at src/lib.rt:1:1; {seconds} s)\n' for crate, seconds in MANY)
+
+PRINTED = """must-fail edits          edits  seconds   each
+a_longer_name                1      200  200.0
+many                         3       50   16.7
+a                            1       30   30.0
+b                            1       30   30.0
+seven                        1        7    7.0
+six                          1        6    6.0
+five                         1        5    5.0
+four                         1        4    4.0
+all 9 crates with edits     11      333   30.3
+"""
+
 
 class Seconds(unittest.TestCase):
     def setUp(self):
@@ -64,6 +81,25 @@ class Seconds(unittest.TestCase):
 
     def test_without_the_clock(self):
         self.assertEqual(self.written(LOG), TABLE.replace('clock\t200\t-\t-\t-\n', ''))
+
+    def printed(self, log, *more):
+        run = self.run_tool(self.file('log', log), *more, '--to', os.path.join(self.room.name, 'seconds.tsv'))
+        self.assertEqual((run.returncode, run.stderr), (0, ''))
+        return run.stdout
+
+    def test_the_crates_whose_edits_cost_most(self):
+        self.assertEqual(self.printed(MANY), PRINTED)
+
+    def test_a_crate_whose_edit_failed_has_no_seconds(self):
+        self.assertEqual([line.split() for line in self.printed(LOG).splitlines()[1:]],
+                         [['base', '2', '134', '67.0'], ['all', '1', 'crates', 'with', 'edits', '2', '134', '67.0']])
+
+    def test_the_clock_beside_the_budget(self):
+        for clock, took, verdict in ((1500, '25:00', '0:00 left'), (1501, '25:01', '0:01 over it'),
+                                     (2285, '38:05', '13:05 over it'), (59, '0:59', '24:01 left')):
+            said = f'the run took {took} minutes by the clock; the budget is 25:00, {verdict}\n'
+            self.assertEqual(self.printed(MANY, str(clock)), PRINTED + said)
+            self.assertEqual(self.printed('rt: base proved (136 s)\n', str(clock)), said)
 
     def test_a_program_that_runs_as_its_own_user(self):
         self.assertEqual(self.written("rt: p proved (1 s)\nrt: p ran, and wrote what its file 'stdout' has (5 s)\n").split('\n')[1], 'p\t1\t-\t-\t5')
