@@ -47,7 +47,7 @@ fn generated_charts_and_their_networks_come_back() {
 
 #[test]
 fn the_samples_are_what_their_texts_say_and_pass() {
-    let samples: [(&str, &[u8]); 6] = [
+    let samples: [(&str, &[u8]); 7] = [
         (
             include_str!("../../samples/one_step.txt"),
             include_bytes!("../../samples/one_step.chart"),
@@ -60,6 +60,7 @@ fn the_samples_are_what_their_texts_say_and_pass() {
             include_bytes!("../../samples/fractional.chart"),
         ),
         (include_str!("../../samples/sensors.txt"), include_bytes!("../../samples/sensors.chart")),
+        (include_str!("../../samples/counter.txt"), include_bytes!("../../samples/counter.chart")),
     ];
     for (text, file) in samples {
         assert_eq!(assemble(text).as_deref(), Ok(file), "{text}");

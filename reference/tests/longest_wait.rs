@@ -182,7 +182,7 @@ fn each_answer_is_exact() {
     assert!(tally.inactive_bounds > 10_000);
 }
 
-/// The files `samples/take_up.chart` and `samples/sensors.chart`, as the README runs them.
+/// The files `samples/take_up.chart` and `samples/sensors.chart`, as `samples/runs` has them.
 #[test]
 fn the_samples() {
     let chart = check(include_bytes!("../../samples/take_up.chart")).unwrap();
