@@ -224,7 +224,7 @@ fn the_sensors_sample() {
     assert!(bearing(&network, 4).is_empty());
     let open = chart_machine::step(&chart, &weaving, &[1]).unwrap();
     assert_eq!(chart_machine::step(&chart, &open, &[3]), Err(Refusal::Inactive));
-    // On the network, as in the README: weaving and its urgent move, a wait too long, the stop.
+    // On the network, as in samples/runs: weaving and its urgent move, a wait too long, the stop.
     let mut on_network = network_machine::start(&network);
     for list in [&[0][..], &[4, 9]] {
         on_network = network_machine::step(&network, &on_network, list).unwrap();
