@@ -84,6 +84,24 @@ module _ (x y : ℤ) (f : SFits w32 x) (g : SFits w32 y) where
       let m : (mag x + 1) * (mag y + 1) ≤ 2 ^ 31 * 2 ^ 31 = mul-le-mul {n₁ = mag x + 1} {m₁ = mag y + 1} {n₂ = 2 ^ 31} {m₂ = 2 ^ 31} (omega (arith, f .sfits)) (omega (arith, g .sfits)) in
       record { sfits = omega (arith, mag-mul x y) }
 
+-- a number less a natural one, by its sign
+pub less : ℤ → ℕ → ℤ
+less (pos a) m = subℕ a m
+less (negsuc a) m = negsuc (a + m)
+
+pub less-is : (x : ℤ) (m : ℕ) → x -ℤ pos m ≡ less x m
+unfolding less
+less-is (pos a) zero = rw (le-ltb a 0 (omega arith)) (ap pos (omega arith))
+less-is (pos a) (suc m) = refl
+less-is (negsuc a) zero = rw (lt-ltb 0 (suc a) (omega arith)) (ap negsuc (omega arith))
+less-is (negsuc a) (suc m) = ap negsuc (omega arith)
+
+-- 0 and -1 less a natural number fit where it does
+pub less-fits : (x : ℤ) (m : ℕ) → mag x ≡ 0 → m < 2 ^ 63 → SFits w64 (less x m)
+unfolding less
+less-fits (pos a) m e h = record { sfits = omega (arith, mag-sub a m) }
+less-fits (negsuc a) m e h = record { sfits = omega arith }
+
 -- what the machine reads of a natural number of 32 bits in 64 bits
 pub natural-read : (n : ℕ) → n < 2 ^ 32 → toZ w64 n ≡ pos n
 natural-read n h = toZ-pos w64 n (omega arith)

@@ -3,13 +3,13 @@ use borrow.Author.Needs.{needs}
 use native.Mathlib.Omega.{arith}
 use native.Mathlib.Nat.{div-le-self}
 use Prim.Native.Nat.{_/_, _≤_, _<_, _^_}
-use mathlib.Core.Path.{_≡_, _∙_, sym, ap}
+use mathlib.Core.Path.{_≡_, refl, _∙_, sym, ap}
 use lib.IntN.{negsuc}
 use lib.Signed.{mag}
 use mir.Syntax.{w64}
 use mir.Val.{toZ, ofZ}
 use mir.ValLaws.{toZ-ofZ, toZ-pos}
-use Rattle.numbers.proofs.Integers.{complement-pos, floored-negative, floored-not-negative}
+use Rattle.numbers.proofs.Integers.{less-is, less-fits, complement-pos, floored-negative, floored-not-negative}
 use Rattle.numbers.proofs.signed.floored.Statement.{statement}
 use Rattle.numbers.proofs.signed.floored.Tie as tie
 
@@ -37,17 +37,17 @@ below-zero-requires c κs = search needs
 sub-result : tie.Need-sub-result
 sub-result c =
     let k = c .before .before in
-    rw (toZ-pos w64 (k .magnitude .result / k .before .args .d) (omega (arith, small k)), complement-pos) (record { sfits = omega (arith, small k) })
+    let fits : k .magnitude .result / k .before .args .d < 2 ^ 63 = omega (arith, small k) in
+    rw (toZ-pos w64 _ fits, less-is) (less-fits _ _ refl fits)
 
 returns : tie.Need-returns
 returns c =
     let k = c .before .before in
-    rw (
-      toZ-pos w64 (k .magnitude .result / k .before .args .d) (omega (arith, small k)),
-      complement-pos,
-      toZ-ofZ w64 (negsuc (k .magnitude .result / k .before .args .d)) (record { sfits = omega (arith, small k) }),
+    let q = k .magnitude .result / k .before .args .d in
+    rw (toZ-ofZ w64 _ (sub-result c), toZ-pos w64 q (omega (arith, small k))) (
+      complement-pos q ∙ rw (sized k) (floored-negative _ _ (rw (read (k .before)) at (sym (c .before .below-zero .ensures) ∙ c .if1 .taken))),
+      rw complement-pos (small k .0),
     )
-    (rw (sized k) (floored-negative _ _ (rw (read (k .before)) at (sym (c .before .below-zero .ensures) ∙ c .if1 .taken))), small k .0)
 
 returns-2 : tie.Need-returns-2
 returns-2 c =
