@@ -119,8 +119,7 @@ impl Agreed {
         }
     }
 
-    /// Requests of a run of a chart, as `compare_bytes` makes them, of its file and of a damaged one, and
-    /// starts, which take any bytes.
+    /// The requests of a run of a chart, of its file and of damaged ones, lent bytes that are neither 0 nor 1.
     pub fn compare_run_with_bytes(&mut self, chart: &Chart, count: usize, random: &mut Random) {
         let run = chart_requests(chart, count, random);
         let longest = chart_longest_requests(chart, &run, random);
