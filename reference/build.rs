@@ -12,7 +12,7 @@ fn main() {
     let here = env::var("CARGO_MANIFEST_DIR").expect("cargo sets it");
     let folder = Path::new(&here).join("../target/staticlib");
     println!("cargo:rustc-link-search=native={}", folder.display());
-    for name in ["library", "network_machine"] {
+    for name in ["library", "network_in_place"] {
         println!("cargo:rerun-if-changed={}", folder.join(format!("lib{name}.a")).display());
         println!("cargo:rustc-link-lib=static={name}");
     }

@@ -2,8 +2,8 @@
  * Charts and networks: check, flatten, run both machines, and tell how long they may wait. Weft breaks: count them in a window.
  *
  * Link with liblibrary.a (x86-64 Linux), which `rt staticlib library` writes to target/staticlib. It keeps nothing between
- * calls, allocates nothing, and calls nothing back. A program that only runs networks can link libnetwork_machine.a
- * instead (figrummy_network.h of the crate `network_machine`), which has no chart in it.
+ * calls, allocates nothing, and calls nothing back. A program that only runs networks can link libnetwork_in_place.a
+ * instead (figrummy_network.h of the crate `network_in_place`), which has no chart in it.
  *
  * Everything that a function is given is the caller's before, during and after a call. A file or a list passes as a pointer to
  * its first element and the number of its elements; it is read, never written, and every call checks a file from its first byte

@@ -1,6 +1,4 @@
-// The network machine. The operations are in `operation`, and in place in `in_place`; what they answer with is in
-// `outcome` and `configuration`.
-pub mod in_place;
+// The network machine, by value. The operations are in `operation`; what they answer with is in `outcome`.
 mod longest;
 pub mod operation;
 pub mod outcome;

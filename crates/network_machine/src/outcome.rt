@@ -36,14 +36,6 @@ pub fn outcome_by(verdict: Verdict, c: Configuration, next: Configuration) -> Ou
     }
 }
 
-// The configuration after a call.
-pub fn configuration_of(m: Outcome) -> Configuration
-    ensures { λ r. ⌜ r ≡ m .configuration ⌝ }
-{
-    let c = m.configuration;
-    c
-}
-
 // The number of a refusal, and 0 where the call was done.
 pub fn number_of(m: Outcome) -> u8
     ensures { λ r. ⌜ r ≡ verdictNumber (m .verdict) ⌝ }

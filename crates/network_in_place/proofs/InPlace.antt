@@ -20,13 +20,13 @@ use denote.Triple.Statement.{Contract}
 use denote.Triple.Spec.{tripleOf}
 use denote.Triple.Clauses.{ensured, lasts}
 use Rattle.network_moves.specs.declared.configuration.Configuration.{Configuration}
 use Rattle.network_machine.specs.declared.outcome.Outcome.{Outcome}
 use Rattle.reading.specs.Verdict.{verdictNumber}
 use Rattle.network_moves.proofs.configuration.Configuration as T
 use Rattle.network_moves.proofs.configuration.Configuration.Laws as T′
 use Rattle.network_machine.proofs.outcome.Outcome as R
-use Rattle.network_machine.proofs.outcome.configuration_of as config-of
+use Rattle.network_in_place.proofs.in_place.configuration_of as config-of
 use Rattle.network_machine.proofs.outcome.number_of as answer-of
 
 abbrev pub val : Configuration → Val
 val = LL.val T.the-type T′.the-laws

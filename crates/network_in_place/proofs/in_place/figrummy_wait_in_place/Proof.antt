@@ -40,31 +40,31 @@ use denote.Triple.Walked.{says, Stays, stay-ref, stay-none, stay-none-slice, wal
 use denote.Exit.{yes}
 use denote.Triple.Clauses.{ensured, lasts}
 use Rattle.network_moves.specs.declared.configuration.Configuration.{Configuration}
 use Rattle.network_machine.specs.declared.outcome.Outcome.{Outcome}
 use Rattle.network_moves.specs.Machine.{waitOf}
 use Rattle.reading.specs.Verdict.{verdictNumber}
 use Rattle.network_machine.specs.Answers.{outcomeOf}
 use Rattle.network_moves.proofs.configuration.Configuration as T
 use Rattle.network_moves.proofs.configuration.Configuration.Laws as T′
 use Rattle.network_machine.proofs.outcome.Outcome as R
 use Rattle.network_machine.proofs.outcome.Outcome.Laws as R′
 use Rattle.network_machine.proofs.operation.wait as wait
 use Rattle.network_machine.proofs.operation.wait.Symbol as wait-def
 use Rattle.network_machine.proofs.operation.wait.Symbol.{name as #wait}
 use Rattle.network_machine.proofs.operation.wait.Met as wait-thm
-use Rattle.network_machine.proofs.InPlace.{val, sv, ConfigOf, AnswerOf, its-config, its-answer, to-config, to-answer, goes-config, goes-answer}
-use Rattle.network_machine.proofs.outcome.configuration_of as config-of
-use Rattle.network_machine.proofs.outcome.configuration_of.Symbol as config-of-def
-use Rattle.network_machine.proofs.outcome.configuration_of.Symbol.{name as #configuration-of}
-use Rattle.network_machine.proofs.outcome.configuration_of.Met as config-of-thm
+use Rattle.network_in_place.proofs.InPlace.{val, sv, ConfigOf, AnswerOf, its-config, its-answer, to-config, to-answer, goes-config, goes-answer}
+use Rattle.network_in_place.proofs.in_place.configuration_of as config-of
+use Rattle.network_in_place.proofs.in_place.configuration_of.Symbol as config-of-def
+use Rattle.network_in_place.proofs.in_place.configuration_of.Symbol.{name as #configuration-of}
+use Rattle.network_in_place.proofs.in_place.configuration_of.Met as config-of-thm
 use Rattle.network_machine.proofs.outcome.number_of as answer-of
 use Rattle.network_machine.proofs.outcome.number_of.Symbol as answer-of-def
 use Rattle.network_machine.proofs.outcome.number_of.Symbol.{name as #number-of}
 use Rattle.network_machine.proofs.outcome.number_of.Met as answer-of-thm
-use Rattle.network_machine.proofs.in_place.figrummy_wait_in_place.Key.{name as #figrummy-wait-in-place}
-use Rattle.network_machine.proofs.in_place.figrummy_wait_in_place as f
-use Rattle.network_machine.proofs.in_place.figrummy_wait_in_place.Statement as stated
-use Rattle.network_machine.proofs.in_place.figrummy_wait_in_place.Code as code
+use Rattle.network_in_place.proofs.in_place.figrummy_wait_in_place.Key.{name as #figrummy-wait-in-place}
+use Rattle.network_in_place.proofs.in_place.figrummy_wait_in_place as f
+use Rattle.network_in_place.proofs.in_place.figrummy_wait_in_place.Statement as stated
+use Rattle.network_in_place.proofs.in_place.figrummy_wait_in_place.Code as code
 
 abbrev stayed : Stays (f.ended .signature .params) (f.ended .kept)
 stayed = (stay-none-slice (0 ∷ []) tt (plain (λ _. u8)) yes, (stay-ref (1 ∷ []) tt (plain (λ _. T.the-row)), (stay-none (λ _. u32) yes, tt)))
@@ -184,5 +184,5 @@ figrummy-wait-in-place-spec 𝓤 H 𝓜 𝓖 𝓡 =
     (tables 𝓤 H 𝓜 𝓡 code.env .C) (tables 𝓤 H 𝓜 𝓡 code.env .Λ) #figrummy-wait-in-place code.function (code.unfolded 𝓤 H 𝓜 𝓡)
     (f-meets 𝓤 H (𝓖 .A) (givenOf 𝓤 H 𝓜 𝓖) (𝓜 .mem) (𝓡 .run) (tablesOf 𝓤 H 𝓜 (tables 𝓤 H 𝓜 𝓡 code.env))
     (cited 𝓤 H (Wait 𝓤 H (𝓖 .A) (𝓜 .mem) (𝓡 .run)) 𝓜 𝓡 code.env #wait wait-def.routine code.calls-network-machine·operation·wait (wait-thm.met 𝓤 H 𝓜 𝓖 𝓡))
-    (cited 𝓤 H (ConfigOf 𝓤 H (𝓖 .A) (𝓜 .mem) (𝓡 .run)) 𝓜 𝓡 code.env #configuration-of config-of-def.routine code.calls-network-machine·outcome·configuration-of (config-of-thm.met 𝓤 H 𝓜 𝓖 𝓡))
+    (cited 𝓤 H (ConfigOf 𝓤 H (𝓖 .A) (𝓜 .mem) (𝓡 .run)) 𝓜 𝓡 code.env #configuration-of config-of-def.routine code.calls-network-in-place·in-place·configuration-of (config-of-thm.met 𝓤 H 𝓜 𝓖 𝓡))
     (cited 𝓤 H (AnswerOf 𝓤 H (𝓖 .A) (𝓜 .mem) (𝓡 .run)) 𝓜 𝓡 code.env #number-of answer-of-def.routine code.calls-network-machine·outcome·number-of (answer-of-thm.met 𝓤 H 𝓜 𝓖 𝓡)))

@@ -1,10 +1,10 @@
 use Rattle.network_moves.specs.Machine.{startOf}
 use Rattle.network_machine.specs.Answers.{zeroConfiguration}
 use mathlib.Core.Path.{_∙_}
-use Rattle.network_machine.proofs.Verdicts.{over-done, over-refused}
+use Rattle.network_in_place.proofs.Verdicts.{over-done, over-refused}
 use borrow.Author.Needs.{needs}
-use Rattle.network_machine.proofs.in_place.start_over.Statement.{statement}
-use Rattle.network_machine.proofs.in_place.start_over.Tie as tie
+use Rattle.network_in_place.proofs.in_place.start_over.Statement.{statement}
+use Rattle.network_in_place.proofs.in_place.start_over.Tie as tie
 
 start-requires : tie.Need-start-requires
 start-requires c κs = search needs

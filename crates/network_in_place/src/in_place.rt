@@ -3,18 +3,26 @@
 ghost use mathlib.Core.Path.{_≡_};
 ghost use Rattle.clocks.specs.Longest.{Tells};
 ghost use Rattle.network_moves.specs.Machine.{startOf, stepOf, waitOf, longestOf};
-ghost use Rattle.network_machine.specs.Answers.{outcomeOf, Moves};
-use crate::operation::longest;
-use crate::operation::start;
-use crate::operation::step;
-use crate::operation::wait;
-use crate::outcome::Outcome;
-use crate::outcome::configuration_of;
-use crate::outcome::number_of;
-use crate::outcome::refused;
+ghost use Rattle.network_machine.specs.Answers.{outcomeOf};
+ghost use Rattle.network_in_place.specs.Moves.{Moves};
 use clocks::left::tell;
+use network_machine::operation::longest;
+use network_machine::operation::start;
+use network_machine::operation::step;
+use network_machine::operation::wait;
+use network_machine::outcome::Outcome;
+use network_machine::outcome::number_of;
+use network_machine::outcome::refused;
 use network_moves::configuration::Configuration;
 use reading::verdict::Verdict;
+
+// The configuration after a call.
+pub fn configuration_of(m: Outcome) -> Configuration
+    ensures { λ r. ⌜ r ≡ m .configuration ⌝ }
+{
+    let c = m.configuration;
+    c
+}
 
 // The configuration in which a network starts, in the place of c.
 fn start_over(file: &[u8], c: Configuration) -> Outcome

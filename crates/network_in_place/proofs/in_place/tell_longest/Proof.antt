@@ -1,7 +1,7 @@
 use Rattle.network_moves.specs.Machine.{longestOf}
 use borrow.Author.Needs.{needs}
-use Rattle.network_machine.proofs.in_place.tell_longest.Statement.{statement}
-use Rattle.network_machine.proofs.in_place.tell_longest.Tie as tie
+use Rattle.network_in_place.proofs.in_place.tell_longest.Statement.{statement}
+use Rattle.network_in_place.proofs.in_place.tell_longest.Tie as tie
 
 longest-requires : tie.Need-longest-requires
 longest-requires c κs = search needs

@@ -42,15 +42,15 @@ use Rattle.network_moves.specs.Machine.{longestOf}
 use Rattle.clocks.specs.Longest.{Tells}
 use Rattle.network_moves.proofs.configuration.Configuration as T
 use Rattle.network_moves.proofs.configuration.Configuration.Laws as T′
-use Rattle.network_machine.proofs.in_place.tell_longest as tell
-use Rattle.network_machine.proofs.in_place.tell_longest.Symbol as tell-def
-use Rattle.network_machine.proofs.in_place.tell_longest.Symbol.{name as #tell-longest}
-use Rattle.network_machine.proofs.in_place.tell_longest.Met as tell-thm
-use Rattle.network_machine.proofs.InPlace.{val, sv, pv}
-use Rattle.network_machine.proofs.in_place.figrummy_longest_wait_in_place.Key.{name as #figrummy-longest-wait-in-place}
-use Rattle.network_machine.proofs.in_place.figrummy_longest_wait_in_place as f
-use Rattle.network_machine.proofs.in_place.figrummy_longest_wait_in_place.Statement as stated
-use Rattle.network_machine.proofs.in_place.figrummy_longest_wait_in_place.Code as code
+use Rattle.network_in_place.proofs.in_place.tell_longest as tell
+use Rattle.network_in_place.proofs.in_place.tell_longest.Symbol as tell-def
+use Rattle.network_in_place.proofs.in_place.tell_longest.Symbol.{name as #tell-longest}
+use Rattle.network_in_place.proofs.in_place.tell_longest.Met as tell-thm
+use Rattle.network_in_place.proofs.InPlace.{val, sv, pv}
+use Rattle.network_in_place.proofs.in_place.figrummy_longest_wait_in_place.Key.{name as #figrummy-longest-wait-in-place}
+use Rattle.network_in_place.proofs.in_place.figrummy_longest_wait_in_place as f
+use Rattle.network_in_place.proofs.in_place.figrummy_longest_wait_in_place.Statement as stated
+use Rattle.network_in_place.proofs.in_place.figrummy_longest_wait_in_place.Code as code
 
 abbrev stayed : Stays (f.ended .signature .params) (f.ended .kept)
 stayed = (stay-none-slice (0 ∷ []) tt (plain (λ _. u8)) yes, (stay-none-ref (1 ∷ []) tt (plain (λ _. T.the-row)) yes, (gave-ref (2 ∷ []) tt (plain (λ _. u32)), tt)))
@@ -160,4 +160,4 @@ figrummy-longest-wait-in-place-spec 𝓤 H 𝓜 𝓖 𝓡 =
     entered 𝓤 H (tripleOf 𝓤 H (𝓖 .A) f.signature (f.spec 𝓤 H (𝓖 .A) (𝓜 .mem) (𝓡 .run)))
     (tables 𝓤 H 𝓜 𝓡 code.env .C) (tables 𝓤 H 𝓜 𝓡 code.env .Λ) #figrummy-longest-wait-in-place code.function (code.unfolded 𝓤 H 𝓜 𝓡)
     (f-meets 𝓤 H (𝓖 .A) (givenOf 𝓤 H 𝓜 𝓖) (𝓜 .mem) (𝓡 .run) (tablesOf 𝓤 H 𝓜 (tables 𝓤 H 𝓜 𝓡 code.env))
-    (cited 𝓤 H (Tell 𝓤 H (𝓖 .A) (𝓜 .mem) (𝓡 .run)) 𝓜 𝓡 code.env #tell-longest tell-def.routine code.calls-network-machine·in-place·tell-longest (tell-thm.met 𝓤 H 𝓜 𝓖 𝓡)))
+    (cited 𝓤 H (Tell 𝓤 H (𝓖 .A) (𝓜 .mem) (𝓡 .run)) 𝓜 𝓡 code.env #tell-longest tell-def.routine code.calls-network-in-place·in-place·tell-longest (tell-thm.met 𝓤 H 𝓜 𝓖 𝓡)))
