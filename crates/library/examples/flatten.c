@@ -2,6 +2,7 @@
  * Checks and flattens the sample `nested`, and takes two steps with its chart and the four moves that they are of its network.
  * Written to standard output: what each call answers, where the machines are after it, and how long they may wait.
  */
+#include <stdbool.h>
 #include <stdio.h>
 
 #include "figrummy.h"
@@ -9,7 +10,7 @@
 struct chart {
     uint8_t file[FIGRUMMY_CHART_BYTES + 1];
     size_t length;
-    bool active[FIGRUMMY_STATES];
+    uint8_t active[FIGRUMMY_STATES];
     int32_t variables[FIGRUMMY_VARIABLES];
     uint32_t clocks[FIGRUMMY_CLOCKS];
 };
@@ -114,6 +115,10 @@ int main(int count, char **arguments)
     }
     if (!open_sample(arguments[1]))
         return 1;
+    /* A byte that is neither 0 nor 1 does not say whether the state is active, so no configuration is lent. */
+    chart.active[1] = 2;
+    step_chart(0);
+    chart.active[1] = 1;
     /* Into the composite: the network's second move is the urgent one, from "pre" on. Before it the network may not wait. */
     step_chart(0);
     step_network((const uint16_t[]){0}, 1);

@@ -9,8 +9,7 @@
  * its first element and the number of its elements; it is read, never written, and every call checks a file from its first byte
  * to its last. What a function writes, it is lent by a pointer: during the call nobody else may read or write it. What it is
  * lent by a pointer to const it reads and does not write. No two things given to one call may share memory where one of them
- * is written. A pointer is never null and is aligned; where the number of elements is 0, any such pointer will do. A bool is 0
- * or 1.
+ * is written. A pointer is never null and is aligned; where the number of elements is 0, any such pointer will do.
  *
  * Charts and networks have versions 1 and 2, told by the first byte of the file; version 2 has advances. Every function takes
  * both, and the network of a chart has the version of the chart.
@@ -26,15 +25,12 @@
 
 #include <stddef.h>
 #include <stdint.h>
-#ifndef __cplusplus
-#include <stdbool.h>
-#endif
 
 #ifdef __cplusplus
 extern "C" {
 #endif
 
-/* The numbers of elements of what is lent. What a chart or a network does not declare is 0 (false). */
+/* The numbers of elements of what is lent. What a chart or a network does not declare is 0. */
 #ifndef FIGRUMMY_SIZES
 #define FIGRUMMY_SIZES
 enum {
@@ -69,8 +65,9 @@ uint8_t figrummy_check_chart(const uint8_t *file, size_t file_length);
 uint8_t figrummy_flatten(const uint8_t *file, size_t file_length, uint8_t *out, size_t out_length, size_t *size);
 
 /*
- * A chart's configuration: which states are active, the variables, the clocks. Refusals of the next four functions: those of
- * the check, then in order
+ * A chart's configuration: a byte for each state, 1 where it is active and 0 where it is not, the variables, the clocks. Any
+ * bytes may be lent: one that is neither 0 nor 1, also that of a state that the chart does not have, is refused by 17. Refusals
+ * of the next four functions: those of the check, then in order
  *   17  the configuration is not one of this chart, or breaks a bound (step, wait, longest wait)
  *   18  the list is not 1 to 16 numbers of transitions, strictly ascending (step)
  *   19  a transition of the list is not active (step)
@@ -81,23 +78,23 @@ uint8_t figrummy_flatten(const uint8_t *file, size_t file_length, uint8_t *out, 
  */
 
 /* The configuration in which the chart starts. What is lent need not be a configuration before. */
-uint8_t figrummy_start_chart(const uint8_t *file, size_t file_length, bool active[FIGRUMMY_STATES],
+uint8_t figrummy_start_chart(const uint8_t *file, size_t file_length, uint8_t active[FIGRUMMY_STATES],
                              int32_t variables[FIGRUMMY_VARIABLES], uint32_t clocks[FIGRUMMY_CLOCKS]);
 
 /* One step by the transitions whose numbers, from 0 in the order of the file, are in the list. */
-uint8_t figrummy_step_chart(const uint8_t *file, size_t file_length, bool active[FIGRUMMY_STATES],
+uint8_t figrummy_step_chart(const uint8_t *file, size_t file_length, uint8_t active[FIGRUMMY_STATES],
                             int32_t variables[FIGRUMMY_VARIABLES], uint32_t clocks[FIGRUMMY_CLOCKS],
                             const uint16_t *list, size_t list_length);
 
 /* A wait of so many ticks. */
-uint8_t figrummy_wait_chart(const uint8_t *file, size_t file_length, bool active[FIGRUMMY_STATES],
+uint8_t figrummy_wait_chart(const uint8_t *file, size_t file_length, uint8_t active[FIGRUMMY_STATES],
                             int32_t variables[FIGRUMMY_VARIABLES], uint32_t clocks[FIGRUMMY_CLOCKS], uint32_t ticks);
 
 /*
  * The longest wait, into *ticks: a wait is accepted exactly for 1 tick up to so many. It is 0 where no wait is accepted, at most
  * 2,147,483,647 less the greatest clock, and 4,294,967,295 where the chart has no clock. On a refusal *ticks stays as it was.
  */
-uint8_t figrummy_longest_wait_chart(const uint8_t *file, size_t file_length, const bool active[FIGRUMMY_STATES],
+uint8_t figrummy_longest_wait_chart(const uint8_t *file, size_t file_length, const uint8_t active[FIGRUMMY_STATES],
                                     const int32_t variables[FIGRUMMY_VARIABLES], const uint32_t clocks[FIGRUMMY_CLOCKS],
                                     uint32_t *ticks);
 

@@ -1,2 +1,3 @@
 -- Laws of the exported functions.
+pub mod Lending
 pub mod Outcomes

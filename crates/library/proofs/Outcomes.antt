@@ -4,16 +4,13 @@ use Prim.Native.Nat.{ℕ}
 use mathlib.Core.List.{List}
 use native.Mathlib.Omega.{arith}
 use Rattle.reading.specs.Answer.{Answer, done, refused}
-use Rattle.chart_moves.specs.declared.configuration.Configuration.{Configuration}
-use Rattle.chart_machine.specs.declared.operation.Outcome.{Outcome}
 use Rattle.reading.specs.Verdict.{verdictOf, verdictNumber, orKept}
 use Rattle.reading.specs.declared.verdict.Verdict.{Verdict}
 use Rattle.reading.specs.declared.verdict.Verdict.the-variants as Vd
 use Rattle.reading.proofs.Verdicts.{was-done, was-refused}
-use Rattle.chart_machine.specs.Outcomes.{outcomeOf}
-use Rattle.network_machine.specs.Answers.{outcomeOf as networkOutcomeOf}
+use Rattle.network_machine.specs.Answers.{outcomeOf}
 use Rattle.network_moves.specs.declared.configuration.Configuration as net
-use Rattle.network_machine.specs.declared.outcome.Outcome.{Outcome as NetworkOutcome}
+use Rattle.network_machine.specs.declared.outcome.Outcome.{Outcome}
 use Rattle.flattener.specs.declared.operation.Flattened.{Flattened}
 use Rattle.flattener.specs.declared.operation.Flattened.the-variants as Fl
 use Rattle.flattener.specs.Outcomes.{flattenedOf}
@@ -34,39 +31,19 @@ pub checked-number : {A : Type 0} (a : Answer A) {v : Verdict} → v ≡ verdict
 unfolding numberOf
 checked-number a e = ap verdictNumber e
 
--- charts: the number, and what is lent to a call on σ
-module _ (σ : Configuration) (a : Answer Configuration) {o : Outcome} (e : o ≡ outcomeOf σ a) where
-  verdict-is : o .verdict ≡ verdictOf a
-  unfolding outcomeOf
-  verdict-is = ap (λ (p : Outcome). p .verdict) e
-
-  pub chart-number : verdictNumber (o .verdict) ≡ numberOf a
-  chart-number = checked-number a verdict-is
-
-  pub chart-after : o .configuration ≡ after σ a
-  unfolding outcomeOf after
-  chart-after = ap (λ (p : Outcome). p .configuration) e
-
-  -- where another configuration is lent
-  pub chart-passed : (given : Configuration) → o .verdict ≡ Vd.Done → (0 ≡ numberOf a) × (o .configuration ≡ after given a)
-  unfolding after
-  chart-passed given h = lent-passed given a verdict-is σ chart-after h
-
-  pub chart-refused : (given : Configuration) {k : ℕ} → o .verdict ≡ Vd.Refused k → given ≡ after given a
-  chart-refused given h = lent-refused given a verdict-is h
-
--- networks: the same
-module _ (σ : net.Configuration) (a : Answer net.Configuration) {o : NetworkOutcome} (e : o ≡ networkOutcomeOf σ a) where
+-- networks: the number, and what is lent to a call on σ
+module _ (σ : net.Configuration) (a : Answer net.Configuration) {o : Outcome} (e : o ≡ outcomeOf σ a) where
   network-verdict : o .verdict ≡ verdictOf a
-  network-verdict = ap (λ (p : NetworkOutcome). p .verdict) e
+  network-verdict = ap (λ (p : Outcome). p .verdict) e
 
   pub network-number : verdictNumber (o .verdict) ≡ numberOf a
   network-number = checked-number a network-verdict
 
-  pub network-after : o .configuration ≡ after σ a
+  network-after : o .configuration ≡ after σ a
   unfolding after
-  network-after = ap (λ (p : NetworkOutcome). p .configuration) e
+  network-after = ap (λ (p : Outcome). p .configuration) e
 
+  -- where another configuration is lent
   pub network-passed : (given : net.Configuration) → o .verdict ≡ Vd.Done → (0 ≡ numberOf a) × (o .configuration ≡ after given a)
   unfolding after
   network-passed given h = lent-passed given a network-verdict σ network-after h
