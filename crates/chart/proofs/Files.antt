@@ -18,7 +18,7 @@ use Rattle.reading.specs.declared.field.Fault.the-variants as Fl
 use Rattle.reading.proofs.Answer.{unless-at, then-at as then-at-answer, done-injective}
 use Rattle.reading.proofs.Reading.{got-rest, bind-at, then-at, yield-at, many-at, mapped-got, mapped-at, fault-at}
 use Rattle.reading.proofs.Places.{bind-got, bind-fault, then-got, then-fault, end-none, end-some, onward-onward, part-onward, length-onward}
-use Rattle.chart_records.specs.Chart.{Chart, State, Transition, state, records, numbered, headed, inRange, countsOf, readChart}
+use Rattle.chart_records.specs.Chart.{Chart, State, Transition, state, records, numbered, inRange, countsOf, readChart}
 use Rattle.chart_records.specs.Rules.{parents, siblings, stateRules, transitionRules, keepsRules, chartOf}
 use Rattle.chart_records.specs.Layout.{transitionBy, once}
 use Rattle.chart_records.specs.Laid.{Placed, Laid}
