@@ -32,14 +32,14 @@ shown-of c σ t active T r a = record { rooted = rooted-of c t T r; kind = T .ki
 
 -- how the active states lie
 module _ (c : Chart) (σ : Configuration) (above kinds : List ℕ) (active : List Bool) (S : Shown c σ above kinds active) where
-  active-is : (s : ℕ) {b : Bool} → b ≡ getD active s false → isActive σ s ≡ b
+  pub active-is : (s : ℕ) {b : Bool} → b ≡ getD active s false → isActive σ s ≡ b
   unfolding isActive
   active-is s e = ap (λ (l : List Bool). getD l s false) (S .set) ∙ sym e
 
-  above-is : (s : ℕ) {p : ℕ} → s < size c → p ≡ getD above s 0 → parentOf c s ≡ p
+  pub above-is : (s : ℕ) {p : ℕ} → s < size c → p ≡ getD above s 0 → parentOf c s ≡ p
   above-is s h e = sym (e ∙ parent-at c above (S .rooted) s (omega (arith, S .rooted .few)))
 
-  kind-is : (s : ℕ) {k : ℕ} → s < size c → k ≡ getD kinds s 0 → stateAt c s .kind ≡ k
+  pub kind-is : (s : ℕ) {k : ℕ} → s < size c → k ≡ getD kinds s 0 → stateAt c s .kind ≡ k
   kind-is s h e = sym (e ∙ S .kind s (omega (arith, S .rooted .few)))
 
   pub linked-root : (s : ℕ) → s ≡ 0 → true ≡ linked c σ s
