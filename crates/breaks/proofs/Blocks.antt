@@ -12,12 +12,13 @@ use Rattle.lists.specs.Lists.{all, below, range}
 use Rattle.lists.proofs.Bools.{and-l, and-r, cond-yes, cond-no, decided}
 use Rattle.lists.proofs.Lists.{all-more, all-not}
 use Rattle.lists.proofs.Below.{below-more, all-below, below-at}
-use Rattle.breaks.specs.Breaks.{inWindow, climbs}
-use Rattle.breaks.specs.Passes.{at, Climbs, Bounded, Found, Sought, climbsAt, blockClimbs, apart, quietAt, blockQuiet, PassedTo, grownWhere}
+use Rattle.break_windows.specs.Breaks.{inWindow, climbs}
+use Rattle.break_windows.specs.Found.{at, Climbs, Bounded, Found, Sought}
+use Rattle.breaks.specs.Passes.{climbsAt, blockClimbs, apart, quietAt, blockQuiet, PassedTo, grownWhere}
 use Rattle.breaks.specs.declared.pass.Passed.{Passed}
-use Rattle.breaks.proofs.Climbing.{climbs-places, climbs-falls}
-use Rattle.breaks.proofs.Windows.{in-window, window-in, window-out}
-use Rattle.breaks.proofs.Passing.{found-grown, found-is, sought-is, sought-found, sought-same}
+use Rattle.break_windows.proofs.Climbing.{climbs-places, climbs-falls}
+use Rattle.break_windows.proofs.Windows.{in-window, window-in, window-out}
+use Rattle.break_windows.proofs.Passing.{found-grown, found-is, sought-is, sought-found, sought-same}
 
 -- a test of the numbers below a bound, one by one
 pub tested-none : (p : ℕ → Bool) → true ≡ all p (below 0)

@@ -1,7 +1,3 @@
 -- Laws of the definitions of this crate.
-pub mod Climbing
-pub mod Windows
-pub mod Passing
+pub mod Passes
 pub mod Blocks
-pub mod Appended
-pub mod Told

@@ -1,52 +1,19 @@
--- What the functions of the pass answer on the way.
-use Prim.Native.Nat.{ℕ, suc, _+_, _-_, _≤_, _<_}
+-- What the functions of the pass answer.
+use Prim.Native.Nat.{ℕ, _+_, _-_}
 use mathlib.Core.Path.{_≡_}
 use mathlib.Core.Bool.{Bool, true, false, cond, _&&_}
 use mathlib.Core.List.{List}
 use lib.Dec.{leb, ltb, eqb}
-use lib.ListN.{length, getD}
+use lib.ListN.{length}
 use Rattle.lists.specs.Lists.{all, below}
-use Rattle.breaks.specs.Breaks.{inWindow, counted, climbs}
-use Rattle.breaks.specs.declared.window.Best.{Best}
+use Rattle.reading.specs.Answer.{Answer, done, refused}
+use Rattle.break_windows.specs.Breaks.{counted, climbs}
+use Rattle.break_windows.specs.Found.{at, Climbs, Found, Sought}
+use Rattle.break_windows.specs.declared.window.Best.{Best}
 use Rattle.breaks.specs.declared.pass.Passed.{Passed}
 use Rattle.breaks.specs.declared.pass.Passed.the-variants as Pa
-
--- the tick at a place
-abbrev pub at : List ℕ → ℕ → ℕ
-at ts i = getD ts i 0
-
--- no tick before place n is smaller than the one before it
-abbrev pub Climbs : List ℕ → ℕ → Type 0
-Climbs ts n = (i : ℕ) → suc i < n → at ts i ≤ at ts (suc i)
-
--- none of the windows of w ticks within the first n has more than m breaks
-pub record Bounded (w : ℕ) (ts : List ℕ) (n m : ℕ) : Type 0 where
-  pub climb : Climbs ts n
-  pub reach : m ≤ n
-  pub fewer : (i : ℕ) → i + m < n → at ts i + w ≤ at ts (i + m)
-
--- and m is the most breaks of one, f the first tick of the earliest window with so many
-pub record Found (w : ℕ) (ts : List ℕ) (n m f : ℕ) : Type 0 where
-  pub bound : Bounded w ts n m
-  -- the window begins at the break at place `start`, and has m breaks
-  pub start : ℕ
-  pub some : 1 ≤ m
-  pub passed : start + m ≤ n
-  pub begins : at ts start ≡ f
-  pub fits : at ts (start + (m - 1)) < f + w
-  -- none that begins earlier has as many
-  pub earliest : (i : ℕ) → i < start → at ts i + w ≤ at ts (i + (m - 1))
-
--- the same, where windows of up to c breaks are passed over
-pub record Sought (w : ℕ) (ts : List ℕ) (n c m f : ℕ) : Type 0 where
-  pub bounded : Bounded w ts n m
-  pub some : 1 ≤ m
-  pub least : c ≤ m
-  pub found : c < m → Found w ts n m f
-
--- some window has m breaks, the last of them before place e
-abbrev pub Reaches : ℕ → List ℕ → ℕ → Type 0
-Reaches w ts m = (1 ≤ m) × ((e : ℕ) × (m ≤ e) × (e ≤ length ts) × (inWindow w (at ts (e - m)) (at ts (e - 1)) ≡ true))
+use Rattle.breaks.specs.declared.busiest.Counted.{Counted}
+use Rattle.breaks.specs.declared.busiest.Counted.the-variants as Co
 
 -- what a pass up to place n has found, or that the list falls
 abbrev pub PassedTo : ℕ → List ℕ → ℕ → ℕ → Passed → Type 0
@@ -91,3 +58,8 @@ blockQuiet w m ts from = all (λ k. quietAt w m ts (from + k)) (below 32)
 abbrev pub grownWhere : Bool → ℕ → ℕ → Passed
 grownWhere true m s = Pa.To (counted (m + 32) s)
 grownWhere false m s = Pa.Falls
+
+-- what the operation answers
+abbrev pub told : Answer Best → Counted
+told (done b) = Co.Breaks b
+told (refused k) = Co.Refused k

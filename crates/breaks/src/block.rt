@@ -3,11 +3,12 @@
 ghost use mathlib.Core.Path.{_≡_};
 ghost use Prim.Native.Nat.{ℕ, _+_, _≤_, _<_};
 ghost use lib.ListN.{length};
-ghost use Rattle.breaks.specs.Passes.{Sought, PassedTo, climbsAt, blockClimbs, apart, quietAt, blockQuiet, grownWhere};
+ghost use Rattle.break_windows.specs.Found.{Sought};
+ghost use Rattle.breaks.specs.Passes.{PassedTo, climbsAt, blockClimbs, apart, quietAt, blockQuiet, grownWhere};
 use crate::pass::Passed;
 use crate::pass::pass;
-use crate::window::Best;
-use crate::window::in_window;
+use break_windows::window::Best;
+use break_windows::window::in_window;
 
 // Whether the tick at a place is not smaller than the one before it.
 pub fn climbs_at(ticks: &[u32], i: usize) -> bool

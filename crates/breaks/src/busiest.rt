@@ -3,16 +3,17 @@
 ghost use mathlib.Core.Path.{_≡_};
 ghost use Prim.Native.Nat.{ℕ, _≤_};
 ghost use lib.ListN.{length};
-ghost use Rattle.breaks.specs.Breaks.{busiestOf, told, Tells};
+ghost use Rattle.break_windows.specs.Breaks.{busiestOf, Tells};
+ghost use Rattle.breaks.specs.Passes.{told, PassedTo, PassedAll, firstBest};
 ghost use Rattle.reading.specs.Answer.{Answer};
-ghost use Rattle.breaks.specs.declared.window.Best.{Best};
-ghost use Rattle.breaks.specs.Passes.{at, Sought, PassedTo, PassedAll, firstBest};
+ghost use Rattle.break_windows.specs.declared.window.Best.{Best};
+ghost use Rattle.break_windows.specs.Found.{at, Sought};
 use crate::block::pass_block;
 use crate::order::climbs_to;
 use crate::pass::Passed;
 use crate::pass::pass;
 use crate::reached::reached;
-use crate::window::Best;
+use break_windows::window::Best;
 
 pub enum Counted {
     Breaks(Best),

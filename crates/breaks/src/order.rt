@@ -1,7 +1,8 @@
 // The order of the first ticks.
 ghost use Prim.Native.Nat.{_≤_};
 ghost use lib.ListN.{length};
-ghost use Rattle.breaks.specs.Passes.{Climbs, OrderedTo};
+ghost use Rattle.break_windows.specs.Found.{Climbs};
+ghost use Rattle.breaks.specs.Passes.{OrderedTo};
 use crate::block::block_climbs;
 use crate::block::climbs_at;
 

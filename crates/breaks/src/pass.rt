@@ -3,9 +3,10 @@
 // one more.
 ghost use Prim.Native.Nat.{ℕ, _≤_};
 ghost use lib.ListN.{length};
-ghost use Rattle.breaks.specs.Passes.{Sought, PassedTo};
-use crate::window::Best;
-use crate::window::in_window;
+ghost use Rattle.break_windows.specs.Found.{Sought};
+ghost use Rattle.breaks.specs.Passes.{PassedTo};
+use break_windows::window::Best;
+use break_windows::window::in_window;
 
 // What a pass found, or that a tick is smaller than the one before it.
 pub enum Passed {

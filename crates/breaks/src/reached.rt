@@ -4,9 +4,9 @@ ghost use mathlib.Core.Path.{_≡_};
 ghost use mathlib.Core.Bool.{true};
 ghost use Prim.Native.Nat.{_-_, _≤_, max};
 ghost use lib.ListN.{length};
-ghost use Rattle.breaks.specs.Breaks.{inWindow};
-ghost use Rattle.breaks.specs.Passes.{at, Reaches};
-use crate::window::in_window;
+ghost use Rattle.break_windows.specs.Breaks.{inWindow};
+ghost use Rattle.break_windows.specs.Found.{at, Reaches};
+use break_windows::window::in_window;
 
 // How far apart the windows end.
 const APART: usize = 16384;

@@ -1,5 +1,5 @@
 // Weft breaks.
-ghost use Rattle.breaks.specs.Breaks.{busiestOf, Tells};
+ghost use Rattle.break_windows.specs.Breaks.{busiestOf, Tells};
 use breaks::busiest::busiest;
 use breaks::busiest::tell;
 

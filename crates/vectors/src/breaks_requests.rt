@@ -1,8 +1,8 @@
 // Requests to count weft breaks in a window.
 use answers::output;
+use break_windows::window::Best;
 use breaks::busiest::Counted;
 use breaks::busiest::busiest;
-use breaks::window::Best;
 use requests::ticks::fill_ticks;
 
 // More ticks than a request can have: it has 131,072 bytes at most, and a tick has four.

@@ -8,7 +8,7 @@ use borrow.Author.Tests.{eq-eqb, ne-eqb}
 use lib.ListN.{length, getD, take}
 use lib.Seq.{take-suc, take-all}
 use Rattle.lists.proofs.Bools.{cond-yes, cond-no}
-use Rattle.breaks.specs.Breaks.{mostBreaks, climbs}
+use Rattle.break_windows.specs.Breaks.{mostBreaks, climbs}
 use Rattle.weft_breaks.specs.Lines.{withByte, endedTick}
 use Rattle.weft_breaks.specs.Rings.{Holds, AddedTo}
 use Rattle.weft_breaks.specs.Inputs.{Said, said, lineEnded, byteSaid, bytesSaid, ReadTo, TakenTo}

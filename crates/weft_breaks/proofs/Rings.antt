@@ -11,10 +11,10 @@ use lib.Dec.{leb, ltb}
 use lib.ListN.{length, getD, set, length-set, List·getD-append}
 use lib.Seq.{getD-set-same, getD-set-other, getD-append-seam}
 use Rattle.lists.proofs.Bools.{decided, cond-yes, cond-no}
-use Rattle.breaks.specs.Breaks.{inWindow, mostBreaks}
-use Rattle.breaks.specs.Passes.{at, Found}
-use Rattle.breaks.proofs.Appended.{one-longer, found-first, found-end-grown, found-end-same}
-use Rattle.breaks.proofs.Passing.{most}
+use Rattle.break_windows.specs.Breaks.{inWindow, mostBreaks}
+use Rattle.break_windows.specs.Found.{at, Found}
+use Rattle.break_windows.proofs.Appended.{one-longer, found-first, found-end-grown, found-end-same}
+use Rattle.break_windows.proofs.Passing.{most}
 use Rattle.weft_breaks.specs.Rings.{placeOf, nextPlace, noTicks, Ring, Holds}
 use Rattle.weft_breaks.specs.declared.recent.Recent.{Recent}
 

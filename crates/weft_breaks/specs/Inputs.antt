@@ -5,7 +5,7 @@ use mathlib.Core.List.{List, [], _∷_, _++_}
 use Prim.Native.Nat.{ℕ, _<_}
 use lib.Dec.{eqb}
 use lib.ListN.{take}
-use Rattle.breaks.specs.Breaks.{mostBreaks, climbs}
+use Rattle.break_windows.specs.Breaks.{mostBreaks, climbs}
 use Rattle.weft_breaks.specs.Lines.{withByte, endedTick}
 use Rattle.weft_breaks.specs.Rings.{Holds}
 use Rattle.weft_breaks.specs.declared.line.Line.{Line}

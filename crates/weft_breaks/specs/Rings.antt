@@ -5,8 +5,8 @@ use mathlib.Core.List.{List}
 use Prim.Native.Nat.{ℕ, _+_, _-_, _≤_, _<_, min}
 use lib.Dec.{leb, ltb}
 use lib.ListN.{length, getD}
-use Rattle.breaks.specs.Breaks.{mostBreaks, climbs}
-use Rattle.breaks.specs.Passes.{at, Found}
+use Rattle.break_windows.specs.Breaks.{mostBreaks, climbs}
+use Rattle.break_windows.specs.Found.{at, Found}
 use Rattle.weft_breaks.specs.declared.recent.Recent.{Recent}
 use Rattle.weft_breaks.specs.declared.recent.Added.{Added}
 use Rattle.weft_breaks.specs.declared.recent.Added.the-variants as Ad

@@ -4,7 +4,7 @@ ghost use mathlib.Core.Path.{_≡_};
 ghost use mathlib.Core.List.{List, [], _∷_, _++_};
 ghost use Prim.Native.Nat.{ℕ, _≤_, _<_};
 ghost use Rattle.weft_breaks.specs.Rings.{placeOf, nextPlace, noTicks, Ring, Holds, AddedTo};
-use breaks::window::in_window;
+use break_windows::window::in_window;
 
 // The place of the ring that the next tick is put at, and how many it holds; the most breaks in a window so far, and the first
 // tick of the earliest window that has them.

@@ -1,7 +1,8 @@
 use mathlib.Core.Path.{ap, sym}
 use native.Mathlib.Omega.{arith}
-use Rattle.breaks.specs.Breaks.{told}
-use Rattle.breaks.proofs.Passing.{found-all, found-none, no-window, falling, all-found, all-falls}
+use Rattle.breaks.specs.Passes.{told}
+use Rattle.break_windows.proofs.Passing.{found-all, found-none, no-window, falling}
+use Rattle.breaks.proofs.Passes.{all-found, all-falls}
 use borrow.Author.Needs.{needs}
 use Rattle.breaks.proofs.busiest.busiest.Statement.{statement}
 use Rattle.breaks.proofs.busiest.busiest.Tie as tie

@@ -1,7 +1,7 @@
 use Prim.Native.Nat.{_-_}
 use native.Mathlib.Omega.{arith}
 use borrow.Author.Tests.{not-true, not-false}
-use Rattle.breaks.proofs.Passing.{first-some, first-sought, passed-all, ordered-yes, ordered-no}
+use Rattle.breaks.proofs.Passes.{first-some, first-sought, passed-all, ordered-yes, ordered-no}
 use borrow.Author.Needs.{needs}
 use Rattle.breaks.proofs.busiest.pass_all.Statement.{statement}
 use Rattle.breaks.proofs.busiest.pass_all.Tie as tie

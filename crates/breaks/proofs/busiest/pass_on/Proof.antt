@@ -2,8 +2,8 @@ use Prim.Native.Nat.{ℕ, _-_, _≤_}
 use native.Mathlib.Omega.{arith}
 use lib.ListN.{length}
 use borrow.Author.Needs.{needs}
-use Rattle.breaks.specs.Passes.{Sought}
-use Rattle.breaks.proofs.Passing.{passed-to, passed-falls}
+use Rattle.break_windows.specs.Found.{Sought}
+use Rattle.breaks.proofs.Passes.{passed-to, passed-falls}
 use Rattle.breaks.proofs.busiest.pass_on.Statement.{statement}
 use Rattle.breaks.proofs.busiest.pass_on.Tie as tie
 

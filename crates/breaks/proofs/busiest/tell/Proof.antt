@@ -1,6 +1,6 @@
 use mathlib.Core.Path.{refl, sym, _∙_}
 use borrow.Author.Needs.{needs}
-use Rattle.breaks.proofs.Told.{told-breaks, told-refused}
+use Rattle.breaks.proofs.Passes.{told-breaks, told-refused}
 use Rattle.breaks.proofs.busiest.tell.Statement.{statement}
 use Rattle.breaks.proofs.busiest.tell.Tie as tie
 

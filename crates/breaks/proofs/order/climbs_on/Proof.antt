@@ -3,8 +3,8 @@ use Prim.Native.Nat.{_-_, _≤_}
 use native.Mathlib.Omega.{arith}
 use lib.ListN.{length}
 use borrow.Author.Tests.{not-true, not-false, leb-false}
-use Rattle.breaks.specs.Passes.{Climbs}
-use Rattle.breaks.proofs.Climbing.{climbs-falls}
+use Rattle.break_windows.specs.Found.{Climbs}
+use Rattle.break_windows.proofs.Climbing.{climbs-falls}
 use Rattle.breaks.proofs.Blocks.{climbs-next, climbs-is}
 use Rattle.breaks.proofs.order.climbs_on.Statement.{statement}
 use Rattle.breaks.proofs.order.climbs_on.Tie as tie

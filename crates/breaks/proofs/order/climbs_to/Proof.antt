@@ -3,7 +3,7 @@ use Prim.Native.Nat.{_-_, _≤_}
 use native.Mathlib.Omega.{arith}
 use lib.ListN.{length}
 use borrow.Author.Tests.{not-true, not-false}
-use Rattle.breaks.specs.Passes.{Climbs}
+use Rattle.break_windows.specs.Found.{Climbs}
 use Rattle.breaks.proofs.Blocks.{block-climbs, block-falls}
 use Rattle.breaks.proofs.order.climbs_to.Statement.{statement}
 use Rattle.breaks.proofs.order.climbs_to.Tie as tie

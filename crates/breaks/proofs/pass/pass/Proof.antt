@@ -4,9 +4,9 @@ use Prim.Native.Nat.{ℕ, _-_, _≤_}
 use native.Mathlib.Omega.{arith}
 use lib.ListN.{length}
 use borrow.Author.Needs.{needs}
-use Rattle.breaks.specs.Passes.{Sought}
-use Rattle.breaks.proofs.Climbing.{climbs-falls}
-use Rattle.breaks.proofs.Passing.{sought-grown, sought-same, sought-is}
+use Rattle.break_windows.specs.Found.{Sought}
+use Rattle.break_windows.proofs.Climbing.{climbs-falls}
+use Rattle.break_windows.proofs.Passing.{sought-grown, sought-same, sought-is}
 use Rattle.breaks.proofs.pass.pass.Statement.{statement}
 use Rattle.breaks.proofs.pass.pass.Tie as tie
 

@@ -4,10 +4,10 @@ use Prim.Native.Nat.{_-_, _≤_, _<_}
 use native.Mathlib.Omega.{arith}
 use lib.ListN.{length}
 use borrow.Author.Needs.{needs}
-use Rattle.breaks.specs.Breaks.{inWindow}
-use Rattle.breaks.specs.Passes.{at}
-use Rattle.breaks.proofs.Windows.{in-window}
-use Rattle.breaks.proofs.Passing.{window-from}
+use Rattle.break_windows.specs.Breaks.{inWindow}
+use Rattle.break_windows.specs.Found.{at}
+use Rattle.break_windows.proofs.Windows.{in-window}
+use Rattle.break_windows.proofs.Passing.{window-from}
 use Rattle.breaks.proofs.reached.breaks_before.Statement.{statement}
 use Rattle.breaks.proofs.reached.breaks_before.Tie as tie
 

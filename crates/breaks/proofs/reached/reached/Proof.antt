@@ -2,8 +2,8 @@ use Prim.Native.Nat.{_-_, _≤_}
 use native.Mathlib.Omega.{arith}
 use lib.ListN.{length}
 use borrow.Author.Needs.{needs}
-use Rattle.breaks.specs.Passes.{Reaches}
-use Rattle.breaks.proofs.Passing.{reaches-one, reaches-more}
+use Rattle.break_windows.specs.Found.{Reaches}
+use Rattle.break_windows.proofs.Passing.{reaches-one, reaches-more}
 use Rattle.breaks.proofs.reached.reached.Statement.{statement}
 use Rattle.breaks.proofs.reached.reached.Tie as tie
 

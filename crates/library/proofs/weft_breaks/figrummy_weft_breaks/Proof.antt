@@ -1,4 +1,4 @@
-use Rattle.breaks.specs.Breaks.{busiestOf}
+use Rattle.break_windows.specs.Breaks.{busiestOf}
 use borrow.Author.Needs.{needs}
 use Rattle.library.proofs.weft_breaks.figrummy_weft_breaks.Statement.{statement}
 use Rattle.library.proofs.weft_breaks.figrummy_weft_breaks.Tie as tie

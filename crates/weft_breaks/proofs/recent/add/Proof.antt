@@ -1,7 +1,7 @@
 use mathlib.Core.Path.{sym, _∙_}
 use native.Mathlib.Omega.{arith}
 use borrow.Author.Tests.{not-true, not-false}
-use Rattle.breaks.proofs.Appended.{falls-end}
+use Rattle.break_windows.proofs.Appended.{falls-end}
 use Rattle.weft_breaks.proofs.Rings.{held-some, last-inside, start-inside, last-below, last-above, start-held, start-window, held-first, held-same, held-grown, held-full}
 use borrow.Author.Needs.{needs}
 use Rattle.weft_breaks.proofs.recent.add.Statement.{statement}

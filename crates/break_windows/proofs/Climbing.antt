@@ -12,9 +12,9 @@ use lib.Dec.{leb, ltb}
 use lib.ListN.{length}
 use Rattle.lists.specs.Lists.{keep}
 use Rattle.lists.proofs.Bools.{and-l, and-r, both, decided, fails}
-use Rattle.lists.proofs.Lists.{keep-none, keep-length}
-use Rattle.breaks.specs.Breaks.{climbs}
-use Rattle.breaks.specs.Passes.{at, Climbs}
+use Rattle.lists.proofs.Lists.{keep-none, keep-next, keep-left, keep-length}
+use Rattle.break_windows.specs.Breaks.{climbs}
+use Rattle.break_windows.specs.Found.{at, Climbs}
 
 -- the front of a list that climbs, and the rest of it
 pub climbs-tail : (x : ℕ) (xs : List ℕ) → climbs (x ∷ xs) ≡ true → climbs xs ≡ true
@@ -66,9 +66,13 @@ rank-none : (x y : ℕ) (ts : List ℕ) → climbs (y ∷ ts) ≡ true → x ≤
 unfolding rank
 rank-none x y ts h k = ap length (keep-none (λ t. ltb t x) (y ∷ ts) (λ z m. le-ltb z x (⊎-elim (λ e. omega arith) (λ n. omega (arith, climbs-above y ts h n)) (cases-cons m))))
 
-rank-more : (x y : ℕ) (ts : List ℕ) → y < x → rank x (y ∷ ts) ≡ suc (rank x ts)
-unfolding rank keep
-rank-more x y ts h = rw (lt-ltb y x h) refl
+pub rank-more : (x y : ℕ) (ts : List ℕ) → y < x → rank x (y ∷ ts) ≡ suc (rank x ts)
+unfolding rank
+rank-more x y ts h = ap length (keep-next (λ t. ltb t x) refl (lt-ltb y x h))
+
+pub rank-same : (x y : ℕ) (ts : List ℕ) → x ≤ y → rank x (y ∷ ts) ≡ rank x ts
+unfolding rank
+rank-same x y ts h = ap length (keep-left (λ t. ltb t x) refl (le-ltb y x h))
 
 -- where the list climbs, they are the numbers in front
 front-below : (x y : ℕ) (ts : List ℕ) → y < x → ((i : ℕ) → i < rank x ts → at ts i < x) → (i : ℕ) → i < rank x (y ∷ ts) → at (y ∷ ts) i < x

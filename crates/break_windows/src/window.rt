@@ -1,6 +1,6 @@
 // Windows of consecutive ticks.
 ghost use mathlib.Core.Path.{_≡_};
-ghost use Rattle.breaks.specs.Breaks.{inWindow};
+ghost use Rattle.break_windows.specs.Breaks.{inWindow};
 
 // The most breaks in a window, and the first tick of the earliest window that has so many and begins at a break.
 pub struct Best {

@@ -1,7 +1,7 @@
 use mathlib.Core.Path.{sym}
-use Rattle.breaks.proofs.Windows.{window-by, window-below}
-use Rattle.breaks.proofs.window.in_window.Statement.{statement}
-use Rattle.breaks.proofs.window.in_window.Tie as tie
+use Rattle.break_windows.proofs.Windows.{window-by, window-below}
+use Rattle.break_windows.proofs.window.in_window.Statement.{statement}
+use Rattle.break_windows.proofs.window.in_window.Tie as tie
 
 returns : tie.Need-returns
 returns c = sym (window-below _ _ _ (c .if1 .taken))

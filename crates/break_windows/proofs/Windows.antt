@@ -12,10 +12,10 @@ use lib.Dec.{leb, ltb, eqb}
 use lib.ListN.{length}
 use Rattle.lists.specs.Lists.{keep, elem}
 use Rattle.lists.proofs.Bools.{and-l, and-r, both, clash, decided, cond-yes, cond-no, fails, same}
-use Rattle.lists.proofs.Lists.{keep-none, keep-more, elem-at, elem-by}
-use Rattle.breaks.specs.Breaks.{inWindow, within, greatest, greatestOf, mostBreaks, mostAtBreaks, firstOf, firstWith, answered, busiestOf, busiestAtBreaks, climbs}
-use Rattle.breaks.specs.Passes.{at}
-use Rattle.breaks.proofs.Climbing.{climbs-tail, climbs-above, rank}
+use Rattle.lists.proofs.Lists.{keep-none, keep-next, keep-left, keep-more, elem-at, elem-by}
+use Rattle.break_windows.specs.Breaks.{inWindow, within, greatest, greatestOf, mostBreaks, mostAtBreaks, firstOf, firstWith, answered, busiestOf, busiestAtBreaks, climbs}
+use Rattle.break_windows.specs.Found.{at}
+use Rattle.break_windows.proofs.Climbing.{climbs-tail, climbs-above, rank, rank-more, rank-same}
 
 -- the greatest value of a function below a number, and of a list
 pub greatest-above : (f : ℕ → ℕ) (n i : ℕ) → i < n → f i ≤ greatest f n
@@ -80,6 +80,18 @@ window-by w s t h = ap (λ (b : Bool). b && ltb t (s + w)) (le-leb s t h)
 pub window-far : (w s t : ℕ) → inWindow w s t ≡ false → s ≤ t → s + w ≤ t
 window-far w s t e h = omega (arith, ltb-false (t - s) w (sym (window-by w s t h) ∙ e))
 
+pub window-out : (w s t : ℕ) → (t < s) ⊎ (s + w ≤ t) → inWindow w s t ≡ false
+window-out w s t h = fails (inWindow w s t) (λ e. let r = window-in w s t e in ⊎-elim (λ k. omega arith) (λ k. omega arith) h)
+
+-- each break in a window counts there, whatever the others are: equal ticks are as many breaks
+pub within-more : (w : ℕ) (ts : List ℕ) (s t : ℕ) → inWindow w s t ≡ true → within w (t ∷ ts) s ≡ suc (within w ts s)
+unfolding within
+within-more w ts s t h = ap length (keep-next (inWindow w s) refl h)
+
+pub within-same : (w : ℕ) (ts : List ℕ) (s t : ℕ) → inWindow w s t ≡ false → within w (t ∷ ts) s ≡ within w ts s
+unfolding within
+within-same w ts s t h = ap length (keep-left (inWindow w s) refl h)
+
 -- a window that begins after the last tick has no break
 past-none : (w : ℕ) (ts : List ℕ) (s : ℕ) → greatestOf ts < s → within w ts s ≡ 0
 unfolding within inWindow
@@ -125,18 +137,6 @@ pub at-breaks : (w : ℕ) (ts : List ℕ) → busiestOf w ts ≡ busiestAtBreaks
 unfolding busiestOf busiestAtBreaks
 at-breaks w ts = ap (λ (m : ℕ). answered m w ts) (breaks-suffice w ts)
 
--- one number more or none more is kept
-kept : (p : ℕ → Bool) (t : ℕ) (ts : List ℕ) → p t ≡ true → length (keep p (t ∷ ts)) ≡ suc (length (keep p ts))
-unfolding keep
-kept p t ts h = ap length (cond-yes (t ∷ keep p ts) (keep p ts) h)
-
-left : (p : ℕ → Bool) (t : ℕ) (ts : List ℕ) → p t ≡ false → length (keep p (t ∷ ts)) ≡ length (keep p ts)
-unfolding keep
-left p t ts h = ap length (cond-no (t ∷ keep p ts) (keep p ts) h)
-
-pub window-out : (w s t : ℕ) → (t < s) ⊎ (s + w ≤ t) → inWindow w s t ≡ false
-window-out w s t h = fails (inWindow w s t) (λ e. let r = window-in w s t e in ⊎-elim (λ k. omega arith) (λ k. omega arith) h)
-
 -- the breaks of a window are those below its end that are not below its begin
 pub within-ranks : (w : ℕ) (ts : List ℕ) (s : ℕ) → rank s ts + within w ts s ≡ rank (s + w) ts
 unfolding within rank keep
@@ -144,10 +144,10 @@ within-ranks w [] s = refl
 within-ranks w (t ∷ ts) s =
     let h = within-ranks w ts s in
     ⊎-elim
-    (λ a. omega (arith, h, kept (λ x. ltb x s) t ts a, left (inWindow w s) t ts (window-out w s t (inl (ltb-true t s a))), kept (λ x. ltb x (s + w)) t ts (lt-ltb t (s + w) (omega (arith, ltb-true t s a)))))
+    (λ a. let l = ltb-true t s a in omega (arith, h, rank-more s t ts l, within-same w ts s t (window-out w s t (inl l)), rank-more (s + w) t ts (omega arith)))
     (λ a. ⊎-elim
-    (λ b. omega (arith, h, left (λ x. ltb x s) t ts a, kept (inWindow w s) t ts (in-window w s t (ltb-false t s a) (ltb-true t (s + w) b)), kept (λ x. ltb x (s + w)) t ts b))
-    (λ b. omega (arith, h, left (λ x. ltb x s) t ts a, left (inWindow w s) t ts (window-out w s t (inr (ltb-false t (s + w) b))), left (λ x. ltb x (s + w)) t ts b))
+    (λ b. let l = ltb-true t (s + w) b in omega (arith, h, rank-same s t ts (ltb-false t s a), within-more w ts s t (in-window w s t (ltb-false t s a) l), rank-more (s + w) t ts l))
+    (λ b. let l = ltb-false t (s + w) b in omega (arith, h, rank-same s t ts (ltb-false t s a), within-same w ts s t (window-out w s t (inr l)), rank-same (s + w) t ts l))
     (decided (ltb t (s + w))))
     (decided (ltb t s))
 

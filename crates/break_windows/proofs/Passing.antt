@@ -10,15 +10,12 @@ use borrow.Author.Tests.{le-leb, eq-eqb, ne-eqb, lt-leb, ltb-true, ltb-false}
 use lib.Dec.{leb, ltb, eqb}
 use lib.ListN.{length}
 use Rattle.lists.specs.Lists.{keep}
-use Rattle.lists.proofs.Bools.{decided, cond-yes, cond-no}
+use Rattle.lists.proofs.Bools.{decided}
 use Rattle.reading.specs.Answer.{done, refused, unless}
-use Rattle.breaks.specs.Breaks.{inWindow, within, greatest, greatestOf, mostBreaks, firstWith, firstOf, climbs, counted, answered, busiestOf}
-use Rattle.breaks.specs.Passes.{at, Climbs, Bounded, Found, Sought, Reaches, PassedTo, PassedAll, OrderedTo, firstBest}
-use Rattle.breaks.specs.declared.window.Best.{Best}
-use Rattle.breaks.specs.declared.pass.Passed.{Passed}
-use Rattle.breaks.specs.declared.pass.Passed.the-variants as Pa
-use Rattle.breaks.proofs.Climbing.{climbs-by, climbs-places, rank, rank-below, rank-above, rank-within}
-use Rattle.breaks.proofs.Windows.{greatest-most, in-window, window-in, window-far, anywhere, within-ranks, first-at}
+use Rattle.break_windows.specs.Breaks.{inWindow, within, greatest, greatestOf, mostBreaks, firstWith, firstOf, climbs, counted, answered, busiestOf}
+use Rattle.break_windows.specs.Found.{at, Climbs, Bounded, Found, Sought, Reaches}
+use Rattle.break_windows.proofs.Climbing.{climbs-by, climbs-places, rank, rank-below, rank-above, rank-within}
+use Rattle.break_windows.proofs.Windows.{greatest-most, in-window, window-in, window-far, anywhere, within-ranks, first-at}
 
 -- a pass that has looked at no window
 pub bounded-none : (w : ℕ) (ts : List ℕ) (n : ℕ) → Climbs ts n → Bounded w ts n n
@@ -139,48 +136,6 @@ reaches-more w ts m e r R l B g = ⊎-elim
     (λ k. subst (Reaches w ts) (let z : r ≡ _ = omega (arith, g, ltb-true m r k) in z) (B .0, (e, B .1, l, B .2)))
     (λ k. subst (Reaches w ts) (let z : m ≡ _ = omega (arith, g, ltb-false m r k) in z) R)
     (decided (ltb m r))
-
--- what a pass begins with
-pub first-some : (t m : ℕ) (b : Best) → b ≡ firstBest t m → 1 ≤ m → (1 ≤ b .count) × (b .count ≤ m)
-first-some t m b e h = elim (ℕ-discrete m 1) [
-  | yes q ↦ let z : b .count ≡ 1 = ap (λ (x : Best). x .count) (e ∙ cond-yes _ _ (eq-eqb m 1 q)) in (omega arith, omega arith)
-  | no d ↦ let z : b .count ≡ m - 1 = ap (λ (x : Best). x .count) (e ∙ cond-no _ _ (ne-eqb m 1 d)) in (omega arith, omega arith)
-]
-
-pub first-sought :
-    (w : ℕ) (ts : List ℕ) (m : ℕ) (b : Best) → b ≡ firstBest (at ts 0) m → 1 ≤ w → 1 ≤ m → Climbs ts (b .count) → Sought w ts (b .count) (m - 1) (b .count) (b .first)
-first-sought w ts m b e h o c = elim (ℕ-discrete m 1) [
-  | yes q ↦ let z : b ≡ counted 1 (at ts 0) = e ∙ cond-yes _ _ (eq-eqb m 1 q) in
-      subst (λ (x : Best). Sought w ts (x .count) (m - 1) (x .count) (x .first)) (sym z) (sought-found (m - 1) (omega arith) (found-one w ts h))
-  | no d ↦ let z : b ≡ counted (m - 1) 0 = e ∙ cond-no _ _ (ne-eqb m 1 d) in
-      subst (λ (x : Best). Sought w ts (x .count) (m - 1) (x .count) (x .first)) (sym z)
-      (record { bounded = bounded-none w ts (m - 1) (subst (λ (x : Best). Climbs ts (x .count)) z c); some = omega arith; least = omega arith; found = λ l. absurd (omega arith) })
-]
-
--- a pass over all ticks, where some window has m breaks and windows of fewer are passed over
-pub passed-all : (w : ℕ) (ts : List ℕ) (m : ℕ) (r : Passed) → Reaches w ts m → PassedTo w ts (length ts) (m - 1) r → PassedAll w ts r
-passed-all w ts m (Pa.To b) R P = sought-reached (m - 1) (subst (Reaches w ts) (let z : m ≡ m - 1 + 1 = omega (arith, R .0) in z) R) P
-passed-all w ts m Pa.Falls R P = P
-
-pub all-found : {w : ℕ} {ts : List ℕ} {r : Passed} {b : Best} → PassedAll w ts r → r ≡ Pa.To b → Found w ts (length ts) (b .count) (b .first)
-all-found {w} {ts} P e = subst (PassedAll w ts) e P
-
-pub all-falls : (w : ℕ) (ts : List ℕ) {r : Passed} → PassedAll w ts r → r ≡ Pa.Falls → climbs ts ≡ false
-all-falls w ts P e = subst (PassedAll w ts) e P
-
--- what a test of the order answers
-pub ordered-yes : (ts : List ℕ) (n : ℕ) (b : Bool) → OrderedTo ts n b → b ≡ true → Climbs ts n
-ordered-yes ts n b O e = subst (OrderedTo ts n) e O
-
-pub ordered-no : (ts : List ℕ) (n : ℕ) (b : Bool) → OrderedTo ts n b → b ≡ false → climbs ts ≡ false
-ordered-no ts n b O e = subst (OrderedTo ts n) e O
-
--- what a pass answers
-pub passed-to : {w : ℕ} {ts : List ℕ} {n c : ℕ} {r : Passed} {b : Best} → PassedTo w ts n c r → r ≡ Pa.To b → Sought w ts n c (b .count) (b .first)
-passed-to {w} {ts} {n} {c} P e = subst (PassedTo w ts n c) e P
-
-pub passed-falls : (w : ℕ) (ts : List ℕ) (n c : ℕ) {r : Passed} → PassedTo w ts n c r → r ≡ Pa.Falls → climbs ts ≡ false
-passed-falls w ts n c P e = subst (PassedTo w ts n c) e P
 
 -- after the last tick
 module _ (w : ℕ) (ts : List ℕ) (m f : ℕ) (F : Found w ts (length ts) m f) where

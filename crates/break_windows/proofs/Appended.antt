@@ -6,10 +6,10 @@ use Prim.Native.Nat.{ℕ, suc, _+_, _-_, _≤_, _<_}
 use native.Mathlib.Omega.{arith}
 use lib.ListN.{length, length-append, List·getD-append}
 use lib.Seq.{getD-append-seam}
-use Rattle.breaks.specs.Breaks.{inWindow, climbs}
-use Rattle.breaks.specs.Passes.{at, Found}
-use Rattle.breaks.proofs.Climbing.{climbs-falls}
-use Rattle.breaks.proofs.Passing.{found-one, found-grown, found-same, found-is}
+use Rattle.break_windows.specs.Breaks.{inWindow, climbs}
+use Rattle.break_windows.specs.Found.{at, Found}
+use Rattle.break_windows.proofs.Climbing.{climbs-falls}
+use Rattle.break_windows.proofs.Passing.{found-one, found-grown, found-same, found-is}
 
 -- the ticks that were there, and the one after them
 at-front : (ts zs : List ℕ) (i : ℕ) → i < length ts → at (ts ++ zs) i ≡ at ts i

@@ -8,11 +8,9 @@ use mathlib.Core.List.{List, [], _∷_, map}
 use lib.Dec.{leb, ltb, eqb}
 use lib.ListN.{length}
 use Rattle.lists.specs.Lists.{keep}
-use Rattle.reading.specs.Answer.{Answer, done, refused, unless}
+use Rattle.reading.specs.Answer.{Answer, done, unless}
 use Rattle.reading.specs.Verdict.{verdictOf, verdictNumber, orKept}
-use Rattle.breaks.specs.declared.window.Best.{Best}
-use Rattle.breaks.specs.declared.busiest.Counted.{Counted}
-use Rattle.breaks.specs.declared.busiest.Counted.the-variants as Co
+use Rattle.break_windows.specs.declared.window.Best.{Best}
 
 -- a tick is in the window of w ticks that begins at s
 unfoldable pub inWindow : ℕ → ℕ → ℕ → Bool
@@ -70,11 +68,6 @@ busiestOf w ts = answered (mostBreaks w ts) w ts
 -- the same, which can be computed
 unfoldable pub busiestAtBreaks : ℕ → List ℕ → Answer Best
 busiestAtBreaks w ts = answered (mostAtBreaks w ts) w ts
-
--- what the code answers
-abbrev pub told : Answer Best → Counted
-told (done b) = Co.Breaks b
-told (refused k) = Co.Refused k
 
 -- what becomes of the two numbers that are lent for the answer, and the number that the call answers with
 abbrev pub Tells : ℕ → ℕ → Answer Best → ℕ → ℕ → ℕ → Type 0
