@@ -323,6 +323,9 @@ fn the_last_line_may_have_no_line_feed() {
 fn spaces_and_blank_lines() {
     assert_written(b" 7\n8 \n\t8\n9\t\n9\r\n \t\r 9 \t\r \n", 3, &counted(6, 7, 3));
     assert_written(b"\n\n7\n\n  \n8\n\r\n\t\n8\n\n\n", 2, &counted(3, 7, 2));
+    assert_written(b" 12 \n", 1, &counted(1, 12, 1));
+    assert_written(b"4294967295\r\n", 1, &counted(1, u32::MAX, 1));
+    assert_written(b"7\n\n7\n 9", 3, &counted(3, 7, 3));
     // They have line numbers too.
     assert_written(b"\n\n7\n\n  \n6\n", 2, &falls(6));
     assert_written(b"\r\n7\r\n\r\n8\r\nx\r\n", 2, &no_number(5));

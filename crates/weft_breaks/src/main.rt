@@ -4,23 +4,19 @@
 //
 // The input is read once, and may be longer than what is kept of it: the last 65,536 ticks, which suffice as long as no window
 // has more breaks than that. A list with such a window is not answered, and is said to have one.
-mod input;
-mod line;
-mod recent;
-
 ghost use mathlib.Core.Path.{_≡_};
 ghost use mathlib.Core.List.{List};
 ghost use Prim.Native.Nat.{ℕ, _≤_};
 ghost use lib.ListN.{length};
-ghost use Rattle.weft_breaks.specs.Rings.{noTicks, Holds};
+ghost use Rattle.tick_lines.specs.Rings.{Holds};
 use console::print::number;
 use console::print::text;
 use console::script::NumberRead;
 use console::sentence::refusal;
-use input::Read;
-use input::State;
-use input::Stop;
-use line::Line;
+use tick_lines::input;
+use tick_lines::input::Read;
+use tick_lines::input::State;
+use tick_lines::input::Stop;
 
 // How many ticks are kept.
 const ROOM: usize = 65536;
@@ -76,16 +72,6 @@ fn show(r: Read, window: u32) {
     }
 }
 
-fn start() -> State
-    ensures { λ r. ⌜ r .recent ≡ noTicks ⌝ }
-{
-    State {
-        recent: recent::no_ticks(),
-        line: Line::Blank,
-        number: 1,
-    }
-}
-
 // The last line may have no line feed.
 fn finish(ring: &mut [u32], state: State, window: u32)
     requires { ⌜ (1 ≤ window) × ((ts : List ℕ) × Holds window (now ring) (state .recent) ts) ⌝ }
@@ -98,7 +84,7 @@ fn finish(ring: &mut [u32], state: State, window: u32)
 fn count(ring: &mut [u32], bytes: &mut [u8], window: u32)
     requires { ⌜ (1 ≤ window) × (length (now ring) ≡ 65536) ⌝ }
 {
-    let mut state = start();
+    let mut state = input::start();
     let mut rounds = u64::MAX;
     while rounds > 0 {
         let got = libc::read(0, bytes);

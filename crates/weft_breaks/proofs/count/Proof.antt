@@ -4,9 +4,9 @@ use Prim.Native.Nat.{ℕ, _≤_}
 use native.Mathlib.Omega.{arith}
 use borrow.Author.Needs.{needs}
 use lib.ListN.{length}
-use Rattle.weft_breaks.specs.Rings.{Holds}
-use Rattle.weft_breaks.proofs.Rings.{holds-none}
-use Rattle.weft_breaks.proofs.Inputs.{taken-holds}
+use Rattle.tick_lines.specs.Rings.{Holds}
+use Rattle.tick_lines.proofs.Rings.{holds-none}
+use Rattle.tick_lines.proofs.Inputs.{taken-holds}
 use Rattle.weft_breaks.proofs.count.Statement.{statement}
 use Rattle.weft_breaks.proofs.count.Tie as tie
 

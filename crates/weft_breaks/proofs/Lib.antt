@@ -1,6 +1,0 @@
--- Laws of the definitions of this crate.
-pub mod Rings
-pub mod Lines
-pub mod Inputs
-pub mod Words
-mod Examples
