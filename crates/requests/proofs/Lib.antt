@@ -1,5 +1,2 @@
--- Laws of the parts of a request.
-pub mod Numbers
-pub mod Fills
-pub mod Fronts
+-- Laws of the definitions of this crate.
 pub mod Requests

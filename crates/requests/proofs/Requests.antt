@@ -14,7 +14,7 @@ use Rattle.reading.proofs.Reading.{no-answer, bind-at, mapped-at, fault-at}
 use Rattle.reading.proofs.Places.{bind-got, bind-fault, framed-got, framed-long, length-onward}
 use Rattle.reading.proofs.Lengths.{byte-consumes, such-consumes}
 use Rattle.reading.proofs.InFront.{InFront, yield-front, bind-front, such-front, byte-front, byte2-front, byte4-front, many-front}
-use Rattle.requests.specs.Calls.{Call, stepped, waited, body, call, calls}
+use Rattle.request_parts.specs.Calls.{Call, stepped, waited, body, call, calls}
 use Rattle.requests.specs.Requests.{Operation, Request, asked, run-both, longest, size, lent, block, called, run, longestFrom, windowed, operations, operation, request, callsOf}
 use Rattle.requests.specs.Requests as requests
 use Rattle.requests.specs.declared.request.Machine.{Machine}

@@ -1,4 +1,2 @@
-pub mod Calls
-pub mod Parts
+-- The definitions of this crate.
 pub mod Requests
-pub mod Ticks

@@ -5,7 +5,7 @@ use lib.Dec.{leb, ltb}
 use lib.ListN.{getD, take, drop}
 use Rattle.reading.specs.Reading.{Read, got, fault, Reader, yield, _>>=_, byte, byte4, such, framed}
 use Rattle.reading.specs.Places.{onward, faultOf}
-use Rattle.requests.specs.Calls.{Call, body, calls, meant}
+use Rattle.request_parts.specs.Calls.{Call, body, calls, meant}
 use Rattle.requests.specs.declared.request.Machine.{Machine}
 use Rattle.requests.specs.declared.request.Machine.the-variants as Mc
 use Rattle.requests.specs.declared.request.Operation as declared

@@ -1,5 +1,2 @@
-// Requests to the machines in their binary form.
-pub mod calls;
-pub mod input;
+// Requests to the machines in their binary form: a file, and what is asked of it.
 pub mod request;
-pub mod ticks;

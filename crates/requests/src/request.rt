@@ -4,11 +4,6 @@ ghost use Prim.Native.Nat.{_≤_, _<_};
 ghost use lib.ListN.{length};
 ghost use Rattle.reading.specs.Places.{onward};
 ghost use Rattle.requests.specs.Requests.{size, lent, called, run, longestFrom, windowed, operation, request, operationOf, operationEnd, requestOf, requestEnd, Beyond};
-use crate::calls::Call;
-use crate::calls::CallRead;
-use crate::calls::read_body;
-use crate::calls::skip_calls;
-use crate::input::read_file;
 use reading::field::ByteRead;
 use reading::field::Fault;
 use reading::field::Frame;
@@ -20,6 +15,11 @@ use reading::field::left;
 use reading::field::read_below;
 use reading::field::read_word;
 use reading::field::word_fault;
+use request_parts::calls::Call;
+use request_parts::calls::CallRead;
+use request_parts::calls::read_body;
+use request_parts::calls::skip_calls;
+use request_parts::input::read_file;
 
 pub enum Machine {
     Chart,

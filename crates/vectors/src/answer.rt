@@ -4,7 +4,7 @@ use crate::chart_requests;
 use crate::flatten_requests;
 use crate::network_requests;
 use crate::paired_requests;
-use requests::calls::Call;
+use request_parts::calls::Call;
 use requests::request::Machine;
 use requests::request::Operation;
 use requests::request::Request;

@@ -3,7 +3,7 @@ use answers::output;
 use break_windows::window::Best;
 use breaks::busiest::Counted;
 use breaks::busiest::busiest;
-use requests::ticks::fill_ticks;
+use request_parts::ticks::fill_ticks;
 
 // More ticks than a request can have: it has 131,072 bytes at most, and a tick has four.
 const TICKS: usize = 32768;

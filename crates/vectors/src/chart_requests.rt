@@ -5,8 +5,8 @@ use chart_machine::operation;
 use chart_machine::operation::Outcome;
 use chart_moves::configuration::Configuration;
 use reading::verdict::Verdict;
-use requests::calls::Call;
-use requests::input;
+use request_parts::calls::Call;
+use request_parts::input;
 
 // The configuration in front of some bytes.
 fn configuration(s: &[u8]) -> Configuration {

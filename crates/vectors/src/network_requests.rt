@@ -5,8 +5,8 @@ use network_machine::operation;
 use network_machine::outcome::Outcome;
 use network_moves::configuration::Configuration;
 use reading::verdict::Verdict;
-use requests::calls::Call;
-use requests::input;
+use request_parts::calls::Call;
+use request_parts::input;
 
 // The configuration in front of some bytes.
 fn configuration(s: &[u8]) -> Configuration {

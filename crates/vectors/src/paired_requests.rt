@@ -5,10 +5,10 @@ use answers::output;
 use flattener::operation;
 use flattener::operation::Flattened;
 use paired_run::run::Run;
-use requests::calls;
-use requests::calls::Call;
-use requests::calls::CallRead;
-use requests::input;
+use request_parts::calls;
+use request_parts::calls::Call;
+use request_parts::calls::CallRead;
+use request_parts::input;
 
 // A step, of which so many numbers stand in front of some bytes.
 fn step(file: &[u8], network: &[u8], r: Run, numbers: &[u8], count: u16) -> Run {

@@ -1,7 +1,7 @@
 use mathlib.Core.Path.{sym, ap}
 use native.Mathlib.Omega.{arith}
 use Rattle.reading.proofs.Places.{answered}
-use Rattle.requests.specs.Calls.{callOf, callEnd}
+use Rattle.request_parts.specs.Calls.{callOf, callEnd}
 use Rattle.requests.proofs.Requests.{called-none, called-got, called-fault}
 use borrow.Author.Needs.{needs}
 use Rattle.requests.proofs.request.read_called.Statement.{statement}

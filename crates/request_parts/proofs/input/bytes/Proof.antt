@@ -1,0 +1,51 @@
+use mathlib.Core.List.{map}
+use Prim.Native.Nat.{_-_}
+use native.Mathlib.Omega.{arith}
+use borrow.Author.Needs.{needs}
+use Rattle.lists.specs.Lists.{below}
+use Rattle.lists.proofs.Loops.{Filled, filled-all}
+use Rattle.request_parts.proofs.Fills.{fill-none, fill-more}
+use Rattle.request_parts.specs.Parts.{byteAt}
+use Rattle.request_parts.proofs.input.bytes.Statement.{statement}
+use Rattle.request_parts.proofs.input.bytes.Tie as tie
+
+abbrev Inv-loop : tie.InvT-loop
+Inv-loop s t₀ i₀ t i = Filled 16 (map (byteAt s) (below 16)) t i
+
+abbrev μ-loop : tie.MeasureT-loop
+μ-loop s t₀ i₀ t i = 16 - i
+
+loop-holds : tie.Need-loop-holds Inv-loop μ-loop
+loop-holds c = fill-none 16 _ _ (search needs)
+
+byte-at-requires : tie.Need-byte-at-requires Inv-loop μ-loop
+byte-at-requires c κs = search needs
+
+array-write-t : tie.Need-array-write-t Inv-loop μ-loop
+array-write-t c = search needs
+
+add-i : tie.Need-add-i Inv-loop μ-loop
+add-i c = omega arith
+
+loop-less : tie.Need-loop-less Inv-loop μ-loop
+loop-less c = omega arith
+
+loop-again : tie.Need-loop-again Inv-loop μ-loop
+loop-again c = fill-more 16 _ _ _ 0 _ (c .before .before .loop .inv) (omega arith) (c .byte-at .ensures)
+
+returns : tie.Need-returns Inv-loop μ-loop
+returns c = filled-all 16 _ _ _ (c .before .loop .inv) (omega arith)
+
+pub bytes-spec : {M : Type 1} → statement M
+bytes-spec =
+    tie.close
+    (tie.spec
+    Inv-loop
+    μ-loop
+    loop-holds
+    byte-at-requires
+    array-write-t
+    add-i
+    loop-less
+    loop-again
+    returns)

@@ -1,0 +1,60 @@
+use mathlib.Core.List.{map}
+use Prim.Native.Nat.{_-_}
+use native.Mathlib.Omega.{arith}
+use borrow.Author.Needs.{needs}
+use Rattle.lists.specs.Lists.{below}
+use Rattle.lists.proofs.Loops.{Filled, filled-all}
+use Rattle.request_parts.proofs.Fills.{fill-none, fill-more}
+use Prim.Native.Nat.{_*_}
+use Rattle.request_parts.specs.Parts.{wordAt}
+use Rattle.request_parts.proofs.input.words.Statement.{statement}
+use Rattle.request_parts.proofs.input.words.Tie as tie
+
+abbrev Inv-loop : tie.InvT-loop
+Inv-loop s t₀ i₀ t i = Filled 8 (map (λ i. wordAt s (4 * i)) (below 8)) t i
+
+abbrev μ-loop : tie.MeasureT-loop
+μ-loop s t₀ i₀ t i = 8 - i
+
+loop-holds : tie.Need-loop-holds Inv-loop μ-loop
+loop-holds c = fill-none 8 _ _ (search needs)
+
+word-requires : tie.Need-word-requires Inv-loop μ-loop
+word-requires c κs = search needs
+
+cast-t : tie.Need-cast-t Inv-loop μ-loop
+cast-t c = search needs
+
+mul-t : tie.Need-mul-t Inv-loop μ-loop
+mul-t c = search needs
+
+array-write-t : tie.Need-array-write-t Inv-loop μ-loop
+array-write-t c = search needs
+
+add-i : tie.Need-add-i Inv-loop μ-loop
+add-i c = omega arith
+
+loop-less : tie.Need-loop-less Inv-loop μ-loop
+loop-less c = omega arith
+
+loop-again : tie.Need-loop-again Inv-loop μ-loop
+loop-again c = fill-more 8 _ _ _ 0 _ (c .before .before .loop .inv) (omega arith) (c .word .ensures)
+
+returns : tie.Need-returns Inv-loop μ-loop
+returns c = filled-all 8 _ _ _ (c .before .loop .inv) (omega arith)
+
+pub words-spec : {M : Type 1} → statement M
+words-spec =
+    tie.close
+    (tie.spec
+    Inv-loop
+    μ-loop
+    loop-holds
+    word-requires
+    cast-t
+    mul-t
+    array-write-t
+    add-i
+    loop-less
+    loop-again
+    returns)

@@ -1,0 +1,4 @@
+-- The definitions of this crate.
+pub mod Parts
+pub mod Calls
+pub mod Ticks
