@@ -12,26 +12,14 @@ Inv-loop s₀ from n i₀ s i = Shifting from s₀ s i
 abbrev μ-loop : tie.MeasureT-loop
 μ-loop s₀ from n i₀ s i = n - i
 
-left-requires : tie.Need-left-requires Inv-loop μ-loop
-left-requires c κs = search needs
-
 loop-holds : tie.Need-loop-holds Inv-loop μ-loop
 loop-holds c = shifting-none _ _
-
-add-s : tie.Need-add-s Inv-loop μ-loop
-add-s c = search needs
 
 slice-read-s : tie.Need-slice-read-s Inv-loop μ-loop
 slice-read-s c = omega (arith, c .before .before .loop .inv .long)
 
 slice-write-s : tie.Need-slice-write-s Inv-loop μ-loop
 slice-write-s c = omega (arith, c .before .before .loop .inv .long)
-
-add-i : tie.Need-add-i Inv-loop μ-loop
-add-i c = omega arith
-
-loop-less : tie.Need-loop-less Inv-loop μ-loop
-loop-less c = omega arith
 
 loop-again : tie.Need-loop-again Inv-loop μ-loop
 loop-again c = shifting-more _ _ _ _ (c .before .before .loop .inv) (c .before .before .before .left .ensures) (c .before .loop-test .taken) refl
@@ -48,13 +36,13 @@ shift-spec =
     (tie.spec
     Inv-loop
     μ-loop
-    left-requires
+    (λ c κs. search needs)
     loop-holds
-    add-s
+    (λ c. search needs)
     slice-read-s
     slice-write-s
-    add-i
-    loop-less
+    (λ c. omega arith)
+    (λ c. omega arith)
     loop-again
     same-length
     returns)

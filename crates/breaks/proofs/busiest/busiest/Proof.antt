@@ -13,15 +13,6 @@ returns c = sym (ap told (no-window _ _ (c .if1 .taken)))
 returns-2 : tie.Need-returns-2
 returns-2 c = sym (ap told (found-none _ _ (omega arith) (c .if2 .taken)))
 
-pass-all-requires : tie.Need-pass-all-requires
-pass-all-requires c κs = search needs
-
-enum-known-p : tie.Need-enum-known-p
-enum-known-p c = search needs
-
-enum-told : tie.Need-enum-told
-enum-told c = search needs
-
 returns-3 : tie.Need-returns-3
 returns-3 c = sym (ap told (found-all _ _ _ _ (all-found (c .before .before .before .pass-all .ensures) (c .before .p .given .1)) (omega arith)))
 
@@ -31,4 +22,4 @@ returns-4 c = sym (ap told (falling _ _ (all-falls _ _ (c .before .before .pass-
 pub busiest-spec : {M : Type 1} → statement M
 busiest-spec =
     tie.close
-    (tie.spec returns returns-2 pass-all-requires enum-known-p enum-told returns-3 returns-4)
+    (tie.spec returns returns-2 (λ c κs. search needs) (λ c. search needs) (λ c. search needs) returns-3 returns-4)

@@ -5,17 +5,11 @@ use borrow.Author.Needs.{needs}
 use Rattle.breaks.proofs.busiest.first_best.Statement.{statement}
 use Rattle.breaks.proofs.busiest.first_best.Tie as tie
 
-shared-slice-read-t5 : tie.Need-shared-slice-read-t5
-shared-slice-read-t5 c = search needs
-
 returns : tie.Need-returns
 returns c = sym (cond-yes _ _ (eq-eqb _ 1 (c .before .if1 .taken)))
-
-sub-t6 : tie.Need-sub-t6
-sub-t6 c = search needs
 
 returns-2 : tie.Need-returns-2
 returns-2 c = sym (cond-no _ _ (ne-eqb _ 1 (c .if1 .left)))
 
 pub first-best-spec : {M : Type 1} → statement M
-first-best-spec = tie.close (tie.spec shared-slice-read-t5 returns sub-t6 returns-2)
+first-best-spec = tie.close (tie.spec (λ c. search needs) returns (λ c. search needs) returns-2)

@@ -6,12 +6,6 @@ use borrow.Author.Needs.{needs}
 use Rattle.breaks.proofs.busiest.pass_all.Statement.{statement}
 use Rattle.breaks.proofs.busiest.pass_all.Tie as tie
 
-reached-requires : tie.Need-reached-requires
-reached-requires c κs = search needs
-
-first-best-requires : tie.Need-first-best-requires
-first-best-requires c κs = search needs
-
 climbs-to-requires : tie.Need-climbs-to-requires
 climbs-to-requires c κs = let R = c .before .reached .ensures in let s = first-some _ _ _ (c .first-best .ensures) (R .0) in (s .0, omega (arith, s .1, R .1 .1, R .1 .2))
 
@@ -38,8 +32,8 @@ pub pass-all-spec : {M : Type 1} → statement M
 pass-all-spec =
     tie.close
     (tie.spec
-    reached-requires
-    first-best-requires
+    (λ c κs. search needs)
+    (λ c κs. search needs)
     climbs-to-requires
     returns
     pass-on-requires

@@ -19,26 +19,11 @@ abbrev μ-loop : tie.MeasureT-loop
 loop-holds : tie.Need-loop-holds Inv-loop μ-loop
 loop-holds c = let p = c .before .pre in (p .0, p .1, λ k S. S)
 
-sub-loop : tie.Need-sub-loop Inv-loop μ-loop
-sub-loop c = omega arith
-
 pass-block-requires : tie.Need-pass-block-requires Inv-loop μ-loop
 pass-block-requires c κs = (omega arith, c .before .loop .inv .1)
 
-enum-known-p : tie.Need-enum-known-p Inv-loop μ-loop
-enum-known-p c = search needs
-
-enum-told : tie.Need-enum-told Inv-loop μ-loop
-enum-told c = search needs
-
 returns : tie.Need-returns Inv-loop μ-loop
 returns c = λ k S. passed-falls _ _ _ k (c .before .before .pass-block .ensures k (c .before .before .before .before .loop .inv .2 k S)) (c .enum-told .given .1)
-
-add-end : tie.Need-add-end Inv-loop μ-loop
-add-end c = omega arith
-
-loop-less : tie.Need-loop-less Inv-loop μ-loop
-loop-less c = omega arith
 
 loop-again : tie.Need-loop-again Inv-loop μ-loop
 loop-again c = let i = c .before .before .before .before .before .loop .inv in let f = c .before .before .before .pass-block .ensures in (omega arith, (i .1 .0, passed-to (f (i .1 .0) (i .1 .1)) (c .before .p .given .1)), λ k S. passed-to (f k (i .2 k S)) (c .before .p .given .1))
@@ -56,13 +41,13 @@ pass-on-spec =
     Inv-loop
     μ-loop
     loop-holds
-    sub-loop
+    (λ c. omega arith)
     pass-block-requires
-    enum-known-p
-    enum-told
+    (λ c. search needs)
+    (λ c. search needs)
     returns
-    add-end
-    loop-less
+    (λ c. omega arith)
+    (λ c. omega arith)
     loop-again
     pass-requires
     returns-2)

@@ -4,12 +4,6 @@ use Rattle.breaks.proofs.Passes.{told-breaks, told-refused}
 use Rattle.breaks.proofs.busiest.tell.Statement.{statement}
 use Rattle.breaks.proofs.busiest.tell.Tie as tie
 
-enum-known-answer : tie.Need-enum-known-answer
-enum-known-answer c = search needs
-
-enum-known-answer-2 : tie.Need-enum-known-answer-2
-enum-known-answer-2 c = search needs
-
 returns : tie.Need-returns
 returns c = λ a e. rw (told-breaks a (sym (c .before .answer .given .1) ∙ e)) (refl, refl)
 
@@ -17,4 +11,4 @@ returns-2 : tie.Need-returns-2
 returns-2 c = λ a e. rw (told-refused a (sym (c .before .answer2 .given .1) ∙ e)) (refl, refl)
 
 pub tell-spec : {M : Type 1} → statement M
-tell-spec = tie.close (tie.spec enum-known-answer enum-known-answer-2 returns returns-2)
+tell-spec = tie.close (tie.spec (λ c. search needs) (λ c. search needs) returns returns-2)

@@ -24,12 +24,6 @@ climbs-at-requires c κs = (omega arith, omega arith)
 returns : tie.Need-returns Inv-loop μ-loop
 returns c = climbs-falls _ _ (omega arith) (omega arith) (leb-false _ _ (sym (c .before .climbs-at .ensures) ∙ not-true _ (c .if1 .taken)))
 
-add-end : tie.Need-add-end Inv-loop μ-loop
-add-end c = omega arith
-
-loop-less : tie.Need-loop-less Inv-loop μ-loop
-loop-less c = omega arith
-
 loop-again : tie.Need-loop-again Inv-loop μ-loop
 loop-again c = let i = c .before .before .before .loop .inv in (omega arith, omega arith, i .2, climbs-next (c .before .before .before .before .before .args .ticks .now) _ (i .3) (sym (c .before .climbs-at .ensures) ∙ not-false _ (c .if1 .left)))
 
@@ -45,7 +39,7 @@ climbs-on-spec =
     loop-holds
     climbs-at-requires
     returns
-    add-end
-    loop-less
+    (λ c. omega arith)
+    (λ c. omega arith)
     loop-again
     returns-2)

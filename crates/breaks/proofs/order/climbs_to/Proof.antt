@@ -17,20 +17,11 @@ abbrev μ-loop : tie.MeasureT-loop
 loop-holds : tie.Need-loop-holds Inv-loop μ-loop
 loop-holds c = let p = c .before .pre in (omega arith, p .0, p .1, λ i h. absurd (omega arith))
 
-sub-loop : tie.Need-sub-loop Inv-loop μ-loop
-sub-loop c = omega arith
-
 block-climbs-requires : tie.Need-block-climbs-requires Inv-loop μ-loop
 block-climbs-requires c κs = (omega arith, omega arith)
 
 returns : tie.Need-returns Inv-loop μ-loop
 returns c = block-falls _ _ (omega arith) (omega arith) (sym (c .before .block-climbs .ensures) ∙ not-true _ (c .if1 .taken))
-
-add-end : tie.Need-add-end Inv-loop μ-loop
-add-end c = omega arith
-
-loop-less : tie.Need-loop-less Inv-loop μ-loop
-loop-less c = omega arith
 
 loop-again : tie.Need-loop-again Inv-loop μ-loop
 loop-again c = let i = c .before .before .before .loop .inv in (omega arith, omega arith, i .2, block-climbs (c .before .before .before .before .before .args .ticks .now) _ (i .3) (sym (c .before .block-climbs .ensures) ∙ not-false _ (c .if1 .left)))
@@ -48,11 +39,11 @@ climbs-to-spec =
     Inv-loop
     μ-loop
     loop-holds
-    sub-loop
+    (λ c. omega arith)
     block-climbs-requires
     returns
-    add-end
-    loop-less
+    (λ c. omega arith)
+    (λ c. omega arith)
     loop-again
     climbs-on-requires
     returns-2)

@@ -24,44 +24,8 @@ abbrev μ-loop : tie.MeasureT-loop
 loop-holds : tie.Need-loop-holds Inv-loop μ-loop
 loop-holds c = let p = c .before .pre in (p .2 .1 .some, p .2 .1 .bounded .reach, p .0, p .1, λ k S. S)
 
-mul-tick : tie.Need-mul-tick Inv-loop μ-loop
-mul-tick c = search needs
-
-shared-slice-read-tick : tie.Need-shared-slice-read-tick Inv-loop μ-loop
-shared-slice-read-tick c = search needs
-
-sub-if1 : tie.Need-sub-if1 Inv-loop μ-loop
-sub-if1 c = omega arith
-
-mul-if1 : tie.Need-mul-if1 Inv-loop μ-loop
-mul-if1 c = search needs
-
-shared-slice-read-if1 : tie.Need-shared-slice-read-if1 Inv-loop μ-loop
-shared-slice-read-if1 c = search needs
-
 returns : tie.Need-returns Inv-loop μ-loop
 returns c = λ k S. climbs-falls _ _ (omega arith) (omega arith) (c .if1 .taken)
-
-sub-start : tie.Need-sub-start Inv-loop μ-loop
-sub-start c = omega arith
-
-mul-start : tie.Need-mul-start Inv-loop μ-loop
-mul-start c = search needs
-
-shared-slice-read-start : tie.Need-shared-slice-read-start Inv-loop μ-loop
-shared-slice-read-start c = search needs
-
-in-window-requires : tie.Need-in-window-requires Inv-loop μ-loop
-in-window-requires c κs = search needs
-
-add-count : tie.Need-add-count Inv-loop μ-loop
-add-count c = omega arith
-
-add-end : tie.Need-add-end Inv-loop μ-loop
-add-end c = omega arith
-
-loop-less : tie.Need-loop-less Inv-loop μ-loop
-loop-less c = omega arith
 
 loop-again : tie.Need-loop-again Inv-loop μ-loop
 loop-again c =
@@ -83,18 +47,18 @@ pass-spec =
     Inv-loop
     μ-loop
     loop-holds
-    mul-tick
-    shared-slice-read-tick
-    sub-if1
-    mul-if1
-    shared-slice-read-if1
+    (λ c. search needs)
+    (λ c. search needs)
+    (λ c. omega arith)
+    (λ c. search needs)
+    (λ c. search needs)
     returns
-    sub-start
-    mul-start
-    shared-slice-read-start
-    in-window-requires
-    add-count
-    add-end
-    loop-less
+    (λ c. omega arith)
+    (λ c. search needs)
+    (λ c. search needs)
+    (λ c κs. search needs)
+    (λ c. omega arith)
+    (λ c. omega arith)
+    (λ c. omega arith)
     loop-again
     returns-2)

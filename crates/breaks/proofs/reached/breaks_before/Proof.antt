@@ -17,53 +17,14 @@ Inv-loop ticks end window last low₀ high₀ low high = (low ≤ high) × (high
 abbrev μ-loop : tie.MeasureT-loop
 μ-loop ticks end window last low₀ high₀ low high = high - low
 
-sub-last : tie.Need-sub-last Inv-loop μ-loop
-sub-last c = omega arith
-
-mul-last : tie.Need-mul-last Inv-loop μ-loop
-mul-last c = search needs
-
-shared-slice-read-last : tie.Need-shared-slice-read-last Inv-loop μ-loop
-shared-slice-read-last c = omega arith
-
-sub-high : tie.Need-sub-high Inv-loop μ-loop
-sub-high c = omega arith
-
 loop-holds : tie.Need-loop-holds Inv-loop μ-loop
 loop-holds c = (omega arith, omega arith, omega arith, in-window _ _ _ (omega arith) (omega arith))
-
-sub-middle : tie.Need-sub-middle Inv-loop μ-loop
-sub-middle c = omega arith
-
-add-middle : tie.Need-add-middle Inv-loop μ-loop
-add-middle c = omega arith
-
-mul-in-window : tie.Need-mul-in-window Inv-loop μ-loop
-mul-in-window c = search needs
-
-shared-slice-read-in-window : tie.Need-shared-slice-read-in-window Inv-loop μ-loop
-shared-slice-read-in-window c = omega arith
-
-in-window-requires : tie.Need-in-window-requires Inv-loop μ-loop
-in-window-requires c κs = search needs
-
-loop-less : tie.Need-loop-less Inv-loop μ-loop
-loop-less c = omega arith
 
 loop-again : tie.Need-loop-again Inv-loop μ-loop
 loop-again c = (omega arith, omega arith, omega arith, sym (c .before .in-window .ensures) ∙ c .if1 .taken)
 
-add-low : tie.Need-add-low Inv-loop μ-loop
-add-low c = omega arith
-
-loop-less-2 : tie.Need-loop-less-2 Inv-loop μ-loop
-loop-less-2 c = omega arith
-
 loop-again-2 : tie.Need-loop-again-2 Inv-loop μ-loop
 loop-again-2 c = (omega arith, omega arith, omega arith, c .before .before .before .before .loop .inv .3)
-
-sub-result : tie.Need-sub-result Inv-loop μ-loop
-sub-result c = omega arith
 
 returns : tie.Need-returns Inv-loop μ-loop
 returns c = (omega arith, omega arith, window-from (c .before .before .before .before .args .window) (c .before .before .before .before .args .ticks .now) (c .before .loop .high) (c .before .before .before .before .args .end) (omega arith) (c .before .loop .inv .3))
@@ -74,20 +35,20 @@ breaks-before-spec =
     (tie.spec
     Inv-loop
     μ-loop
-    sub-last
-    mul-last
-    shared-slice-read-last
-    sub-high
+    (λ c. omega arith)
+    (λ c. search needs)
+    (λ c. omega arith)
+    (λ c. omega arith)
     loop-holds
-    sub-middle
-    add-middle
-    mul-in-window
-    shared-slice-read-in-window
-    in-window-requires
-    loop-less
+    (λ c. omega arith)
+    (λ c. omega arith)
+    (λ c. search needs)
+    (λ c. omega arith)
+    (λ c κs. search needs)
+    (λ c. omega arith)
     loop-again
-    add-low
-    loop-less-2
+    (λ c. omega arith)
+    (λ c. omega arith)
     loop-again-2
-    sub-result
+    (λ c. omega arith)
     returns)

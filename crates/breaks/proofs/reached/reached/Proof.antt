@@ -16,20 +16,8 @@ abbrev μ-loop : tie.MeasureT-loop
 loop-holds : tie.Need-loop-holds Inv-loop μ-loop
 loop-holds c = let p = c .before .pre in (p .1, omega arith, reaches-one (c .before .args .window) (c .before .args .ticks .now) (p .0) (p .1))
 
-sub-loop : tie.Need-sub-loop Inv-loop μ-loop
-sub-loop c = omega arith
-
-add-end : tie.Need-add-end Inv-loop μ-loop
-add-end c = omega arith
-
 breaks-before-requires : tie.Need-breaks-before-requires Inv-loop μ-loop
 breaks-before-requires c κs = (omega arith, omega arith, omega arith)
-
-greatest-requires : tie.Need-greatest-requires Inv-loop μ-loop
-greatest-requires c κs = search needs
-
-loop-less : tie.Need-loop-less Inv-loop μ-loop
-loop-less c = omega arith
 
 loop-again : tie.Need-loop-again Inv-loop μ-loop
 loop-again c = let i = c .before .before .before .loop .inv in (i .0, omega arith, reaches-more (c .before .before .before .before .before .args .window) (c .before .before .before .before .before .args .ticks .now) _ _ _ (i .2) (omega arith) (c .before .breaks-before .ensures) (c .greatest .ensures))
@@ -44,10 +32,10 @@ reached-spec =
     Inv-loop
     μ-loop
     loop-holds
-    sub-loop
-    add-end
+    (λ c. omega arith)
+    (λ c. omega arith)
     breaks-before-requires
-    greatest-requires
-    loop-less
+    (λ c κs. search needs)
+    (λ c. omega arith)
     loop-again
     returns)

@@ -24,21 +24,6 @@ counted c = answered headerOf (c .before .before .before .read-header .ensures .
 long : (c : tie.After-known-told) → 11 ≤ length (c .before .before .before .before .before .args .file .now)
 long c = c .before .before .before .read-header .ensures .1 _ (ap headerOf (c .before .h .given .1))
 
-read-header-requires : tie.Need-read-header-requires
-read-header-requires c κs = search needs
-
-enum-known-h : tie.Need-enum-known-h
-enum-known-h c = search needs
-
-enum-told : tie.Need-enum-told
-enum-told c = search needs
-
-header-refusal-requires : tie.Need-header-refusal-requires
-header-refusal-requires c κs = search needs
-
-refused-file-requires : tie.Need-refused-file-requires
-refused-file-requires c κs = search needs
-
 returns : tie.Need-returns
 returns c = let e = c .before .before .enum-told .given .1 in
     let z = header-refused _ (answered headerOf (c .before .before .before .before .read-header .ensures .0) e) in
@@ -69,11 +54,11 @@ pub checked-spec : {M : Type 1} → statement M
 checked-spec =
     tie.close
     (tie.spec
-    read-header-requires
-    enum-known-h
-    enum-told
-    header-refusal-requires
-    refused-file-requires
+    (λ c κs. search needs)
+    (λ c. search needs)
+    (λ c. search needs)
+    (λ c κs. search needs)
+    (λ c κs. search needs)
     returns
     sub-checked-records
     part-checked-records-start

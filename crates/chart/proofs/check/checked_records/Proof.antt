@@ -12,39 +12,12 @@ use Rattle.chart.proofs.Files.{from-fault, from-got, ready-of}
 use Rattle.chart.proofs.check.checked_records.Statement.{statement}
 use Rattle.chart.proofs.check.checked_records.Tie as tie
 
-read-records-requires : tie.Need-read-records-requires
-read-records-requires c κs = search needs
-
-enum-told : tie.Need-enum-told
-enum-told c = search needs
-
-enum-told-2 : tie.Need-enum-told-2
-enum-told-2 c = search needs
-
-reached-fault-requires : tie.Need-reached-fault-requires
-reached-fault-requires c κs = search needs
-
-fault-number-requires : tie.Need-fault-number-requires
-fault-number-requires c κs = search needs
-
-refused-file-requires : tie.Need-refused-file-requires
-refused-file-requires c κs = search needs
-
 returns : tie.Need-returns
 returns c = let e = c .before .before .before .enum-told2 .given .1 in
     let r = c .before .before .before .before .before .read-records in
     let z = from-fault _ _ (c .before .before .before .enum-told2 .given .0 .0) (fault-at _ _ (answered (reached _ (r .result .once)) (r .ensures .0) e)) in
     let number = c .before .fault-number .ensures ∙ ap faultNumber (c .before .before .reached-fault .ensures ∙ ap reachedFault e) in
     (c .refused-file .ensures ∙ ap (λ (k : ℕ). Vd.Refused k) number ∙ sym (ap verdictOf z), λ d h. refused-not (sym z ∙ h))
-
-tree-of-requires : tie.Need-tree-of-requires
-tree-of-requires c κs = search needs
-
-slice-aggregate-rules-checked : tie.Need-slice-aggregate-rules-checked
-slice-aggregate-rules-checked c = search needs
-
-rules-checked-requires : tie.Need-rules-checked-requires
-rules-checked-requires c κs = search needs
 
 returns-2 : tie.Need-returns-2
 returns-2 c = let r = c .before .before .before .before .before .before .read-records in
@@ -57,14 +30,14 @@ pub checked-records-spec : {M : Type 1} → statement M
 checked-records-spec =
     tie.close
     (tie.spec
-    read-records-requires
-    enum-told
-    enum-told-2
-    reached-fault-requires
-    fault-number-requires
-    refused-file-requires
+    (λ c κs. search needs)
+    (λ c. search needs)
+    (λ c. search needs)
+    (λ c κs. search needs)
+    (λ c κs. search needs)
+    (λ c κs. search needs)
     returns
-    tree-of-requires
-    slice-aggregate-rules-checked
-    rules-checked-requires
+    (λ c κs. search needs)
+    (λ c. search needs)
+    (λ c κs. search needs)
     returns-2)

@@ -7,41 +7,14 @@ use borrow.Author.Needs.{needs}
 use Rattle.chart.proofs.check.read_records.Statement.{statement}
 use Rattle.chart.proofs.check.read_records.Tie as tie
 
-read-states-requires : tie.Need-read-states-requires
-read-states-requires c κs = search needs
-
-enum-known-s : tie.Need-enum-known-s
-enum-known-s c = search needs
-
-enum-told : tie.Need-enum-told
-enum-told c = search needs
-
-reached-fault-requires : tie.Need-reached-fault-requires
-reached-fault-requires c κs = search needs
-
-no-transitions-requires : tie.Need-no-transitions-requires
-no-transitions-requires c κs = search needs
-
 returns : tie.Need-returns
 returns c = let z = records-unstated _ _ (answered (reached _ tt) (c .before .before .before .before .read-states .ensures) (c .before .before .enum-told .given .1)) in
     (rw (c .no-transitions .ensures, c .before .reached-fault .ensures ∙ ap reachedFault (c .before .before .enum-told .given .1)) (sym (mapped-fault _ z)), λ k t l r. no-answer (sym z ∙ r))
-
-read-transitions-requires : tie.Need-read-transitions-requires
-read-transitions-requires c κs = search needs
-
-enum-known-q : tie.Need-enum-known-q
-enum-known-q c = search needs
-
-enum-told-2 : tie.Need-enum-told-2
-enum-told-2 c = search needs
 
 returns-2 : tie.Need-returns-2
 returns-2 c = let t = c .before .before .read-transitions in
     let z = records-unread _ _ _ (answered (reached _ tt) (c .before .before .before .before .before .before .read-states .ensures) (c .before .before .before .before .s .given .1)) (answered (reached _ (t .result .once)) (t .ensures .0) (c .enum-told2 .given .1)) in
     (rw (c .enum-told2 .given .1) (sym (mapped-fault _ z)), λ k t l r. no-answer (sym z ∙ r))
-
-no-transitions-requires-2 : tie.Need-no-transitions-requires-2
-no-transitions-requires-2 c κs = search needs
 
 returns-3 : tie.Need-returns-3
 returns-3 c =
@@ -67,16 +40,16 @@ pub read-records-spec : {M : Type 1} → statement M
 read-records-spec =
     tie.close
     (tie.spec
-    read-states-requires
-    enum-known-s
-    enum-told
-    reached-fault-requires
-    no-transitions-requires
+    (λ c κs. search needs)
+    (λ c. search needs)
+    (λ c. search needs)
+    (λ c κs. search needs)
+    (λ c κs. search needs)
     returns
-    read-transitions-requires
-    enum-known-q
-    enum-told-2
+    (λ c κs. search needs)
+    (λ c. search needs)
+    (λ c. search needs)
     returns-2
-    no-transitions-requires-2
+    (λ c κs. search needs)
     returns-3
     returns-4)

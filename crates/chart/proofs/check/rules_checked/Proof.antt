@@ -6,22 +6,10 @@ use Rattle.chart.proofs.Files.{states-refused, states-passed, parents-p
 use Rattle.chart.proofs.check.rules_checked.Statement.{statement}
 use Rattle.chart.proofs.check.rules_checked.Tie as tie
 
-states-checked-requires : tie.Need-states-checked-requires
-states-checked-requires c κs = search needs
-
-enum-told : tie.Need-enum-told
-enum-told c = search needs
-
-enum-told-2 : tie.Need-enum-told-2
-enum-told-2 c = search needs
-
 returns : tie.Need-returns
 returns c = λ k L T e.
     let told = c .enum-told2 .given .1 in
     told ∙ sym (states-refused k (was-refused (stateRules k) (c .before .before .states-checked .ensures k (L .stated)) told))
-
-transitions-checked-requires : tie.Need-transitions-checked-requires
-transitions-checked-requires c κs = search needs
 
 returns-2 : tie.Need-returns-2
 returns-2 c = λ k L T e.
@@ -32,9 +20,9 @@ pub rules-checked-spec : {M : Type 1} → statement M
 rules-checked-spec =
     tie.close
     (tie.spec
-    states-checked-requires
-    enum-told
-    enum-told-2
+    (λ c κs. search needs)
+    (λ c. search needs)
+    (λ c. search needs)
     returns
-    transitions-checked-requires
+    (λ c κs. search needs)
     returns-2)

@@ -16,40 +16,10 @@ use Rattle.chart.proofs.transition_list.read_transition.Tie as tie
 add-channels : tie.Need-add-channels
 add-channels c = omega (arith, counts-range _ (c .before .before .pre))
 
-read-byte-below-requires : tie.Need-read-byte-below-requires
-read-byte-below-requires c κs = search needs
-
-enum-known-a : tie.Need-enum-known-a
-enum-known-a c = search needs
-
-enum-told : tie.Need-enum-told
-enum-told c = search needs
-
-byte-fault-requires : tie.Need-byte-fault-requires
-byte-fault-requires c κs = search needs
-
-no-transition-requires : tie.Need-no-transition-requires
-no-transition-requires c κs = search needs
-
 returns : tie.Need-returns
 unfolding transition
 returns c = rw (c .no-transition .ensures, c .before .byte-fault .ensures ∙ ap byteFault (c .before .before .enum-told .given .1))
     (sym (mapped-fault _ (bind-fault _ _ _ (answered (byteOf _) (c .before .before .before .before .read-byte-below .ensures) (c .before .before .enum-told .given .1)))))
-
-read-byte-below-requires-2 : tie.Need-read-byte-below-requires-2
-read-byte-below-requires-2 c κs = search needs
-
-enum-known-d : tie.Need-enum-known-d
-enum-known-d c = search needs
-
-enum-told-2 : tie.Need-enum-told-2
-enum-told-2 c = search needs
-
-byte-fault-requires-2 : tie.Need-byte-fault-requires-2
-byte-fault-requires-2 c κs = search needs
-
-no-transition-requires-2 : tie.Need-no-transition-requires-2
-no-transition-requires-2 c κs = search needs
 
 returns-2 : tie.Need-returns-2
 unfolding transition
@@ -57,42 +27,12 @@ returns-2 c = rw (c .no-transition2 .ensures, c .before .byte-fault2 .ensures �
     (sym (mapped-fault _ (bind-got _ _ _ (answered (byteOf _) (c .before .before .before .before .before .before .before .before .read-byte-below .ensures) (c .before .before .before .before .before .before .a .given .1))
     ∙ bind-fault _ _ _ (answered (byteOf _) (c .before .before .before .before .read-byte-below2 .ensures) (c .before .before .enum-told2 .given .1)))))
 
-read-byte-or-none-requires : tie.Need-read-byte-or-none-requires
-read-byte-or-none-requires c κs = search needs
-
-enum-known-x : tie.Need-enum-known-x
-enum-known-x c = search needs
-
-enum-told-3 : tie.Need-enum-told-3
-enum-told-3 c = search needs
-
-byte-fault-requires-3 : tie.Need-byte-fault-requires-3
-byte-fault-requires-3 c κs = search needs
-
-no-transition-requires-3 : tie.Need-no-transition-requires-3
-no-transition-requires-3 c κs = search needs
-
 returns-3 : tie.Need-returns-3
 unfolding transition
 returns-3 c = rw (c .no-transition3 .ensures, c .before .byte-fault3 .ensures ∙ ap byteFault (c .before .before .enum-told3 .given .1))
     (sym (mapped-fault _ (bind-got _ _ _ (answered (byteOf _) (c .before .before .before .before .before .before .before .before .before .before .before .before .read-byte-below .ensures) (c .before .before .before .before .before .before .before .before .before .before .a .given .1))
     ∙ bind-got _ _ _ (answered (byteOf _) (c .before .before .before .before .before .before .before .before .read-byte-below2 .ensures) (c .before .before .before .before .before .before .d .given .1))
     ∙ bind-fault _ _ _ (answered (byteOf _) (c .before .before .before .before .read-byte-or-none .ensures) (c .before .before .enum-told3 .given .1)))))
-
-read-byte-or-none-requires-2 : tie.Need-read-byte-or-none-requires-2
-read-byte-or-none-requires-2 c κs = search needs
-
-enum-known-e : tie.Need-enum-known-e
-enum-known-e c = search needs
-
-enum-told-4 : tie.Need-enum-told-4
-enum-told-4 c = search needs
-
-byte-fault-requires-4 : tie.Need-byte-fault-requires-4
-byte-fault-requires-4 c κs = search needs
-
-no-transition-requires-4 : tie.Need-no-transition-requires-4
-no-transition-requires-4 c κs = search needs
 
 returns-4 : tie.Need-returns-4
 unfolding transition
@@ -112,21 +52,6 @@ returns-4 c =
     ∙ bind-got _ _ _ (answered (byteOf _) (read-byte-below2 .ensures) (d .given .1))
     ∙ bind-got _ _ _ (answered (byteOf _) (read-byte-or-none .ensures) (x .given .1))
     ∙ bind-fault _ _ _ (answered (byteOf _) (read-byte-or-none2 .ensures) (c .before .before .enum-told4 .given .1)))))
-
-read-label-requires : tie.Need-read-label-requires
-read-label-requires c κs = search needs
-
-enum-known-l : tie.Need-enum-known-l
-enum-known-l c = search needs
-
-enum-told-5 : tie.Need-enum-told-5
-enum-told-5 c = search needs
-
-label-fault-requires : tie.Need-label-fault-requires
-label-fault-requires c κs = search needs
-
-no-transition-requires-5 : tie.Need-no-transition-requires-5
-no-transition-requires-5 c κs = search needs
 
 returns-5 : tie.Need-returns-5
 unfolding transition
@@ -181,34 +106,34 @@ read-transition-spec =
     tie.close
     (tie.spec
     add-channels
-    read-byte-below-requires
-    enum-known-a
-    enum-told
-    byte-fault-requires
-    no-transition-requires
+    (λ c κs. search needs)
+    (λ c. search needs)
+    (λ c. search needs)
+    (λ c κs. search needs)
+    (λ c κs. search needs)
     returns
-    read-byte-below-requires-2
-    enum-known-d
-    enum-told-2
-    byte-fault-requires-2
-    no-transition-requires-2
+    (λ c κs. search needs)
+    (λ c. search needs)
+    (λ c. search needs)
+    (λ c κs. search needs)
+    (λ c κs. search needs)
     returns-2
-    read-byte-or-none-requires
-    enum-known-x
-    enum-told-3
-    byte-fault-requires-3
-    no-transition-requires-3
+    (λ c κs. search needs)
+    (λ c. search needs)
+    (λ c. search needs)
+    (λ c κs. search needs)
+    (λ c κs. search needs)
     returns-3
-    read-byte-or-none-requires-2
-    enum-known-e
-    enum-told-4
-    byte-fault-requires-4
-    no-transition-requires-4
+    (λ c κs. search needs)
+    (λ c. search needs)
+    (λ c. search needs)
+    (λ c κs. search needs)
+    (λ c κs. search needs)
     returns-4
-    read-label-requires
-    enum-known-l
-    enum-told-5
-    label-fault-requires
-    no-transition-requires-5
+    (λ c κs. search needs)
+    (λ c. search needs)
+    (λ c. search needs)
+    (λ c κs. search needs)
+    (λ c κs. search needs)
     returns-5
     returns-6)

@@ -23,40 +23,13 @@ abbrev μ-loop : tie.MeasureT-loop
 loop-holds : tie.Need-loop-holds Inv-loop μ-loop
 loop-holds c = kept-none _ _ _ _ _ _ refl
 
-transition-at-requires : tie.Need-transition-at-requires Inv-loop μ-loop
-transition-at-requires c κs = search needs
-
-enum-known-q : tie.Need-enum-known-q Inv-loop μ-loop
-enum-known-q c = search needs
-
-enum-told : tie.Need-enum-told Inv-loop μ-loop
-enum-told c = search needs
-
 returns : tie.Need-returns Inv-loop μ-loop
 returns c = let l = c .before .before in
     let z = kept-stop _ _ _ _ _ _ (l .before .before .before .loop .inv) (l .before .if1 .taken) (answered (reached _ (l .transition-at .result .once)) (l .transition-at .ensures) (c .enum-told .given .1)) in
     (rw (c .enum-told .given .1) (sym (mapped-fault _ z)), λ ts t h k. no-answer (sym z ∙ k))
 
-cast-j : tie.Need-cast-j Inv-loop μ-loop
-cast-j c = search needs
-
-offset-of-requires : tie.Need-offset-of-requires Inv-loop μ-loop
-offset-of-requires c κs = search needs
-
-mul-offsets : tie.Need-mul-offsets Inv-loop μ-loop
-mul-offsets c = search needs
-
 array-write-offsets : tie.Need-array-write-offsets Inv-loop μ-loop
 array-write-offsets c = omega (arith, counts-range _ (c .before .before .before .before .before .before .before .before .before .pre))
-
-both-requires : tie.Need-both-requires Inv-loop μ-loop
-both-requires c κs = search needs
-
-add-i : tie.Need-add-i Inv-loop μ-loop
-add-i c = omega arith
-
-loop-less : tie.Need-loop-less Inv-loop μ-loop
-loop-less c = omega arith
 
 loop-again : tie.Need-loop-again Inv-loop μ-loop
 loop-again c = let l = c .before .before .before .before .before in
@@ -75,16 +48,16 @@ read-transitions-spec =
     Inv-loop
     μ-loop
     loop-holds
-    transition-at-requires
-    enum-known-q
-    enum-told
+    (λ c κs. search needs)
+    (λ c. search needs)
+    (λ c. search needs)
     returns
-    cast-j
-    offset-of-requires
-    mul-offsets
+    (λ c. search needs)
+    (λ c κs. search needs)
+    (λ c. search needs)
     array-write-offsets
-    both-requires
-    add-i
-    loop-less
+    (λ c κs. search needs)
+    (λ c. omega arith)
+    (λ c. omega arith)
     loop-again
     returns-2)

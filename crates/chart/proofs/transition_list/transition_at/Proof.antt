@@ -14,21 +14,6 @@ use Rattle.chart.proofs.transition_list.transition_at.Tie as tie
 fits : (c : tie.After-known-told) → (c .before .p .given .0 .0 ≤ c .before .p .given .0 .1 .0) × (c .before .p .given .0 .1 .0 ≤ length (c .before .before .before .before .before .args .s .now))
 fits c = frame-fits _ (c .before .before .before .read-long-frame .ensures .1) (c .before .p .given .1)
 
-read-long-frame-requires : tie.Need-read-long-frame-requires
-read-long-frame-requires c κs = search needs
-
-enum-known-p : tie.Need-enum-known-p
-enum-known-p c = search needs
-
-enum-told : tie.Need-enum-told
-enum-told c = search needs
-
-frame-fault-requires : tie.Need-frame-fault-requires
-frame-fault-requires c κs = search needs
-
-no-transition-requires : tie.Need-no-transition-requires
-no-transition-requires c κs = search needs
-
 returns : tie.Need-returns
 returns c = rw (c .no-transition .ensures, c .before .frame-fault .ensures ∙ ap frameFault (c .before .before .enum-told .given .1))
     (sym (mapped-fault _ (recorded-fault _ _ _ (answered (frameOf _) (c .before .before .before .before .read-long-frame .ensures .0) (c .before .before .enum-told .given .1)))))
@@ -42,14 +27,8 @@ part-read-transition-start c = omega (arith, fits c)
 part-read-transition-end : tie.Need-part-read-transition-end
 part-read-transition-end c = omega (arith, fits c)
 
-read-transition-requires : tie.Need-read-transition-requires
-read-transition-requires c κs = search needs
-
 sub-whole : tie.Need-sub-whole
 sub-whole c = fits (c .before .before) .0
-
-whole-requires : tie.Need-whole-requires
-whole-requires c κs = search needs
 
 returns-2 : tie.Need-returns-2
 returns-2 c = let l = c .before .read-transition in
@@ -62,16 +41,16 @@ pub transition-at-spec : {M : Type 1} → statement M
 transition-at-spec =
     tie.close
     (tie.spec
-    read-long-frame-requires
-    enum-known-p
-    enum-told
-    frame-fault-requires
-    no-transition-requires
+    (λ c κs. search needs)
+    (λ c. search needs)
+    (λ c. search needs)
+    (λ c κs. search needs)
+    (λ c κs. search needs)
     returns
     sub-read-transition
     part-read-transition-start
     part-read-transition-end
-    read-transition-requires
+    (λ c κs. search needs)
     sub-whole
-    whole-requires
+    (λ c κs. search needs)
     returns-2)

@@ -6,18 +6,9 @@ use borrow.Author.Needs.{needs}
 use Rattle.chart_machine.proofs.operation.bound_kept.Statement.{statement}
 use Rattle.chart_machine.proofs.operation.bound_kept.Tie as tie
 
-is-in-requires : tie.Need-is-in-requires
-is-in-requires c κs = search needs
-
 returns : tie.Need-returns
 unfolding isActive implies
 returns c = λ k σ S e f h. rw (e, sym (c .before .is-in .ensures) ∙ not-true _ (c .if1 .taken))
-
-bounds-of-requires : tie.Need-bounds-of-requires
-bounds-of-requires c κs = search needs
-
-keeps-requires : tie.Need-keeps-requires
-keeps-requires c κs = search needs
 
 returns-2 : tie.Need-returns-2
 unfolding isActive implies
@@ -25,4 +16,4 @@ returns-2 c = λ k σ S e f h. rw (e, sym (c .before .before .before .is-in .ens
 
 pub bound-kept-spec : {M : Type 1} → statement M
 bound-kept-spec =
-    tie.close (tie.spec is-in-requires returns bounds-of-requires keeps-requires returns-2)
+    tie.close (tie.spec (λ c κs. search needs) returns (λ c κs. search needs) (λ c κs. search needs) returns-2)

@@ -24,12 +24,6 @@ abbrev μ-loop : tie.MeasureT-loop
 loop-holds : tie.Need-loop-holds Inv-loop μ-loop
 loop-holds c = λ k σ S e f. refl
 
-slice-aggregate-bound-kept : tie.Need-slice-aggregate-bound-kept Inv-loop μ-loop
-slice-aggregate-bound-kept c = search needs
-
-bound-kept-requires : tie.Need-bound-kept-requires Inv-loop μ-loop
-bound-kept-requires c κs = search needs
-
 returns : tie.Need-returns Inv-loop μ-loop
 unfolding boundsKept
 returns c =
@@ -38,12 +32,6 @@ returns c =
     let loop = place .before .before .loop in
     λ k σ S e f. sym (loop .inv k σ S e f ∙ all-stop (boundKept k σ) (states-next S _ (if1 .taken))
     (sym (c .before .bound-kept .ensures k σ S e f (if1 .taken)) ∙ not-true _ (c .if2 .taken)))
-
-add-s : tie.Need-add-s Inv-loop μ-loop
-add-s c = omega arith
-
-loop-less : tie.Need-loop-less Inv-loop μ-loop
-loop-less c = omega arith
 
 loop-again : tie.Need-loop-again Inv-loop μ-loop
 loop-again c =
@@ -64,10 +52,10 @@ bounds-kept-spec =
     Inv-loop
     μ-loop
     loop-holds
-    slice-aggregate-bound-kept
-    bound-kept-requires
+    (λ c. search needs)
+    (λ c κs. search needs)
     returns
-    add-s
-    loop-less
+    (λ c. omega arith)
+    (λ c. omega arith)
     loop-again
     returns-2)

@@ -5,14 +5,8 @@ use borrow.Author.Needs.{needs}
 use Rattle.chart_machine.proofs.operation.is_configuration.Statement.{statement}
 use Rattle.chart_machine.proofs.operation.is_configuration.Tie as tie
 
-stands-requires : tie.Need-stands-requires
-stands-requires c κs = search needs
-
 returns : tie.Need-returns
 returns c = λ k G. sym (stands-not k _ (sym (c .before .stands .ensures k G) ∙ not-true _ (c .if1 .taken)))
-
-bounds-kept-requires : tie.Need-bounds-kept-requires
-bounds-kept-requires c κs = search needs
 
 returns-2 : tie.Need-returns-2
 returns-2 c = λ k G.
@@ -23,4 +17,4 @@ returns-2 c = λ k G.
 
 pub is-configuration-spec : {M : Type 1} → statement M
 is-configuration-spec =
-    tie.close (tie.spec stands-requires returns bounds-kept-requires returns-2)
+    tie.close (tie.spec (λ c κs. search needs) returns (λ c κs. search needs) returns-2)

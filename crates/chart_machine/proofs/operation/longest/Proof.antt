@@ -24,18 +24,6 @@ chart c = verdict-done-at _ (sym (c .before .before .checked .ensures .0) ∙ c 
 long : (c : tie.After-enum-told) → 11 ≤ length (c .before .before .before .before .args .file .now)
 long c = chart-long _ (chart c .1)
 
-checked-requires : tie.Need-checked-requires
-checked-requires c κs = search needs
-
-enum-told : tie.Need-enum-told
-enum-told c = search needs
-
-enum-told-2 : tie.Need-enum-told-2
-enum-told-2 c = search needs
-
-number-of-requires : tie.Need-number-of-requires
-number-of-requires c κs = search needs
-
 returns : tie.Need-returns
 returns c =
     let place = c .before in
@@ -48,12 +36,6 @@ sub-longest-checked c = omega (arith, long (c .before .before))
 
 part-longest-checked-start : tie.Need-part-longest-checked-start
 part-longest-checked-start c = omega (arith, long (c .before .before))
-
-part-longest-checked-end : tie.Need-part-longest-checked-end
-part-longest-checked-end c = search needs
-
-longest-checked-requires : tie.Need-longest-checked-requires
-longest-checked-requires c κs = search needs
 
 returns-2 : tie.Need-returns-2
 returns-2 c =
@@ -70,13 +52,13 @@ pub longest-spec : {M : Type 1} → statement M
 longest-spec =
     tie.close
     (tie.spec
-    checked-requires
-    enum-told
-    enum-told-2
-    number-of-requires
+    (λ c κs. search needs)
+    (λ c. search needs)
+    (λ c. search needs)
+    (λ c κs. search needs)
     returns
     sub-longest-checked
     part-longest-checked-start
-    part-longest-checked-end
-    longest-checked-requires
+    (λ c. search needs)
+    (λ c κs. search needs)
     returns-2)

@@ -7,15 +7,6 @@ use borrow.Author.Needs.{needs}
 use Rattle.chart_machine.proofs.operation.longest_checked.Statement.{statement}
 use Rattle.chart_machine.proofs.operation.longest_checked.Tie as tie
 
-ticks-left-requires : tie.Need-ticks-left-requires
-ticks-left-requires c κs = search needs
-
-enum-known-left : tie.Need-enum-known-left
-enum-known-left c = search needs
-
-enum-told : tie.Need-enum-told
-enum-told c = search needs
-
 returns : tie.Need-returns
 returns c = λ k G.
     let place = c .before in
@@ -27,4 +18,4 @@ returns-2 c = λ k G. ap told (sym (longest-elsewhere k _ (was-broken _ _ (sym (
 
 pub longest-checked-spec : {M : Type 1} → statement M
 longest-checked-spec =
-    tie.close (tie.spec ticks-left-requires enum-known-left enum-told returns returns-2)
+    tie.close (tie.spec (λ c κs. search needs) (λ c. search needs) (λ c. search needs) returns returns-2)

@@ -6,15 +6,6 @@ use Rattle.chart_machine.specs.Outcomes.{outcomeOf}
 use Rattle.chart_machine.proofs.operation.outcome_by.Statement.{statement}
 use Rattle.chart_machine.proofs.operation.outcome_by.Tie as tie
 
-enum-told : tie.Need-enum-told
-enum-told c = search needs
-
-enum-known-verdict : tie.Need-enum-known-verdict
-enum-known-verdict c = search needs
-
-refuse-requires : tie.Need-refuse-requires
-refuse-requires c κs = search needs
-
 returns : tie.Need-returns
 unfolding outcomeOf
 returns c =
@@ -29,4 +20,4 @@ returns-2 c =
 
 pub outcome-by-spec : {M : Type 1} → statement M
 outcome-by-spec =
-    tie.close (tie.spec enum-told enum-known-verdict refuse-requires returns returns-2)
+    tie.close (tie.spec (λ c. search needs) (λ c. search needs) (λ c κs. search needs) returns returns-2)

@@ -5,18 +5,9 @@ use borrow.Author.Needs.{needs}
 use Rattle.chart_machine.proofs.operation.stands.Statement.{statement}
 use Rattle.chart_machine.proofs.operation.stands.Tie as tie
 
-is-tree-requires : tie.Need-is-tree-requires
-is-tree-requires c κs = search needs
-
 returns : tie.Need-returns
 unfolding stands
 returns c = λ k G. rw (sym (c .before .is-tree .ensures k (c .before .before .before .before .before .before .args .given) (G .tabled) (G .parents) refl) ∙ not-true _ (c .if1 .taken))
-
-cast-zeros-past : tie.Need-cast-zeros-past
-cast-zeros-past c = search needs
-
-zeros-past-requires : tie.Need-zeros-past-requires
-zeros-past-requires c κs = search needs
 
 returns-2 : tie.Need-returns-2
 unfolding stands
@@ -30,12 +21,6 @@ returns-2 c =
       G .stated .variables,
       sym (c .before .zeros-past .ensures) ∙ not-true _ (c .if2 .taken),
     )
-
-cast-in-limit : tie.Need-cast-in-limit
-cast-in-limit c = search needs
-
-in-limit-requires : tie.Need-in-limit-requires
-in-limit-requires c κs = search needs
 
 returns-3 : tie.Need-returns-3
 unfolding stands
@@ -54,12 +39,6 @@ returns-3 c =
       G .stated .clocks,
       sym (c .before .in-limit .ensures) ∙ not-true _ (c .if3 .taken),
     )
-
-cast-zero-past : tie.Need-cast-zero-past
-cast-zero-past c = search needs
-
-zero-past-requires : tie.Need-zero-past-requires
-zero-past-requires c κs = search needs
 
 returns-4 : tie.Need-returns-4
 unfolding stands
@@ -86,14 +65,14 @@ pub stands-spec : {M : Type 1} → statement M
 stands-spec =
     tie.close
     (tie.spec
-    is-tree-requires
+    (λ c κs. search needs)
     returns
-    cast-zeros-past
-    zeros-past-requires
+    (λ c. search needs)
+    (λ c κs. search needs)
     returns-2
-    cast-in-limit
-    in-limit-requires
+    (λ c. search needs)
+    (λ c κs. search needs)
     returns-3
-    cast-zero-past
-    zero-past-requires
+    (λ c. search needs)
+    (λ c κs. search needs)
     returns-4)

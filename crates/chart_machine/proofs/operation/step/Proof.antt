@@ -22,15 +22,6 @@ chart c = verdict-done-at _ (sym (c .before .before .checked .ensures .0) ∙ c 
 long : (c : tie.After-enum-told) → 11 ≤ length (c .before .before .before .before .before .args .file .now)
 long c = chart-long _ (chart c .1)
 
-checked-requires : tie.Need-checked-requires
-checked-requires c κs = search needs
-
-enum-told : tie.Need-enum-told
-enum-told c = search needs
-
-enum-told-2 : tie.Need-enum-told-2
-enum-told-2 c = search needs
-
 returns : tie.Need-returns
 unfolding outcomeOf
 returns c = let told = c .enum-told2 .given .1 in rw (told, step-refused _ _ _ (was-refused (chartOf _) (c .before .before .checked .ensures .0) told))
@@ -40,15 +31,6 @@ sub-step-checked c = omega (arith, long (c .before .before .before))
 
 part-step-checked-start : tie.Need-part-step-checked-start
 part-step-checked-start c = omega (arith, long (c .before .before .before))
-
-part-step-checked-end : tie.Need-part-step-checked-end
-part-step-checked-end c = search needs
-
-slice-aggregate-step-checked : tie.Need-slice-aggregate-step-checked
-slice-aggregate-step-checked c = search needs
-
-step-checked-requires : tie.Need-step-checked-requires
-step-checked-requires c κs = search needs
 
 returns-2 : tie.Need-returns-2
 returns-2 c =
@@ -64,13 +46,13 @@ pub step-spec : {M : Type 1} → statement M
 step-spec =
     tie.close
     (tie.spec
-    checked-requires
-    enum-told
-    enum-told-2
+    (λ c κs. search needs)
+    (λ c. search needs)
+    (λ c. search needs)
     returns
     sub-step-checked
     part-step-checked-start
-    part-step-checked-end
-    slice-aggregate-step-checked
-    step-checked-requires
+    (λ c. search needs)
+    (λ c. search needs)
+    (λ c κs. search needs)
     returns-2)

@@ -10,23 +10,8 @@ use borrow.Author.Needs.{needs}
 use Rattle.chart_machine.proofs.operation.step_checked.Statement.{statement}
 use Rattle.chart_machine.proofs.operation.step_checked.Tie as tie
 
-is-configuration-requires : tie.Need-is-configuration-requires
-is-configuration-requires c κs = search needs
-
-refuse-requires : tie.Need-refuse-requires
-refuse-requires c κs = search needs
-
 returns : tie.Need-returns
 returns c = λ k R. c .refuse .ensures ∙ ap (outcomeOf _) (sym (step-elsewhere k _ _ (sym (c .before .before .is-configuration .ensures k (grown-of R)) ∙ not-true _ (c .before .if1 .taken))))
-
-cast-known : tie.Need-cast-known
-cast-known c = search needs
-
-known-requires : tie.Need-known-requires
-known-requires c κs = search needs
-
-refuse-requires-2 : tie.Need-refuse-requires-2
-refuse-requires-2 c κs = search needs
 
 returns-2 : tie.Need-returns-2
 returns-2 c =
@@ -36,18 +21,6 @@ returns-2 c =
     λ k R. c .refuse2 .ensures ∙ ap (outcomeOf _) (sym
     (step-unknown k _ _ (R .laid .transitions) (sym (is-configuration .ensures k (grown-of R)) ∙ not-false _ (if1 .left))
     (sym (c .before .before .known .ensures) ∙ not-true _ (c .before .if2 .taken))))
-
-complete-exits-requires : tie.Need-complete-exits-requires
-complete-exits-requires c κs = search needs
-
-slice-aggregate-all-active : tie.Need-slice-aggregate-all-active
-slice-aggregate-all-active c = search needs
-
-all-active-requires : tie.Need-all-active-requires
-all-active-requires c κs = search needs
-
-refuse-requires-3 : tie.Need-refuse-requires-3
-refuse-requires-3 c κs = search needs
 
 returns-3 : tie.Need-returns-3
 returns-3 c =
@@ -63,24 +36,6 @@ returns-3 c =
     (step-inactive k _ _ (R .laid .transitions) (sym (is-configuration .ensures k (grown-of R)) ∙ not-false _ (if1 .left))
     (sym (known .ensures) ∙ not-false _ (if2 .left)) (sym
     (c .before .before .all-active .ensures k (prepared k R (sym (is-configuration .ensures k (grown-of R)) ∙ not-false _ (if1 .left)) (sets .complete-exits .ensures k (args .given) (R .tabled) (R .parents) refl)) (sym (known .ensures) ∙ not-false _ (if2 .left))) ∙ not-true _ (c .before .if3 .taken))))
-
-slice-aggregate-is-allowed : tie.Need-slice-aggregate-is-allowed
-slice-aggregate-is-allowed c = search needs
-
-is-allowed-requires : tie.Need-is-allowed-requires
-is-allowed-requires c κs = search needs
-
-after-requires : tie.Need-after-requires
-after-requires c κs = search needs
-
-bounds-kept-requires : tie.Need-bounds-kept-requires
-bounds-kept-requires c κs = search needs
-
-last-tests-requires : tie.Need-last-tests-requires
-last-tests-requires c κs = search needs
-
-outcome-by-requires : tie.Need-outcome-by-requires
-outcome-by-requires c κs = search needs
 
 returns-4 : tie.Need-returns-4
 unfolding tested
@@ -113,22 +68,22 @@ pub step-checked-spec : {M : Type 1} → statement M
 step-checked-spec =
     tie.close
     (tie.spec
-    is-configuration-requires
-    refuse-requires
+    (λ c κs. search needs)
+    (λ c κs. search needs)
     returns
-    cast-known
-    known-requires
-    refuse-requires-2
+    (λ c. search needs)
+    (λ c κs. search needs)
+    (λ c κs. search needs)
     returns-2
-    complete-exits-requires
-    slice-aggregate-all-active
-    all-active-requires
-    refuse-requires-3
+    (λ c κs. search needs)
+    (λ c. search needs)
+    (λ c κs. search needs)
+    (λ c κs. search needs)
     returns-3
-    slice-aggregate-is-allowed
-    is-allowed-requires
-    after-requires
-    bounds-kept-requires
-    last-tests-requires
-    outcome-by-requires
+    (λ c. search needs)
+    (λ c κs. search needs)
+    (λ c κs. search needs)
+    (λ c κs. search needs)
+    (λ c κs. search needs)
+    (λ c κs. search needs)
     returns-4)

@@ -6,12 +6,6 @@ use borrow.Author.Needs.{needs}
 use Rattle.chart_machine.proofs.operation.tested.Statement.{statement}
 use Rattle.chart_machine.proofs.operation.tested.Tie as tie
 
-bounds-kept-requires : tie.Need-bounds-kept-requires
-bounds-kept-requires c κs = search needs
-
-refuse-requires : tie.Need-refuse-requires
-refuse-requires c κs = search needs
-
 returns : tie.Need-returns
 returns c = λ k S. c .refuse .ensures ∙ ap (outcomeOf _) (sym (tested-broken k _ (sym (c .before .before .bounds-kept .ensures k (c .before .before .before .before .before .before .args .next) S refl refl) ∙ not-true _ (c .before .if1 .taken))))
 
@@ -20,4 +14,4 @@ unfolding outcomeOf
 returns-2 c = λ k S. sym (ap (outcomeOf (c .before .before .before .before .before .args .given)) (tested-kept k _ (sym (c .before .bounds-kept .ensures k (c .before .before .before .before .before .args .next) S refl refl) ∙ not-false _ (c .if1 .left))))
 
 pub tested-spec : {M : Type 1} → statement M
-tested-spec = tie.close (tie.spec bounds-kept-requires refuse-requires returns returns-2)
+tested-spec = tie.close (tie.spec (λ c κs. search needs) (λ c κs. search needs) returns returns-2)

@@ -10,14 +10,8 @@ use borrow.Author.Needs.{needs}
 use Rattle.chart_machine.proofs.operation.ticks_left.Statement.{statement}
 use Rattle.chart_machine.proofs.operation.ticks_left.Tie as tie
 
-stands-requires : tie.Need-stands-requires
-stands-requires c κs = search needs
-
 returns : tie.Need-returns
 returns c = λ k G. sym (where-broken _ (stands-not k _ (sym (c .before .stands .ensures k G) ∙ not-true _ (c .if1 .taken))))
-
-bounds-left-requires : tie.Need-bounds-left-requires
-bounds-left-requires c κs = search needs
 
 returns-2 : tie.Need-returns-2
 returns-2 c = λ k G.
@@ -28,4 +22,4 @@ returns-2 c = λ k G.
     ∙ ap (λ (b : Bool). leftWhere b (ticksUnder k given (states k) (limitLeft (k .clocks) (given .clocks)))) (stands-bounds k given h)
 
 pub ticks-left-spec : {M : Type 1} → statement M
-ticks-left-spec = tie.close (tie.spec stands-requires returns bounds-left-requires returns-2)
+ticks-left-spec = tie.close (tie.spec (λ c κs. search needs) returns (λ c κs. search needs) returns-2)

@@ -22,15 +22,6 @@ chart c = verdict-done-at _ (sym (c .before .before .checked .ensures .0) ∙ c 
 long : (c : tie.After-enum-told) → 11 ≤ length (c .before .before .before .before .args .file .now)
 long c = chart-long _ (chart c .1)
 
-checked-requires : tie.Need-checked-requires
-checked-requires c κs = search needs
-
-enum-told : tie.Need-enum-told
-enum-told c = search needs
-
-enum-told-2 : tie.Need-enum-told-2
-enum-told-2 c = search needs
-
 returns : tie.Need-returns
 unfolding outcomeOf
 returns c = let told = c .enum-told2 .given .1 in rw (told, wait-refused _ _ _ (was-refused (chartOf _) (c .before .before .checked .ensures .0) told))
@@ -40,12 +31,6 @@ sub-wait-checked c = omega (arith, long (c .before .before))
 
 part-wait-checked-start : tie.Need-part-wait-checked-start
 part-wait-checked-start c = omega (arith, long (c .before .before))
-
-part-wait-checked-end : tie.Need-part-wait-checked-end
-part-wait-checked-end c = search needs
-
-wait-checked-requires : tie.Need-wait-checked-requires
-wait-checked-requires c κs = search needs
 
 returns-2 : tie.Need-returns-2
 returns-2 c =
@@ -62,12 +47,12 @@ pub wait-spec : {M : Type 1} → statement M
 wait-spec =
     tie.close
     (tie.spec
-    checked-requires
-    enum-told
-    enum-told-2
+    (λ c κs. search needs)
+    (λ c. search needs)
+    (λ c. search needs)
     returns
     sub-wait-checked
     part-wait-checked-start
-    part-wait-checked-end
-    wait-checked-requires
+    (λ c. search needs)
+    (λ c κs. search needs)
     returns-2)

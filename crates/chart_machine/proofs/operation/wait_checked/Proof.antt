@@ -6,29 +6,11 @@ use borrow.Author.Needs.{needs}
 use Rattle.chart_machine.proofs.operation.wait_checked.Statement.{statement}
 use Rattle.chart_machine.proofs.operation.wait_checked.Tie as tie
 
-is-configuration-requires : tie.Need-is-configuration-requires
-is-configuration-requires c κs = search needs
-
-refuse-requires : tie.Need-refuse-requires
-refuse-requires c κs = search needs
-
 returns : tie.Need-returns
 returns c = λ k G. c .refuse .ensures ∙ ap (outcomeOf _) (sym (wait-elsewhere k _ _ (sym (c .before .before .is-configuration .ensures k G) ∙ not-true _ (c .before .if1 .taken))))
 
-refuse-requires-2 : tie.Need-refuse-requires-2
-refuse-requires-2 c κs = search needs
-
 returns-2 : tie.Need-returns-2
 returns-2 c = λ k G. c .refuse2 .ensures ∙ ap (outcomeOf _) (sym (wait-none k _ _ (sym (c .before .before .before .is-configuration .ensures k G) ∙ not-false _ (c .before .before .if1 .left)) (c .before .if2 .taken)))
-
-cast-later : tie.Need-cast-later
-cast-later c = search needs
-
-later-requires : tie.Need-later-requires
-later-requires c κs = search needs
-
-refuse-requires-3 : tie.Need-refuse-requires-3
-refuse-requires-3 c κs = search needs
 
 returns-3 : tie.Need-returns-3
 returns-3 c =
@@ -39,9 +21,6 @@ returns-3 c =
     λ k G. c .refuse3 .ensures ∙ ap (outcomeOf _) (sym
     (wait-late k _ _ (sym (is-configuration .ensures k G) ∙ not-false _ (if1 .left)) (if2 .left) (G .stated .clocks)
     (c .before .before .later .ensures .0) (not-true _ (c .before .if3 .taken))))
-
-tested-requires : tie.Need-tested-requires
-tested-requires c κs = search needs
 
 returns-4 : tie.Need-returns-4
 returns-4 c =
@@ -62,14 +41,14 @@ pub wait-checked-spec : {M : Type 1} → statement M
 wait-checked-spec =
     tie.close
     (tie.spec
-    is-configuration-requires
-    refuse-requires
+    (λ c κs. search needs)
+    (λ c κs. search needs)
     returns
-    refuse-requires-2
+    (λ c κs. search needs)
     returns-2
-    cast-later
-    later-requires
-    refuse-requires-3
+    (λ c. search needs)
+    (λ c κs. search needs)
+    (λ c κs. search needs)
     returns-3
-    tested-requires
+    (λ c κs. search needs)
     returns-4)

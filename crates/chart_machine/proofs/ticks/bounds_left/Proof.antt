@@ -34,26 +34,8 @@ Inv-loop rest counts clocks active ticks₀ s₀ ticks s =
 abbrev μ-loop : tie.MeasureT-loop
 μ-loop rest counts clocks active ticks₀ s₀ ticks s = counts .states - s
 
-cast-limit-left : tie.Need-cast-limit-left Inv-loop μ-loop
-cast-limit-left c = search needs
-
-limit-left-requires : tie.Need-limit-left-requires Inv-loop μ-loop
-limit-left-requires c κs = search needs
-
 loop-holds : tie.Need-loop-holds Inv-loop μ-loop
 loop-holds c = λ k σ S e f. (refl, ap (ticksUnder k σ (states k)) (rw (f, S .clocks) (sym (c .limit-left .ensures))))
-
-slice-aggregate-left-under : tie.Need-slice-aggregate-left-under Inv-loop μ-loop
-slice-aggregate-left-under c = search needs
-
-left-under-requires : tie.Need-left-under-requires Inv-loop μ-loop
-left-under-requires c κs = search needs
-
-enum-known-left : tie.Need-enum-known-left Inv-loop μ-loop
-enum-known-left c = search needs
-
-enum-told : tie.Need-enum-told Inv-loop μ-loop
-enum-told c = search needs
 
 returns : tie.Need-returns Inv-loop μ-loop
 unfolding boundsKept
@@ -65,12 +47,6 @@ returns c =
     λ k σ S e f.
     let broken = was-broken _ _ (sym (c .enum-told .given .1) ∙ under .left-under .ensures k σ S e f (if1 .taken)) in
     sym (where-broken _ (loop .inv k σ S e f .0 ∙ all-stop (boundKept k σ) (states-next S _ (if1 .taken)) broken))
-
-add-s : tie.Need-add-s Inv-loop μ-loop
-add-s c = omega arith
-
-loop-less : tie.Need-loop-less Inv-loop μ-loop
-loop-less c = omega arith
 
 loop-again : tie.Need-loop-again Inv-loop μ-loop
 loop-again c =
@@ -99,15 +75,15 @@ bounds-left-spec =
     (tie.spec
     Inv-loop
     μ-loop
-    cast-limit-left
-    limit-left-requires
+    (λ c. search needs)
+    (λ c κs. search needs)
     loop-holds
-    slice-aggregate-left-under
-    left-under-requires
-    enum-known-left
-    enum-told
+    (λ c. search needs)
+    (λ c κs. search needs)
+    (λ c. search needs)
+    (λ c. search needs)
     returns
-    add-s
-    loop-less
+    (λ c. omega arith)
+    (λ c. omega arith)
     loop-again
     returns-2)

@@ -9,26 +9,8 @@ use borrow.Author.Needs.{needs}
 use Rattle.chart_moves.proofs.activity.active_after.Statement.{statement}
 use Rattle.chart_moves.proofs.activity.active_after.Tie as tie
 
-cast-least : tie.Need-cast-least
-cast-least c = search needs
-
-least-requires : tie.Need-least-requires
-least-requires c κs = search needs
-
-sub-left-below : tie.Need-sub-left-below
-sub-left-below c = search needs
-
-part-left-below-start : tie.Need-part-left-below-start
-part-left-below-start c = search needs
-
 part-left-below-end : tie.Need-part-left-below-end
 part-left-below-end c = let e : length (c .before .before .before .before .args .moves .sources) ≡ 16 = search needs in omega (arith, e, c .before .before .least .ensures)
-
-left-below-requires : tie.Need-left-below-requires
-left-below-requires c κs = search needs
-
-enter-all-requires : tie.Need-enter-all-requires
-enter-all-requires c κs = search needs
 
 returns : tie.Need-returns
 returns c = λ d σ ts T r5 r8 M a.
@@ -40,11 +22,11 @@ pub active-after-spec : {M : Type 1} → statement M
 active-after-spec =
     tie.close
     (tie.spec
-    cast-least
-    least-requires
-    sub-left-below
-    part-left-below-start
+    (λ c. search needs)
+    (λ c κs. search needs)
+    (λ c. search needs)
+    (λ c. search needs)
     part-left-below-end
-    left-below-requires
-    enter-all-requires
+    (λ c κs. search needs)
+    (λ c κs. search needs)
     returns)

@@ -24,16 +24,10 @@ abbrev μ-loop : tie.MeasureT-loop
 loop-holds : tie.Need-loop-holds Inv-loop μ-loop
 loop-holds c = λ d σ S e. refl
 
-is-linked-requires : tie.Need-is-linked-requires Inv-loop μ-loop
-is-linked-requires c κs = search needs
-
 returns : tie.Need-returns Inv-loop μ-loop
 returns c = λ d σ S e.
     let l = c .before .before in
     sym (l .before .loop .inv d σ S e ∙ all-stop _ (below-next refl _ (l .loop-test .taken)) (ap (λ (b : Bool). b && single d σ (l .before .loop .s)) (sym (c .before .is-linked .ensures d σ S (omega (arith, e, l .loop-test .taken))) ∙ not-true _ (c .if1 .taken))))
-
-is-single-requires : tie.Need-is-single-requires Inv-loop μ-loop
-is-single-requires c κs = search needs
 
 returns-2 : tie.Need-returns-2 Inv-loop μ-loop
 returns-2 c =
@@ -43,12 +37,6 @@ returns-2 c =
     (ap (λ (b : Bool). linked d σ (l .before .loop .s) && b)
     (sym (c .before .is-single .ensures d σ S e (omega (arith, e, l .loop-test .taken))) ∙ not-true _ (c .if2 .taken))
     ∙ and-false (linked d σ (l .before .loop .s))))
-
-add-s : tie.Need-add-s Inv-loop μ-loop
-add-s c = omega arith
-
-loop-less : tie.Need-loop-less Inv-loop μ-loop
-loop-less c = omega arith
 
 loop-again : tie.Need-loop-again Inv-loop μ-loop
 loop-again c =
@@ -70,11 +58,11 @@ all-placed-spec =
     Inv-loop
     μ-loop
     loop-holds
-    is-linked-requires
+    (λ c κs. search needs)
     returns
-    is-single-requires
+    (λ c κs. search needs)
     returns-2
-    add-s
-    loop-less
+    (λ c. omega arith)
+    (λ c. omega arith)
     loop-again
     returns-3)

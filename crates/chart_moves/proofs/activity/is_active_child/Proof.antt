@@ -3,12 +3,6 @@ use borrow.Author.Needs.{needs}
 use Rattle.chart_moves.proofs.activity.is_active_child.Statement.{statement}
 use Rattle.chart_moves.proofs.activity.is_active_child.Tie as tie
 
-is-child-requires : tie.Need-is-child-requires
-is-child-requires c κs = search needs
-
-is-in-requires : tie.Need-is-in-requires
-is-in-requires c κs = search needs
-
 returns : tie.Need-returns
 returns c = rw (sym (c .before .before .is-child .ensures), c .before .if1 .taken) (c .is-in .ensures)
 
@@ -16,4 +10,4 @@ returns-2 : tie.Need-returns-2
 returns-2 c = rw (c .if1 .left, sym (sym (c .if1 .left) ∙ c .before .is-child .ensures))
 
 pub is-active-child-spec : {M : Type 1} → statement M
-is-active-child-spec = tie.close (tie.spec is-child-requires is-in-requires returns returns-2)
+is-active-child-spec = tie.close (tie.spec (λ c κs. search needs) (λ c κs. search needs) returns returns-2)

@@ -22,23 +22,11 @@ abbrev μ-loop : tie.MeasureT-loop
 loop-holds : tie.Need-loop-holds Inv-loop μ-loop
 loop-holds c = λ d R h. refl
 
-shared-slice-read-under : tie.Need-shared-slice-read-under Inv-loop μ-loop
-shared-slice-read-under c = search needs
-
 cast-under : tie.Need-cast-under Inv-loop μ-loop
 cast-under c = omega (arith, c .shared-slice-known3 .given (c .before .before .loop .i))
 
-under-requires : tie.Need-under-requires Inv-loop μ-loop
-under-requires c κs = search needs
-
 returns : tie.Need-returns Inv-loop μ-loop
 returns c = λ d R h. let l = c .before .before .before in sym (l .before .loop .inv d R h ∙ all-stop _ (drop-next _ _ 0 (l .loop-test .taken)) (not-no (sym (c .before .under .ensures d R h) ∙ c .if1 .taken)))
-
-add-i : tie.Need-add-i Inv-loop μ-loop
-add-i c = omega arith
-
-loop-less : tie.Need-loop-less Inv-loop μ-loop
-loop-less c = omega arith
 
 loop-again : tie.Need-loop-again Inv-loop μ-loop
 loop-again c = λ d R h. let l = c .before .before .before in l .before .loop .inv d R h ∙ all-next _ (drop-next _ _ 0 (l .loop-test .taken)) (not-yes (sym (c .before .under .ensures d R h) ∙ c .if1 .left))
@@ -54,11 +42,11 @@ is-below-none-spec =
     Inv-loop
     μ-loop
     loop-holds
-    shared-slice-read-under
+    (λ c. search needs)
     cast-under
-    under-requires
+    (λ c κs. search needs)
     returns
-    add-i
-    loop-less
+    (λ c. omega arith)
+    (λ c. omega arith)
     loop-again
     returns-2)

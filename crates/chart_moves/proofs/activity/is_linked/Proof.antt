@@ -6,29 +6,11 @@ use Rattle.chart_moves.proofs.activity.is_linked.Tie as tie
 returns : tie.Need-returns
 returns c = λ d σ S h. linked-root d σ _ _ _ S _ (c .if1 .taken)
 
-byte-at-requires : tie.Need-byte-at-requires
-byte-at-requires c κs = search needs
-
-cast-above : tie.Need-cast-above
-cast-above c = search needs
-
-is-in-requires : tie.Need-is-in-requires
-is-in-requires c κs = search needs
-
-is-in-requires-2 : tie.Need-is-in-requires-2
-is-in-requires-2 c κs = search needs
-
 returns-2 : tie.Need-returns-2
 returns-2 c = λ d σ S h. linked-active d σ _ _ _ S _ h (c .before .before .before .before .if1 .left) (c .before .before .before .byte-at .ensures) (c .before .before .is-in .ensures) (c .before .if2 .taken) (c .is-in2 .ensures)
 
-byte-at-requires-2 : tie.Need-byte-at-requires-2
-byte-at-requires-2 c κs = search needs
-
 returns-3 : tie.Need-returns-3
 returns-3 c = λ d σ S h. linked-alone d σ _ _ _ S _ h (c .before .before .before .before .before .if1 .left) (c .before .before .before .before .byte-at .ensures) (c .before .before .before .is-in .ensures) (c .before .before .if2 .left) (c .before .byte-at2 .ensures) (c .if3 .taken)
-
-is-in-requires-3 : tie.Need-is-in-requires-3
-is-in-requires-3 c κs = search needs
 
 returns-4 : tie.Need-returns-4
 returns-4 c =
@@ -45,12 +27,12 @@ is-linked-spec =
     tie.close
     (tie.spec
     returns
-    byte-at-requires
-    cast-above
-    is-in-requires
-    is-in-requires-2
+    (λ c κs. search needs)
+    (λ c. search needs)
+    (λ c κs. search needs)
+    (λ c κs. search needs)
     returns-2
-    byte-at-requires-2
+    (λ c κs. search needs)
     returns-3
-    is-in-requires-3
+    (λ c κs. search needs)
     returns-4)

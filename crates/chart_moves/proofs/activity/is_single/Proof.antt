@@ -4,20 +4,11 @@ use borrow.Author.Needs.{needs}
 use Rattle.chart_moves.proofs.activity.is_single.Statement.{statement}
 use Rattle.chart_moves.proofs.activity.is_single.Tie as tie
 
-byte-at-requires : tie.Need-byte-at-requires
-byte-at-requires c κs = search needs
-
 returns : tie.Need-returns
 returns c = λ d σ S e h. single-other d σ _ _ _ S _ h (c .before .byte-at .ensures) (c .if1 .taken)
 
-is-in-requires : tie.Need-is-in-requires
-is-in-requires c κs = search needs
-
 returns-2 : tie.Need-returns-2
 returns-2 c = λ d σ S e h. single-idle d σ _ _ _ S _ (c .before .is-in .ensures) (not-true _ (c .if2 .taken))
-
-active-children-requires : tie.Need-active-children-requires
-active-children-requires c κs = search needs
 
 returns-3 : tie.Need-returns-3
 returns-3 c = λ d σ S e h. single-is d σ _ _ _ S _ h (c .before .before .before .before .byte-at .ensures) (c .before .before .before .if1 .left) (c .before .before .is-in .ensures) (not-false _ (c .before .if2 .left)) (c .active-children .ensures d σ (S .rooted) (S .set) e)
@@ -25,4 +16,4 @@ returns-3 c = λ d σ S e h. single-is d σ _ _ _ S _ h (c .before .before .befo
 pub is-single-spec : {M : Type 1} → statement M
 is-single-spec =
     tie.close
-    (tie.spec byte-at-requires returns is-in-requires returns-2 active-children-requires returns-3)
+    (tie.spec (λ c κs. search needs) returns (λ c κs. search needs) returns-2 (λ c κs. search needs) returns-3)

@@ -4,35 +4,11 @@ use borrow.Author.Needs.{needs}
 use Rattle.chart_moves.proofs.activity.is_tree.Statement.{statement}
 use Rattle.chart_moves.proofs.activity.is_tree.Tie as tie
 
-cast-states : tie.Need-cast-states
-cast-states c = search needs
-
-array-read-if1 : tie.Need-array-read-if1
-array-read-if1 c = search needs
-
 returns : tie.Need-returns
 returns c = λ d σ T r a. tree-rootless d σ _ _ a (T .count) (not-true _ (c .if1 .taken))
 
-slice-aggregate-all-placed : tie.Need-slice-aggregate-all-placed
-slice-aggregate-all-placed c = search needs
-
-slice-aggregate-all-placed-2 : tie.Need-slice-aggregate-all-placed-2
-slice-aggregate-all-placed-2 c = search needs
-
-slice-aggregate-all-placed-3 : tie.Need-slice-aggregate-all-placed-3
-slice-aggregate-all-placed-3 c = search needs
-
-all-placed-requires : tie.Need-all-placed-requires
-all-placed-requires c κs = search needs
-
 returns-2 : tie.Need-returns-2
 returns-2 c = λ d σ T r a. tree-unplaced d σ _ _ a (T .count) (not-false _ (c .before .before .before .before .before .if1 .left)) (c .before .all-placed .ensures d σ (shown-of d σ _ _ T r a) (T .count)) (not-true _ (c .if2 .taken))
-
-slice-aggregate-none-from : tie.Need-slice-aggregate-none-from
-slice-aggregate-none-from c = search needs
-
-none-from-requires : tie.Need-none-from-requires
-none-from-requires c κs = search needs
 
 returns-3 : tie.Need-returns-3
 returns-3 c =
@@ -46,14 +22,14 @@ pub is-tree-spec : {M : Type 1} → statement M
 is-tree-spec =
     tie.close
     (tie.spec
-    cast-states
-    array-read-if1
+    (λ c. search needs)
+    (λ c. search needs)
     returns
-    slice-aggregate-all-placed
-    slice-aggregate-all-placed-2
-    slice-aggregate-all-placed-3
-    all-placed-requires
+    (λ c. search needs)
+    (λ c. search needs)
+    (λ c. search needs)
+    (λ c κs. search needs)
     returns-2
-    slice-aggregate-none-from
-    none-from-requires
+    (λ c. search needs)
+    (λ c κs. search needs)
     returns-3)

@@ -18,29 +18,8 @@ Inv-loop sources active parents states out₀ s₀ out s = (c : Chart) → Roote
 abbrev μ-loop : tie.MeasureT-loop
 μ-loop sources active parents states out₀ s₀ out s = 48 - s
 
-cast-states : tie.Need-cast-states Inv-loop μ-loop
-cast-states c = search needs
-
 loop-holds : tie.Need-loop-holds Inv-loop μ-loop
 loop-holds c = λ d R e. filled-none 48 _ _ (length-passing 48 d _) (search needs)
-
-slice-aggregate-remains : tie.Need-slice-aggregate-remains Inv-loop μ-loop
-slice-aggregate-remains c = search needs
-
-slice-aggregate-remains-2 : tie.Need-slice-aggregate-remains-2 Inv-loop μ-loop
-slice-aggregate-remains-2 c = search needs
-
-remains-requires : tie.Need-remains-requires Inv-loop μ-loop
-remains-requires c κs = search needs
-
-array-write-out : tie.Need-array-write-out Inv-loop μ-loop
-array-write-out c = omega arith
-
-add-s : tie.Need-add-s Inv-loop μ-loop
-add-s c = omega arith
-
-loop-less : tie.Need-loop-less Inv-loop μ-loop
-loop-less c = omega arith
 
 loop-again : tie.Need-loop-again Inv-loop μ-loop
 loop-again c = λ d R e. let l = c .before .before .before in filled-more 48 _ _ _ (l .before .loop .inv d R e) false _ (l .loop-test .taken) (c .remains .ensures d R e ∙ sym (getD-passing 48 d _ _ (l .loop-test .taken)))
@@ -54,13 +33,13 @@ left-below-spec =
     (tie.spec
     Inv-loop
     μ-loop
-    cast-states
+    (λ c. search needs)
     loop-holds
-    slice-aggregate-remains
-    slice-aggregate-remains-2
-    remains-requires
-    array-write-out
-    add-s
-    loop-less
+    (λ c. search needs)
+    (λ c. search needs)
+    (λ c κs. search needs)
+    (λ c. omega arith)
+    (λ c. omega arith)
+    (λ c. omega arith)
     loop-again
     returns)

@@ -5,17 +5,8 @@ use borrow.Author.Needs.{needs}
 use Rattle.chart_moves.proofs.completion.is_complete.Statement.{statement}
 use Rattle.chart_moves.proofs.completion.is_complete.Tie as tie
 
-byte-at-requires : tie.Need-byte-at-requires
-byte-at-requires c κs = search needs
-
-cast-has : tie.Need-cast-has
-cast-has c = search needs
-
-has-requires : tie.Need-has-requires
-has-requires c κs = search needs
-
 returns : tie.Need-returns
 returns c = c .has .ensures ∙ ap (λ (x : ℕ). has x (c .before .before .before .args .exit)) (c .before .byte-at .ensures)
 
 pub is-complete-spec : {M : Type 1} → statement M
-is-complete-spec = tie.close (tie.spec byte-at-requires cast-has has-requires returns)
+is-complete-spec = tie.close (tie.spec (λ c κs. search needs) (λ c. search needs) (λ c κs. search needs) returns)

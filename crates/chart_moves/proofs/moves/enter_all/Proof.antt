@@ -19,12 +19,6 @@ Inv-loop t moves count out₀ i₀ out i = (c : Chart) (ts : List Transition) �
 abbrev μ-loop : tie.MeasureT-loop
 μ-loop t moves count out₀ i₀ out i = count - i
 
-cast-least : tie.Need-cast-least Inv-loop μ-loop
-cast-least c = search needs
-
-least-requires : tie.Need-least-requires Inv-loop μ-loop
-least-requires c κs = search needs
-
 loop-holds : tie.Need-loop-holds Inv-loop μ-loop
 loop-holds c = λ d ts T r5 r8 M. entered-first 48 d ts _ M _ (search needs)
 
@@ -33,15 +27,6 @@ element-copy-out-destination c = omega (arith, c .before .before .least .ensures
 
 element-copy-out-entry : tie.Need-element-copy-out-entry Inv-loop μ-loop
 element-copy-out-entry c = omega (arith, c .before .before .before .least .ensures, c .before .loop-test .taken)
-
-entered-requires : tie.Need-entered-requires Inv-loop μ-loop
-entered-requires c κs = search needs
-
-add-i : tie.Need-add-i Inv-loop μ-loop
-add-i c = omega arith
-
-loop-less : tie.Need-loop-less Inv-loop μ-loop
-loop-less c = omega arith
 
 loop-again : tie.Need-loop-again Inv-loop μ-loop
 loop-again c = λ d ts T r5 r8 M.
@@ -57,13 +42,13 @@ enter-all-spec =
     (tie.spec
     Inv-loop
     μ-loop
-    cast-least
-    least-requires
+    (λ c. search needs)
+    (λ c κs. search needs)
     loop-holds
     element-copy-out-destination
     element-copy-out-entry
-    entered-requires
-    add-i
-    loop-less
+    (λ c κs. search needs)
+    (λ c. omega arith)
+    (λ c. omega arith)
     loop-again
     returns)

@@ -7,23 +7,8 @@ use borrow.Author.Needs.{needs}
 use Rattle.chart_moves.proofs.moves.with_move.Statement.{statement}
 use Rattle.chart_moves.proofs.moves.with_move.Tie as tie
 
-cast-i : tie.Need-cast-i
-cast-i c = search needs
-
 returns : tie.Need-returns
 returns c = λ ts t M h s d e. absurd (omega (arith, M .count, h, c .if1 .taken))
-
-element-write-next : tie.Need-element-write-next
-element-write-next c = search needs
-
-element-write-next-2 : tie.Need-element-write-next-2
-element-write-next-2 c = search needs
-
-element-write-next-3 : tie.Need-element-write-next-3
-element-write-next-3 c = search needs
-
-add-next : tie.Need-add-next
-add-next c = search needs
 
 returns-2 : tie.Need-returns-2
 returns-2 c = λ ts t M h s d e.
@@ -40,10 +25,10 @@ pub with-move-spec : {M : Type 1} → statement M
 with-move-spec =
     tie.close
     (tie.spec
-    cast-i
+    (λ c. search needs)
     returns
-    element-write-next
-    element-write-next-2
-    element-write-next-3
-    add-next
+    (λ c. search needs)
+    (λ c. search needs)
+    (λ c. search needs)
+    (λ c. search needs)
     returns-2)

@@ -26,22 +26,10 @@ abbrev μ-loop : tie.MeasureT-loop
 loop-holds : tie.Need-loop-holds Inv-loop μ-loop
 loop-holds c = λ k R h. refl
 
-chosen-requires : tie.Need-chosen-requires Inv-loop μ-loop
-chosen-requires c κs = search needs
-
-is-active-requires : tie.Need-is-active-requires Inv-loop μ-loop
-is-active-requires c κs = search needs
-
 returns : tie.Need-returns Inv-loop μ-loop
 returns c = λ k R h. let l = c .before .before .before in
     sym (l .before .loop .inv k R h ∙ all-stop _ (ap (map (transitionAt k)) (drop-next _ _ 0 (l .loop-test .taken)))
     (sym (chosen-at (R .ready .laid) _ h _ (l .loop-test .taken) (c .before .before .chosen .ensures) (λ m. activeTransition k (l .before .before .before .before .before .before .args .given) (transitionAt k m)) (c .before .is-active .ensures k R)) ∙ not-true _ (c .if1 .taken)))
-
-add-i : tie.Need-add-i Inv-loop μ-loop
-add-i c = omega arith
-
-loop-less : tie.Need-loop-less Inv-loop μ-loop
-loop-less c = omega arith
 
 loop-again : tie.Need-loop-again Inv-loop μ-loop
 loop-again c = λ k R h. let l = c .before .before .before in
@@ -59,10 +47,10 @@ all-active-spec =
     Inv-loop
     μ-loop
     loop-holds
-    chosen-requires
-    is-active-requires
+    (λ c κs. search needs)
+    (λ c κs. search needs)
     returns
-    add-i
-    loop-less
+    (λ c. omega arith)
+    (λ c. omega arith)
     loop-again
     returns-2)

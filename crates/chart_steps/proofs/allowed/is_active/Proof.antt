@@ -5,23 +5,8 @@ use borrow.Author.Needs.{needs}
 use Rattle.chart_steps.proofs.allowed.is_active.Statement.{statement}
 use Rattle.chart_steps.proofs.allowed.is_active.Tie as tie
 
-source-of-requires : tie.Need-source-of-requires
-source-of-requires c κs = search needs
-
-slice-aggregate-is-in : tie.Need-slice-aggregate-is-in
-slice-aggregate-is-in c = search needs
-
-cast-is-in : tie.Need-cast-is-in
-cast-is-in c = search needs
-
-is-in-requires : tie.Need-is-in-requires
-is-in-requires c κs = search needs
-
 returns : tie.Need-returns
 returns c = λ k R h. source-idle k (c .before .before .before .before .before .before .before .before .before .before .args .given) _ (c .before .before .before .source-of .ensures k _ (R .ready .laid) h) (c .before .is-in .ensures) (not-true _ (c .if1 .taken))
-
-guards-hold-requires : tie.Need-guards-hold-requires
-guards-hold-requires c κs = search needs
 
 returns-2 : tie.Need-returns-2
 returns-2 c =
@@ -31,9 +16,6 @@ returns-2 c =
     let args = place-1 .before .before .before .before .before .before .before .before .before .args in
     λ k R h. guards-fail k (args .given) _ (source-of .ensures k _ (R .ready .laid) h) (is-in .ensures) (not-false _ (c .before .before .if1 .left))
     (c .before .guards-hold .ensures k (R .ready .laid) h) (not-true _ (c .if2 .taken))
-
-kind-of-requires : tie.Need-kind-of-requires
-kind-of-requires c κs = search needs
 
 returns-3 : tie.Need-returns-3
 returns-3 c =
@@ -47,12 +29,6 @@ returns-3 c =
     λ k R h. basic-active k (args .given) _ (source-of .ensures k _ (R .ready .laid) h) (is-in .ensures) (not-false _ (if1 .left))
     (guards-hold .ensures k (R .ready .laid) h) (not-false _ (c .before .before .if2 .left)) (c .before .kind-of .ensures k (R .ready .laid .stated))
     (c .if3 .taken)
-
-exit-of-requires : tie.Need-exit-of-requires
-exit-of-requires c κs = search needs
-
-is-complete-requires : tie.Need-is-complete-requires
-is-complete-requires c κs = search needs
 
 returns-4 : tie.Need-returns-4
 returns-4 c =
@@ -74,15 +50,15 @@ pub is-active-spec : {M : Type 1} → statement M
 is-active-spec =
     tie.close
     (tie.spec
-    source-of-requires
-    slice-aggregate-is-in
-    cast-is-in
-    is-in-requires
+    (λ c κs. search needs)
+    (λ c. search needs)
+    (λ c. search needs)
+    (λ c κs. search needs)
     returns
-    guards-hold-requires
+    (λ c κs. search needs)
     returns-2
-    kind-of-requires
+    (λ c κs. search needs)
     returns-3
-    exit-of-requires
-    is-complete-requires
+    (λ c κs. search needs)
+    (λ c κs. search needs)
     returns-4)

@@ -4,42 +4,6 @@ use borrow.Author.Needs.{needs}
 use Rattle.chart_steps.proofs.allowed.is_maximal.Statement.{statement}
 use Rattle.chart_steps.proofs.allowed.is_maximal.Tie as tie
 
-receiver-homes-requires : tie.Need-receiver-homes-requires
-receiver-homes-requires c κs = search needs
-
-homes-of-requires : tie.Need-homes-of-requires
-homes-of-requires c κs = search needs
-
-cast-least : tie.Need-cast-least
-cast-least c = search needs
-
-least-requires : tie.Need-least-requires
-least-requires c κs = search needs
-
-least-requires-2 : tie.Need-least-requires-2
-least-requires-2 c κs = search needs
-
-sub-maximal : tie.Need-sub-maximal
-sub-maximal c = search needs
-
-part-maximal-start : tie.Need-part-maximal-start
-part-maximal-start c = search needs
-
-part-maximal-end : tie.Need-part-maximal-end
-part-maximal-end c = search needs
-
-sub-maximal-2 : tie.Need-sub-maximal-2
-sub-maximal-2 c = search needs
-
-part-maximal-start-2 : tie.Need-part-maximal-start-2
-part-maximal-start-2 c = search needs
-
-part-maximal-end-2 : tie.Need-part-maximal-end-2
-part-maximal-end-2 c = search needs
-
-maximal-requires : tie.Need-maximal-requires
-maximal-requires c κs = search needs
-
 returns : tie.Need-returns
 returns c =
     let place-1 = c .before .before .before .before .before in
@@ -55,16 +19,16 @@ pub is-maximal-spec : {M : Type 1} → statement M
 is-maximal-spec =
     tie.close
     (tie.spec
-    receiver-homes-requires
-    homes-of-requires
-    cast-least
-    least-requires
-    least-requires-2
-    sub-maximal
-    part-maximal-start
-    part-maximal-end
-    sub-maximal-2
-    part-maximal-start-2
-    part-maximal-end-2
-    maximal-requires
+    (λ c κs. search needs)
+    (λ c κs. search needs)
+    (λ c. search needs)
+    (λ c κs. search needs)
+    (λ c κs. search needs)
+    (λ c. search needs)
+    (λ c. search needs)
+    (λ c. search needs)
+    (λ c. search needs)
+    (λ c. search needs)
+    (λ c. search needs)
+    (λ c κs. search needs)
     returns)

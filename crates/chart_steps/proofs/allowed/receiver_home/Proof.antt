@@ -4,20 +4,11 @@ use borrow.Author.Needs.{needs}
 use Rattle.chart_steps.proofs.allowed.receiver_home.Statement.{statement}
 use Rattle.chart_steps.proofs.allowed.receiver_home.Tie as tie
 
-signal-of-requires : tie.Need-signal-of-requires
-signal-of-requires c κs = search needs
-
 returns : tie.Need-returns
 returns c = λ k R h. owner-unheard _ _ _ _ (c .before .signal-of .ensures k _ (R .ready .laid) h) (c .if1 .taken)
 
-channel-of-requires : tie.Need-channel-of-requires
-channel-of-requires c κs = search needs
-
 returns-2 : tie.Need-returns-2
 returns-2 c = λ k R h. owner-elsewhere _ _ _ _ (c .before .before .before .signal-of .ensures k _ (R .ready .laid) h) (c .before .before .if1 .left) (c .before .channel-of .ensures k _ (R .ready .laid) h) (c .if2 .taken)
-
-is-active-requires : tie.Need-is-active-requires
-is-active-requires c κs = search needs
 
 returns-3 : tie.Need-returns-3
 returns-3 c =
@@ -27,9 +18,6 @@ returns-3 c =
     let signal-of = place-1 .before .before .signal-of in
     λ k R h. owner-idle _ _ _ _ (signal-of .ensures k _ (R .ready .laid) h) (if1 .left) (channel-of .ensures k _ (R .ready .laid) h) (c .before .before .if2 .left)
     (c .before .is-active .ensures k R h) (not-true _ (c .if3 .taken))
-
-home-of-requires : tie.Need-home-of-requires
-home-of-requires c κs = search needs
 
 returns-4 : tie.Need-returns-4
 returns-4 c =
@@ -45,11 +33,11 @@ pub receiver-home-spec : {M : Type 1} → statement M
 receiver-home-spec =
     tie.close
     (tie.spec
-    signal-of-requires
+    (λ c κs. search needs)
     returns
-    channel-of-requires
+    (λ c κs. search needs)
     returns-2
-    is-active-requires
+    (λ c κs. search needs)
     returns-3
-    home-of-requires
+    (λ c κs. search needs)
     returns-4)

@@ -27,23 +27,11 @@ inside c = omega (arith, length-below (c .before .before .before .before .before
 loop-holds : tie.Need-loop-holds Inv-loop μ-loop
 loop-holds c = λ k R. imaged-none _ _ 64 _ (search needs)
 
-cast-i : tie.Need-cast-i Inv-loop μ-loop
-cast-i c = search needs
-
 returns : tie.Need-returns Inv-loop μ-loop
 returns c = λ k R. absurd (omega (arith, transitions-few (R .ready .laid), c .before .if1 .taken, c .if2 .taken))
 
-receiver-home-requires : tie.Need-receiver-home-requires Inv-loop μ-loop
-receiver-home-requires c κs = search needs
-
 array-write-homes : tie.Need-array-write-homes Inv-loop μ-loop
 array-write-homes c = omega (arith, c .before .if2 .left)
-
-add-t : tie.Need-add-t Inv-loop μ-loop
-add-t c = omega arith
-
-loop-less : tie.Need-loop-less Inv-loop μ-loop
-loop-less c = omega arith
 
 loop-again : tie.Need-loop-again Inv-loop μ-loop
 loop-again c = λ k R. let l = c .before .before in
@@ -59,11 +47,11 @@ receiver-homes-spec =
     Inv-loop
     μ-loop
     loop-holds
-    cast-i
+    (λ c. search needs)
     returns
-    receiver-home-requires
+    (λ c κs. search needs)
     array-write-homes
-    add-t
-    loop-less
+    (λ c. omega arith)
+    (λ c. omega arith)
     loop-again
     returns-2)

@@ -4,18 +4,6 @@ use borrow.Author.Needs.{needs}
 use Rattle.chart_steps.proofs.taken.after.Statement.{statement}
 use Rattle.chart_steps.proofs.taken.after.Tie as tie
 
-moves-of-requires : tie.Need-moves-of-requires
-moves-of-requires c κs = search needs
-
-active-after-requires : tie.Need-active-after-requires
-active-after-requires c κs = search needs
-
-variables-after-requires : tie.Need-variables-after-requires
-variables-after-requires c κs = search needs
-
-clocks-after-requires : tie.Need-clocks-after-requires
-clocks-after-requires c κs = search needs
-
 returns : tie.Need-returns
 returns c = let a = c .before .before .before .before .before .before .before .before .before .before .before .args in (
   λ k R h. c .before .before .variables-after .ensures .0 k (R .laid) h,
@@ -28,8 +16,8 @@ pub after-spec : {M : Type 1} → statement M
 after-spec =
     tie.close
     (tie.spec
-    moves-of-requires
-    active-after-requires
-    variables-after-requires
-    clocks-after-requires
+    (λ c κs. search needs)
+    (λ c κs. search needs)
+    (λ c κs. search needs)
+    (λ c κs. search needs)
     returns)

@@ -23,32 +23,8 @@ Inv-loop rest offsets list moves₀ i₀ moves i = (c : Chart) (n : Counts) → 
 abbrev μ-loop : tie.MeasureT-loop
 μ-loop rest offsets list moves₀ i₀ moves i = length list - i
 
-no-moves-requires : tie.Need-no-moves-requires Inv-loop μ-loop
-no-moves-requires c κs = search needs
-
 loop-holds : tie.Need-loop-holds Inv-loop μ-loop
 loop-holds c = λ k n L h. c .no-moves .ensures
-
-chosen-requires : tie.Need-chosen-requires Inv-loop μ-loop
-chosen-requires c κs = search needs
-
-source-of-requires : tie.Need-source-of-requires Inv-loop μ-loop
-source-of-requires c κs = search needs
-
-destination-of-requires : tie.Need-destination-of-requires Inv-loop μ-loop
-destination-of-requires c κs = search needs
-
-entry-of-requires : tie.Need-entry-of-requires Inv-loop μ-loop
-entry-of-requires c κs = search needs
-
-with-move-requires : tie.Need-with-move-requires Inv-loop μ-loop
-with-move-requires c κs = search needs
-
-add-i : tie.Need-add-i Inv-loop μ-loop
-add-i c = omega arith
-
-loop-less : tie.Need-loop-less Inv-loop μ-loop
-loop-less c = omega arith
 
 loop-again : tie.Need-loop-again Inv-loop μ-loop
 loop-again c = λ k n L h. let l = c .before .before .before .before .before in
@@ -69,14 +45,14 @@ moves-of-spec =
     (tie.spec
     Inv-loop
     μ-loop
-    no-moves-requires
+    (λ c κs. search needs)
     loop-holds
-    chosen-requires
-    source-of-requires
-    destination-of-requires
-    entry-of-requires
-    with-move-requires
-    add-i
-    loop-less
+    (λ c κs. search needs)
+    (λ c κs. search needs)
+    (λ c κs. search needs)
+    (λ c κs. search needs)
+    (λ c κs. search needs)
+    (λ c. omega arith)
+    (λ c. omega arith)
     loop-again
     returns)

@@ -4,14 +4,8 @@ use borrow.Author.Needs.{needs}
 use Rattle.library.proofs.charts.figrummy_check_chart.Statement.{statement}
 use Rattle.library.proofs.charts.figrummy_check_chart.Tie as tie
 
-check-requires : tie.Need-check-requires
-check-requires c κs = search needs
-
-number-of-requires : tie.Need-number-of-requires
-number-of-requires c κs = search needs
-
 returns : tie.Need-returns
 returns c = c .number-of .ensures ∙ checked-number _ (c .before .check .ensures)
 
 pub figrummy-check-chart-spec : {M : Type 1} → statement M
-figrummy-check-chart-spec = tie.close (tie.spec check-requires number-of-requires returns)
+figrummy-check-chart-spec = tie.close (tie.spec (λ c κs. search needs) (λ c κs. search needs) returns)

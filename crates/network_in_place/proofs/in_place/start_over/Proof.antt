@@ -6,18 +6,6 @@ use borrow.Author.Needs.{needs}
 use Rattle.network_in_place.proofs.in_place.start_over.Statement.{statement}
 use Rattle.network_in_place.proofs.in_place.start_over.Tie as tie
 
-start-requires : tie.Need-start-requires
-start-requires c κs = search needs
-
-enum-told : tie.Need-enum-told
-enum-told c = search needs
-
-enum-known-v : tie.Need-enum-known-v
-enum-known-v c = search needs
-
-refused-requires : tie.Need-refused-requires
-refused-requires c κs = search needs
-
 returns : tie.Need-returns
 returns c = let a = c .before .before .before .before .args in over-done zeroConfiguration (a .c) (startOf (a .file .now)) (c .before .before .start .ensures) (c .enum-told .given .1)
 
@@ -28,4 +16,4 @@ returns-2 c = let v = c .before .before in
 
 pub start-over-spec : {M : Type 1} → statement M
 start-over-spec =
-    tie.close (tie.spec start-requires enum-told enum-known-v refused-requires returns returns-2)
+    tie.close (tie.spec (λ c κs. search needs) (λ c. search needs) (λ c. search needs) (λ c κs. search needs) returns returns-2)

@@ -7,20 +7,8 @@ use borrow.Author.Needs.{needs}
 use Rattle.network_machine.proofs.longest.longest_checked.Statement.{statement}
 use Rattle.network_machine.proofs.longest.longest_checked.Tie as tie
 
-ticks-left-requires : tie.Need-ticks-left-requires
-ticks-left-requires c κs = search needs
-
-enum-known-left : tie.Need-enum-known-left
-enum-known-left c = search needs
-
-enum-told : tie.Need-enum-told
-enum-told c = search needs
-
 returns : tie.Need-returns
 returns c = λ n L. ap told (sym (longest-elsewhere n _ (was-broken _ _ (sym (c .enum-told .given .1) ∙ c .before .before .ticks-left .ensures n L))))
-
-urgent-requires : tie.Need-urgent-requires
-urgent-requires c κs = search needs
 
 returns-2 : tie.Need-returns-2
 returns-2 c = λ n L. let k = c .before .before .before in
@@ -36,10 +24,10 @@ pub longest-checked-spec : {M : Type 1} → statement M
 longest-checked-spec =
     tie.close
     (tie.spec
-    ticks-left-requires
-    enum-known-left
-    enum-told
+    (λ c κs. search needs)
+    (λ c. search needs)
+    (λ c. search needs)
     returns
-    urgent-requires
+    (λ c κs. search needs)
     returns-2
     returns-3)

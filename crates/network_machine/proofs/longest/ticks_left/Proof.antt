@@ -10,14 +10,8 @@ use borrow.Author.Needs.{needs}
 use Rattle.network_machine.proofs.longest.ticks_left.Statement.{statement}
 use Rattle.network_machine.proofs.longest.ticks_left.Tie as tie
 
-stands-requires : tie.Need-stands-requires
-stands-requires c κs = search needs
-
 returns : tie.Need-returns
 returns c = λ n L. sym (where-broken _ (stands-not n _ (sym (c .before .stands .ensures n L) ∙ not-true _ (c .if1 .taken))))
-
-bounds-left-requires : tie.Need-bounds-left-requires
-bounds-left-requires c κs = search needs
 
 returns-2 : tie.Need-returns-2
 returns-2 c = λ n L. let h = sym (c .before .before .stands .ensures n L) ∙ not-false _ (c .before .if1 .left) in
@@ -26,4 +20,4 @@ returns-2 c = λ n L. let h = sym (c .before .before .stands .ensures n L) ∙ n
     ∙ ap (λ (b : Bool). leftWhere b (ticksUnder n (a .c) (below (n .automata)) (limitLeft (n .clocks) (a .c .clocks)))) (stands-bounds n (a .c) h)
 
 pub ticks-left-spec : {M : Type 1} → statement M
-ticks-left-spec = tie.close (tie.spec stands-requires returns bounds-left-requires returns-2)
+ticks-left-spec = tie.close (tie.spec (λ c κs. search needs) returns (λ c κs. search needs) returns-2)

@@ -15,18 +15,6 @@ use Rattle.network_machine.proofs.operation.longest.Tie as tie
 fits : (k : tie.After-known-told) → 13 ≤ length (k .before .before .before .before .before .before .args .file .now)
 fits k = found-fits _ (k .before .before .before .check .ensures .1 .0) (k .before .finding .given .1)
 
-check-requires : tie.Need-check-requires
-check-requires c κs = search needs
-
-enum-known-finding : tie.Need-enum-known-finding
-enum-known-finding c = search needs
-
-enum-told : tie.Need-enum-told
-enum-told c = search needs
-
-finding-number-requires : tie.Need-finding-number-requires
-finding-number-requires c κs = search needs
-
 returns : tie.Need-returns
 returns c = let t = c .before in
     let h = t .before .before .check .ensures .0 (length-replicate {A = ℕ} 1024 0) in
@@ -40,12 +28,6 @@ sub-longest-checked c = omega (arith, fits c)
 part-longest-checked-start : tie.Need-part-longest-checked-start
 part-longest-checked-start c = omega (arith, fits c)
 
-part-longest-checked-end : tie.Need-part-longest-checked-end
-part-longest-checked-end c = search needs
-
-longest-checked-requires : tie.Need-longest-checked-requires
-longest-checked-requires c κs = search needs
-
 returns-2 : tie.Need-returns-2
 returns-2 c = let k = c .before .before in
     let h = k .before .before .before .check .ensures .0 (length-replicate {A = ℕ} 1024 0) in
@@ -57,13 +39,13 @@ pub longest-spec : {M : Type 1} → statement M
 longest-spec =
     tie.close
     (tie.spec
-    check-requires
-    enum-known-finding
-    enum-told
-    finding-number-requires
+    (λ c κs. search needs)
+    (λ c. search needs)
+    (λ c. search needs)
+    (λ c κs. search needs)
     returns
     sub-longest-checked
     part-longest-checked-start
-    part-longest-checked-end
-    longest-checked-requires
+    (λ c. search needs)
+    (λ c κs. search needs)
     returns-2)

@@ -16,24 +16,6 @@ use Rattle.network_machine.proofs.operation.start.Tie as tie
 fits : (k : tie.After-known-told) → 13 ≤ length (k .before .before .before .before .before .before .args .file .now)
 fits k = found-fits _ (k .before .before .before .check .ensures .1 .0) (k .before .finding .given .1)
 
-check-requires : tie.Need-check-requires
-check-requires c κs = search needs
-
-enum-known-finding : tie.Need-enum-known-finding
-enum-known-finding c = search needs
-
-enum-told : tie.Need-enum-told
-enum-told c = search needs
-
-finding-number-requires : tie.Need-finding-number-requires
-finding-number-requires c κs = search needs
-
-zero-configuration-requires : tie.Need-zero-configuration-requires
-zero-configuration-requires c κs = search needs
-
-refused-requires : tie.Need-refused-requires
-refused-requires c κs = search needs
-
 returns : tie.Need-returns
 returns c = let t = c .before .before .before in
     let h = t .before .before .check .ensures .0 (length-replicate {A = ℕ} 1024 0) in
@@ -47,12 +29,6 @@ sub-start c = omega (arith, fits c)
 part-start-start : tie.Need-part-start-start
 part-start-start c = omega (arith, fits c)
 
-part-start-end : tie.Need-part-start-end
-part-start-end c = search needs
-
-start-requires : tie.Need-start-requires
-start-requires c κs = search needs
-
 returns-2 : tie.Need-returns-2
 returns-2 c = let k = c .before .before in
     let h = k .before .before .before .check .ensures .0 (length-replicate {A = ℕ} 1024 0) in
@@ -64,15 +40,15 @@ pub start-spec : {M : Type 1} → statement M
 start-spec =
     tie.close
     (tie.spec
-    check-requires
-    enum-known-finding
-    enum-told
-    finding-number-requires
-    zero-configuration-requires
-    refused-requires
+    (λ c κs. search needs)
+    (λ c. search needs)
+    (λ c. search needs)
+    (λ c κs. search needs)
+    (λ c κs. search needs)
+    (λ c κs. search needs)
     returns
     sub-start
     part-start-start
-    part-start-end
-    start-requires
+    (λ c. search needs)
+    (λ c κs. search needs)
     returns-2)

@@ -15,21 +15,6 @@ use Rattle.network_machine.proofs.operation.step.Tie as tie
 fits : (k : tie.After-known-told) → 13 ≤ length (k .before .before .before .before .before .before .before .args .file .now)
 fits k = found-fits _ (k .before .before .before .check .ensures .1 .0) (k .before .finding .given .1)
 
-check-requires : tie.Need-check-requires
-check-requires c κs = search needs
-
-enum-known-finding : tie.Need-enum-known-finding
-enum-known-finding c = search needs
-
-enum-told : tie.Need-enum-told
-enum-told c = search needs
-
-finding-number-requires : tie.Need-finding-number-requires
-finding-number-requires c κs = search needs
-
-refused-requires : tie.Need-refused-requires
-refused-requires c κs = search needs
-
 returns : tie.Need-returns
 returns c = let t = c .before .before in
     let h = t .before .before .check .ensures .0 (length-replicate {A = ℕ} 1024 0) in
@@ -44,12 +29,6 @@ sub-step-checked c = omega (arith, fits c)
 part-step-checked-start : tie.Need-part-step-checked-start
 part-step-checked-start c = omega (arith, fits c)
 
-part-step-checked-end : tie.Need-part-step-checked-end
-part-step-checked-end c = search needs
-
-step-checked-requires : tie.Need-step-checked-requires
-step-checked-requires c κs = search needs
-
 returns-2 : tie.Need-returns-2
 returns-2 c = let k = c .before .before .before in
     let h = k .before .before .before .check .ensures .0 (length-replicate {A = ℕ} 1024 0) in
@@ -61,14 +40,14 @@ pub step-spec : {M : Type 1} → statement M
 step-spec =
     tie.close
     (tie.spec
-    check-requires
-    enum-known-finding
-    enum-told
-    finding-number-requires
-    refused-requires
+    (λ c κs. search needs)
+    (λ c. search needs)
+    (λ c. search needs)
+    (λ c κs. search needs)
+    (λ c κs. search needs)
     returns
     sub-step-checked
     part-step-checked-start
-    part-step-checked-end
-    step-checked-requires
+    (λ c. search needs)
+    (λ c κs. search needs)
     returns-2)

@@ -15,21 +15,6 @@ use Rattle.network_machine.proofs.operation.wait.Tie as tie
 fits : (k : tie.After-known-told) → 13 ≤ length (k .before .before .before .before .before .before .args .file .now)
 fits k = found-fits _ (k .before .before .before .check .ensures .1 .0) (k .before .finding .given .1)
 
-check-requires : tie.Need-check-requires
-check-requires c κs = search needs
-
-enum-known-finding : tie.Need-enum-known-finding
-enum-known-finding c = search needs
-
-enum-told : tie.Need-enum-told
-enum-told c = search needs
-
-finding-number-requires : tie.Need-finding-number-requires
-finding-number-requires c κs = search needs
-
-refused-requires : tie.Need-refused-requires
-refused-requires c κs = search needs
-
 returns : tie.Need-returns
 returns c = let t = c .before .before in
     let h = t .before .before .check .ensures .0 (length-replicate {A = ℕ} 1024 0) in
@@ -44,12 +29,6 @@ sub-wait-checked c = omega (arith, fits c)
 part-wait-checked-start : tie.Need-part-wait-checked-start
 part-wait-checked-start c = omega (arith, fits c)
 
-part-wait-checked-end : tie.Need-part-wait-checked-end
-part-wait-checked-end c = search needs
-
-wait-checked-requires : tie.Need-wait-checked-requires
-wait-checked-requires c κs = search needs
-
 returns-2 : tie.Need-returns-2
 returns-2 c = let k = c .before .before in
     let h = k .before .before .before .check .ensures .0 (length-replicate {A = ℕ} 1024 0) in
@@ -61,14 +40,14 @@ pub wait-spec : {M : Type 1} → statement M
 wait-spec =
     tie.close
     (tie.spec
-    check-requires
-    enum-known-finding
-    enum-told
-    finding-number-requires
-    refused-requires
+    (λ c κs. search needs)
+    (λ c. search needs)
+    (λ c. search needs)
+    (λ c κs. search needs)
+    (λ c κs. search needs)
     returns
     sub-wait-checked
     part-wait-checked-start
-    part-wait-checked-end
-    wait-checked-requires
+    (λ c. search needs)
+    (λ c κs. search needs)
     returns-2)

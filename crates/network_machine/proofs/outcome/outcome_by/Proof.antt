@@ -6,15 +6,6 @@ use Rattle.network_machine.specs.Answers.{outcomeOf}
 use Rattle.network_machine.proofs.outcome.outcome_by.Statement.{statement}
 use Rattle.network_machine.proofs.outcome.outcome_by.Tie as tie
 
-enum-told : tie.Need-enum-told
-enum-told c = search needs
-
-enum-known-verdict : tie.Need-enum-known-verdict
-enum-known-verdict c = search needs
-
-refused-requires : tie.Need-refused-requires
-refused-requires c κs = search needs
-
 returns : tie.Need-returns
 returns c =
     let a = c .before .before .args in
@@ -28,4 +19,4 @@ returns-2 c =
 
 pub outcome-by-spec : {M : Type 1} → statement M
 outcome-by-spec =
-    tie.close (tie.spec enum-told enum-known-verdict refused-requires returns returns-2)
+    tie.close (tie.spec (λ c. search needs) (λ c. search needs) (λ c κs. search needs) returns returns-2)

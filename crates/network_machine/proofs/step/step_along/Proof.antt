@@ -10,22 +10,10 @@ use borrow.Author.Needs.{needs}
 use Rattle.network_machine.proofs.step.step_along.Statement.{statement}
 use Rattle.network_machine.proofs.step.step_along.Tie as tie
 
-all-active-requires : tie.Need-all-active-requires
-all-active-requires c κs = search needs
-
-refused-requires : tie.Need-refused-requires
-refused-requires c κs = search needs
-
 returns : tie.Need-returns
 returns c = λ n L h g. let x = c .before .before in
     let a = x .before .before .before .args in
     c .refused .ensures ∙ ap (outcomeOf (a .c)) (sym (inactive n (a .c) _ h (L .edges) g (sym (x .all-active .ensures n L (known-below _ _ g)) ∙ not-true _ (c .before .if1 .taken))))
-
-urgency-kept-requires : tie.Need-urgency-kept-requires
-urgency-kept-requires c κs = search needs
-
-refused-requires-2 : tie.Need-refused-requires-2
-refused-requires-2 c κs = search needs
 
 returns-2 : tie.Need-returns-2
 returns-2 c = λ n L h g. let e1 = c .before .before .before in
@@ -33,21 +21,6 @@ returns-2 c = λ n L h g. let e1 = c .before .before .before in
     let a = x .before .before .before .args in
     let active = sym (x .all-active .ensures n L (known-below _ _ g)) ∙ not-false _ (e1 .if1 .left) in
     c .refused2 .ensures ∙ ap (outcomeOf (a .c)) (sym (urgency n (a .c) _ h (L .edges) g active (sym (c .before .before .urgency-kept .ensures n L (known-below _ _ g)) ∙ not-true _ (c .before .if2 .taken))))
-
-is-allowed-requires : tie.Need-is-allowed-requires
-is-allowed-requires c κs = search needs
-
-configuration-after-requires : tie.Need-configuration-after-requires
-configuration-after-requires c κs = search needs
-
-bounds-kept-requires : tie.Need-bounds-kept-requires
-bounds-kept-requires c κs = search needs
-
-last-tests-requires : tie.Need-last-tests-requires
-last-tests-requires c κs = search needs
-
-outcome-by-requires : tie.Need-outcome-by-requires
-outcome-by-requires c κs = search needs
 
 returns-3 : tie.Need-returns-3
 unfolding tested
@@ -73,15 +46,15 @@ pub step-along-spec : {M : Type 1} → statement M
 step-along-spec =
     tie.close
     (tie.spec
-    all-active-requires
-    refused-requires
+    (λ c κs. search needs)
+    (λ c κs. search needs)
     returns
-    urgency-kept-requires
-    refused-requires-2
+    (λ c κs. search needs)
+    (λ c κs. search needs)
     returns-2
-    is-allowed-requires
-    configuration-after-requires
-    bounds-kept-requires
-    last-tests-requires
-    outcome-by-requires
+    (λ c κs. search needs)
+    (λ c κs. search needs)
+    (λ c κs. search needs)
+    (λ c κs. search needs)
+    (λ c κs. search needs)
     returns-3)

@@ -6,25 +6,10 @@ use borrow.Author.Needs.{needs}
 use Rattle.network_machine.proofs.step.step_checked.Statement.{statement}
 use Rattle.network_machine.proofs.step.step_checked.Tie as tie
 
-is-configuration-requires : tie.Need-is-configuration-requires
-is-configuration-requires c κs = search needs
-
-refused-requires : tie.Need-refused-requires
-refused-requires c κs = search needs
-
 returns : tie.Need-returns
 returns c = λ n L. let x = c .before .before in
     let a = x .before .before .before .args in
     c .refused .ensures ∙ ap (outcomeOf (a .c)) (sym (not-configuration n (a .c) _ (sym (x .is-configuration .ensures n (L .located)) ∙ not-true _ (c .before .if1 .taken))))
-
-cast-known : tie.Need-cast-known
-cast-known c = search needs
-
-known-requires : tie.Need-known-requires
-known-requires c κs = search needs
-
-refused-requires-2 : tie.Need-refused-requires-2
-refused-requires-2 c κs = search needs
 
 returns-2 : tie.Need-returns-2
 returns-2 c = λ n L. let k = c .before .before in
@@ -32,9 +17,6 @@ returns-2 c = λ n L. let k = c .before .before in
     let a = x .before .before .before .args in
     let h = sym (x .is-configuration .ensures n (L .located)) ∙ not-false _ (k .before .before .if1 .left) in
     c .refused2 .ensures ∙ ap (outcomeOf (a .c)) (sym (not-known n (a .c) _ h (L .edges) (sym (k .known .ensures) ∙ not-true _ (c .before .if2 .taken))))
-
-step-along-requires : tie.Need-step-along-requires
-step-along-requires c κs = search needs
 
 returns-3 : tie.Need-returns-3
 returns-3 c = λ n L. let k = c .before .before in
@@ -46,12 +28,12 @@ pub step-checked-spec : {M : Type 1} → statement M
 step-checked-spec =
     tie.close
     (tie.spec
-    is-configuration-requires
-    refused-requires
+    (λ c κs. search needs)
+    (λ c κs. search needs)
     returns
-    cast-known
-    known-requires
-    refused-requires-2
+    (λ c. search needs)
+    (λ c κs. search needs)
+    (λ c κs. search needs)
     returns-2
-    step-along-requires
+    (λ c κs. search needs)
     returns-3)

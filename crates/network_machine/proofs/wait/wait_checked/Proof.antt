@@ -10,31 +10,13 @@ use borrow.Author.Needs.{needs}
 use Rattle.network_machine.proofs.wait.wait_checked.Statement.{statement}
 use Rattle.network_machine.proofs.wait.wait_checked.Tie as tie
 
-is-configuration-requires : tie.Need-is-configuration-requires
-is-configuration-requires c κs = search needs
-
-refused-requires : tie.Need-refused-requires
-refused-requires c κs = search needs
-
 returns : tie.Need-returns
 returns c = λ n L. c .refused .ensures ∙ ap (outcomeOf (c .before .before .before .before .args .c)) (sym (not-configuration n _ _ (sym (c .before .before .is-configuration .ensures n L) ∙ not-true _ (c .before .if1 .taken))))
-
-refused-requires-2 : tie.Need-refused-requires-2
-refused-requires-2 c κs = search needs
 
 returns-2 : tie.Need-returns-2
 returns-2 c = λ n L. let a = c .before .before .before .before .before .args in
     let h = sym (c .before .before .before .is-configuration .ensures n L) ∙ not-false _ (c .before .before .if1 .left) in
     c .refused2 .ensures ∙ ap (outcomeOf (a .c)) (sym (no-ticks n _ _ h (c .before .if2 .taken)))
-
-cast-later : tie.Need-cast-later
-cast-later c = search needs
-
-later-requires : tie.Need-later-requires
-later-requires c κs = search needs
-
-refused-requires-3 : tie.Need-refused-requires-3
-refused-requires-3 c κs = search needs
 
 returns-3 : tie.Need-returns-3
 returns-3 c = λ n L. let a = c .before .before .before .before .before .before .before .before .before .before .args in
@@ -43,12 +25,6 @@ returns-3 c = λ n L. let a = c .before .before .before .before .before .before 
     let h = sym (p .before .before .is-configuration .ensures n L) ∙ not-false _ (p .before .if1 .left) in
     let e = ap (λ (k : ℕ). inLimit k (later k (a .ticks) (a .c .clocks))) (L .clocks) ∙ sym (k .later .ensures .0) ∙ not-true _ (c .before .if3 .taken) in
     c .refused3 .ensures ∙ ap (outcomeOf (a .c)) (sym (past-limit n _ _ h (p .if2 .left) e))
-
-urgent-requires : tie.Need-urgent-requires
-urgent-requires c κs = search needs
-
-refused-requires-4 : tie.Need-refused-requires-4
-refused-requires-4 c κs = search needs
 
 returns-4 : tie.Need-returns-4
 returns-4 c = λ n L. let a = c .before .before .before .before .before .before .before .before .before .before .before .before .args in
@@ -59,12 +35,6 @@ returns-4 c = λ n L. let a = c .before .before .before .before .before .before 
     let w = not-false _ (q .if3 .left) in
     let e = ap (λ (k : ℕ). inLimit k (later k (a .ticks) (a .c .clocks))) (L .clocks) ∙ sym (k .later .ensures .0) ∙ w in
     c .refused4 .ensures ∙ ap (outcomeOf (a .c)) (sym (urgency n _ _ h (p .if2 .left) e (sym (c .before .before .urgent .ensures n L) ∙ c .before .if4 .taken)))
-
-bounds-kept-requires : tie.Need-bounds-kept-requires
-bounds-kept-requires c κs = search needs
-
-refused-requires-5 : tie.Need-refused-requires-5
-refused-requires-5 c κs = search needs
 
 returns-5 : tie.Need-returns-5
 returns-5 c = λ n L. let a = c .before .before .before .before .before .before .before .before .before .before .before .before .before .before .before .args in
@@ -96,19 +66,19 @@ pub wait-checked-spec : {M : Type 1} → statement M
 wait-checked-spec =
     tie.close
     (tie.spec
-    is-configuration-requires
-    refused-requires
+    (λ c κs. search needs)
+    (λ c κs. search needs)
     returns
-    refused-requires-2
+    (λ c κs. search needs)
     returns-2
-    cast-later
-    later-requires
-    refused-requires-3
+    (λ c. search needs)
+    (λ c κs. search needs)
+    (λ c κs. search needs)
     returns-3
-    urgent-requires
-    refused-requires-4
+    (λ c κs. search needs)
+    (λ c κs. search needs)
     returns-4
-    bounds-kept-requires
-    refused-requires-5
+    (λ c κs. search needs)
+    (λ c κs. search needs)
     returns-5
     returns-6)

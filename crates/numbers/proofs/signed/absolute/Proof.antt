@@ -10,9 +10,6 @@ use Rattle.numbers.proofs.signed.absolute.Tie as tie
 cast-z : tie.Need-cast-z
 cast-z c = cast-fits _ (c .fits .x)
 
-magnitude-requires : tie.Need-magnitude-requires
-magnitude-requires c κs = search needs
-
 small : (c : tie.After-magnitude) → (c .magnitude .result ≡ mag (c .before .args .x)) × (c .magnitude .result < 2 ^ 31)
 small c =
     let s = c .before in
@@ -21,9 +18,6 @@ small c =
 
 cast-m : tie.Need-cast-m
 cast-m c = record { fits = omega (arith, small c .1) }
-
-below-zero-requires : tie.Need-below-zero-requires
-below-zero-requires c κs = search needs
 
 add-result : tie.Need-add-result
 add-result c = record { fits = omega (arith, small (c .before .before) .1) }
@@ -45,4 +39,4 @@ returns-2 c =
 pub absolute-spec : {M : Type 1} → statement M
 absolute-spec =
     tie.close
-    (tie.spec cast-z magnitude-requires cast-m below-zero-requires add-result returns returns-2)
+    (tie.spec cast-z (λ c κs. search needs) cast-m (λ c κs. search needs) add-result returns returns-2)

@@ -8,12 +8,6 @@ use Rattle.numbers.proofs.Integers.{read-both, first-relation}
 use Rattle.numbers.proofs.signed.compare.Statement.{statement}
 use Rattle.numbers.proofs.signed.compare.Tie as tie
 
-equal-requires : tie.Need-equal-requires
-equal-requires c κs = search needs
-
-equal-requires-2 : tie.Need-equal-requires-2
-equal-requires-2 c κs = search needs
-
 returns : tie.Need-returns
 unfolding compareℤ relations
 returns c = rw (c .match .keys1) (read-both leZ (c .before .fits .x) (c .before .fits .y))
@@ -45,8 +39,8 @@ pub compare-spec : {M : Type 1} → statement M
 compare-spec =
     tie.close
     (tie.spec
-    equal-requires
-    equal-requires-2
+    (λ c κs. search needs)
+    (λ c κs. search needs)
     returns
     returns-2
     returns-3

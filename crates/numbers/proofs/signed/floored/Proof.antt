@@ -13,12 +13,6 @@ use Rattle.numbers.proofs.Integers.{less-is, less-fits, complement-pos,
 use Rattle.numbers.proofs.signed.floored.Statement.{statement}
 use Rattle.numbers.proofs.signed.floored.Tie as tie
 
-magnitude-requires : tie.Need-magnitude-requires
-magnitude-requires c κs = search needs
-
-div-q : tie.Need-div-q
-div-q c = search needs
-
 read : (c : tie.Start) → toZ w64 (ofZ w64 (c .args .z)) ≡ c .args .z
 read c = toZ-ofZ w64 _ (c .fits .z)
 
@@ -30,9 +24,6 @@ small c = (omega (arith, sized c, div-le-self (c .magnitude .result) (c .before 
 
 cast-q : tie.Need-cast-q
 cast-q c = record { sfits = omega (arith, small c) }
-
-below-zero-requires : tie.Need-below-zero-requires
-below-zero-requires c κs = search needs
 
 sub-result : tie.Need-sub-result
 sub-result c =
@@ -58,4 +49,4 @@ returns-2 c =
 pub floored-spec : {M : Type 1} → statement M
 floored-spec =
     tie.close
-    (tie.spec magnitude-requires div-q cast-q below-zero-requires sub-result returns returns-2)
+    (tie.spec (λ c κs. search needs) (λ c. search needs) cast-q (λ c κs. search needs) sub-result returns returns-2)

@@ -24,23 +24,14 @@ measured c =
     let e : c .magnitude .result ≡ mag (start .args .x) = c .magnitude .ensures ∙ ap mag (read-wide (start .args .x) (start .fits .x)) in
     (e, omega (arith, start .fits .x .sfits))
 
-is-divisor-requires : tie.Need-is-divisor-requires
-is-divisor-requires c κs = search needs
-
 returns : tie.Need-returns
 returns c = sym (cond-no _ _ (sym (c .before .is-divisor .ensures) ∙ not-true _ (c .if1 .taken)))
 
 cast-magnitude : tie.Need-cast-magnitude
 cast-magnitude c = cast-fits _ (c .before .before .fits .x)
 
-magnitude-requires : tie.Need-magnitude-requires
-magnitude-requires c κs = search needs
-
 cast-m : tie.Need-cast-m
 cast-m c = record { fits = omega (arith, measured c .1) }
-
-is-negative-requires : tie.Need-is-negative-requires
-is-negative-requires c κs = search needs
 
 div-with-sign : tie.Need-div-with-sign
 div-with-sign c = divisor-range _ (divides (c .before .before)) .0
@@ -62,12 +53,12 @@ pub quotient-spec : {M : Type 1} → statement M
 quotient-spec =
     tie.close
     (tie.spec
-    is-divisor-requires
+    (λ c κs. search needs)
     returns
     cast-magnitude
-    magnitude-requires
+    (λ c κs. search needs)
     cast-m
-    is-negative-requires
+    (λ c κs. search needs)
     div-with-sign
     with-sign-requires
     returns-2)

@@ -7,11 +7,8 @@ use Rattle.numbers.proofs.signed.remainder.Tie as tie
 cast-rest : tie.Need-cast-rest
 cast-rest c = cast-fits _ (c .fits .x)
 
-rest-requires : tie.Need-rest-requires
-rest-requires c κs = search needs
-
 returns : tie.Need-returns
 returns c = read-back _ (c .rest .ok) ∙ c .rest .ensures ∙ rw (read-wide (c .before .args .x) (c .before .fits .x))
 
 pub remainder-spec : {M : Type 1} → statement M
-remainder-spec = tie.close (tie.spec cast-rest rest-requires returns)
+remainder-spec = tie.close (tie.spec cast-rest (λ c κs. search needs) returns)

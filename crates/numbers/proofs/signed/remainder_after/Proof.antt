@@ -14,12 +14,6 @@ use Rattle.numbers.proofs.Integers.{read-back}
 use Rattle.numbers.proofs.signed.remainder_after.Statement.{statement}
 use Rattle.numbers.proofs.signed.remainder_after.Tie as tie
 
-total-requires : tie.Need-total-requires
-total-requires c κs = search needs
-
-rest-requires : tie.Need-rest-requires
-rest-requires c κs = search needs
-
 -- a denominator is a divisor but for 0
 divides : (c : tie.Start) → isDivisor (c .args .denominator) ≡ leb 1 (c .args .denominator)
 divides c =
@@ -37,4 +31,4 @@ returns c =
     ∙ ap₂ (λ (b : Bool) (z : ℤ). cond b (floorMod z (start .args .denominator)) (pos 0)) (divides start) exact
 
 pub remainder-after-spec : {M : Type 1} → statement M
-remainder-after-spec = tie.close (tie.spec total-requires rest-requires returns)
+remainder-after-spec = tie.close (tie.spec (λ c κs. search needs) (λ c κs. search needs) returns)

@@ -18,20 +18,11 @@ use Rattle.numbers.proofs.signed.rest.Tie as tie
 divides : (c : tie.Else1) → isDivisor (c .before .before .args .d) ≡ true
 divides c = sym (c .before .is-divisor .ensures) ∙ not-false _ (c .if1 .left)
 
-is-divisor-requires : tie.Need-is-divisor-requires
-is-divisor-requires c κs = search needs
-
 returns : tie.Need-returns
 returns c = sym (cond-no _ _ (sym (c .before .is-divisor .ensures) ∙ not-true _ (c .if1 .taken)))
 
-magnitude-requires : tie.Need-magnitude-requires
-magnitude-requires c κs = search needs
-
 rem-m : tie.Need-rem-m
 rem-m c = divisor-range _ (divides (c .before)) .0
-
-below-zero-requires : tie.Need-below-zero-requires
-below-zero-requires c κs = search needs
 
 sub-with-sign : tie.Need-sub-with-sign
 sub-with-sign c = divisor-range _ (divides (c .before .before .before)) .0
@@ -84,11 +75,11 @@ pub rest-spec : {M : Type 1} → statement M
 rest-spec =
     tie.close
     (tie.spec
-    is-divisor-requires
+    (λ c κs. search needs)
     returns
-    magnitude-requires
+    (λ c κs. search needs)
     rem-m
-    below-zero-requires
+    (λ c κs. search needs)
     sub-with-sign
     cast-with-sign
     sub-with-sign-2

@@ -5,15 +5,6 @@ use Rattle.numbers.proofs.Integers.{read-back, signed-low, signed-high}
 use Rattle.numbers.proofs.signed.signed.Statement.{statement}
 use Rattle.numbers.proofs.signed.signed.Tie as tie
 
-with-sign-requires : tie.Need-with-sign-requires
-with-sign-requires c κs = search needs
-
-sub-with-sign : tie.Need-sub-with-sign
-sub-with-sign c = search needs
-
-with-sign-requires-2 : tie.Need-with-sign-requires-2
-with-sign-requires-2 c κs = search needs
-
 returns : tie.Need-returns
 returns c = read-back _ (c .with-sign .ok) ∙ c .with-sign .ensures ∙ sym (signed-low _ (c .before .if1 .taken))
 
@@ -22,4 +13,4 @@ returns-2 c = read-back _ (c .with-sign2 .ok) ∙ c .with-sign2 .ensures ∙ sym
 
 pub signed-spec : {M : Type 1} → statement M
 signed-spec =
-    tie.close (tie.spec with-sign-requires sub-with-sign with-sign-requires-2 returns returns-2)
+    tie.close (tie.spec (λ c κs. search needs) (λ c. search needs) (λ c κs. search needs) returns returns-2)

@@ -15,9 +15,6 @@ use Rattle.numbers.proofs.signed.total.Tie as tie
 cast-result : tie.Need-cast-result
 cast-result c = cast-fits _ (c .fits .remainder)
 
-cast-result-2 : tie.Need-cast-result-2
-cast-result-2 c = search needs
-
 within : (c : tie.Start) → mag (c .args .remainder +ℤ pos (c .args .numerator)) < 2 ^ 32
 within c = total-within _ _ (c .fits .remainder) (omega arith)
 
@@ -36,4 +33,4 @@ returns : tie.Need-returns
 returns c = (read c, rw (read c) (within c))
 
 pub total-spec : {M : Type 1} → statement M
-total-spec = tie.close (tie.spec cast-result cast-result-2 add-result returns)
+total-spec = tie.close (tie.spec cast-result (λ c. search needs) add-result returns)

@@ -17,32 +17,11 @@ first c = record { sfits = c .before .before .before .known-told .given .0 .1 }
 second : (c : tie.After-known-told2) → SFits w32 (c .before .y .given .0 .0)
 second c = record { sfits = c .known-told2 .given .0 .1 }
 
-enum-known-x : tie.Need-enum-known-x
-enum-known-x c = search needs
-
-enum-told : tie.Need-enum-told
-enum-told c = search needs
-
 returns : tie.Need-returns
 returns c = combined-left _ _ (c .enum-told .given .1)
 
-enum-known-y : tie.Need-enum-known-y
-enum-known-y c = search needs
-
-enum-told-2 : tie.Need-enum-told-2
-enum-told-2 c = search needs
-
 returns-2 : tie.Need-returns-2
 returns-2 c = combined-right _ _ (c .before .before .before .x .given .1) (c .enum-told2 .given .1)
-
-sum-requires : tie.Need-sum-requires
-sum-requires c κs = search needs
-
-difference-requires : tie.Need-difference-requires
-difference-requires c κs = search needs
-
-product-requires : tie.Need-product-requires
-product-requires c κs = search needs
 
 returns-3 : tie.Need-returns-3
 returns-3 c =
@@ -63,15 +42,15 @@ pub combine-spec : {M : Type 1} → statement M
 combine-spec =
     tie.close
     (tie.spec
-    enum-known-x
-    enum-told
+    (λ c. search needs)
+    (λ c. search needs)
     returns
-    enum-known-y
-    enum-told-2
+    (λ c. search needs)
+    (λ c. search needs)
     returns-2
-    sum-requires
-    difference-requires
-    product-requires
+    (λ c κs. search needs)
+    (λ c κs. search needs)
+    (λ c κs. search needs)
     returns-3
     returns-4
     returns-5)

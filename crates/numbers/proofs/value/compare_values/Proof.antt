@@ -17,27 +17,6 @@ first c = record { sfits = c .before .before .before .known-told .given .0 .1 }
 second : (c : tie.After-known-told2) → SFits w32 (c .before .y .given .0 .0)
 second c = record { sfits = c .known-told2 .given .0 .1 }
 
-enum-known-x : tie.Need-enum-known-x
-enum-known-x c = search needs
-
-enum-told : tie.Need-enum-told
-enum-told c = search needs
-
-returns : tie.Need-returns
-returns c = search needs
-
-enum-known-y : tie.Need-enum-known-y
-enum-known-y c = search needs
-
-enum-told-2 : tie.Need-enum-told-2
-enum-told-2 c = search needs
-
-returns-2 : tie.Need-returns-2
-returns-2 c = search needs
-
-compare-requires : tie.Need-compare-requires
-compare-requires c κs = search needs
-
 returns-3 : tie.Need-returns-3
 returns-3 c =
     let p = c .before in
@@ -50,11 +29,11 @@ pub compare-values-spec : {M : Type 1} → statement M
 compare-values-spec =
     tie.close
     (tie.spec
-    enum-known-x
-    enum-told
-    returns
-    enum-known-y
-    enum-told-2
-    returns-2
-    compare-requires
+    (λ c. search needs)
+    (λ c. search needs)
+    (λ c. search needs)
+    (λ c. search needs)
+    (λ c. search needs)
+    (λ c. search needs)
+    (λ c κs. search needs)
     returns-3)

@@ -17,9 +17,6 @@ cast-exactly-2 c = cast-fits _ (c .fits .y)
 sub-exactly : tie.Need-sub-exactly
 sub-exactly c = rw (read-wide (c .args .x) (c .fits .x), read-wide (c .args .y) (c .fits .y)) (sub-fits _ _ (c .fits .x) (c .fits .y))
 
-exactly-requires : tie.Need-exactly-requires
-exactly-requires c κs = search needs
-
 returns : tie.Need-returns
 returns c =
     let s = c .before in
@@ -27,4 +24,4 @@ returns c =
     ∙ rw (read-wide (s .args .x) (s .fits .x), read-wide (s .args .y) (s .fits .y)) (ap exactly (toZ-ofZ w64 _ (sub-fits _ _ (s .fits .x) (s .fits .y))))
 
 pub difference-spec : {M : Type 1} → statement M
-difference-spec = tie.close (tie.spec cast-exactly cast-exactly-2 sub-exactly exactly-requires returns)
+difference-spec = tie.close (tie.spec cast-exactly cast-exactly-2 sub-exactly (λ c κs. search needs) returns)

@@ -8,20 +8,8 @@ use Rattle.numbers.proofs.Values.{divided-none, divided-quotient, divid
 use Rattle.numbers.proofs.value.divide.Statement.{statement}
 use Rattle.numbers.proofs.value.divide.Tie as tie
 
-enum-known-x : tie.Need-enum-known-x
-enum-known-x c = search needs
-
-enum-told : tie.Need-enum-told
-enum-told c = search needs
-
 returns : tie.Need-returns
 returns c = let start = c .before .before in divided-none (start .args .code) (start .args .d) (c .enum-told .given .1)
-
-quotient-requires : tie.Need-quotient-requires
-quotient-requires c κs = search needs
-
-remainder-requires : tie.Need-remainder-requires
-remainder-requires c κs = search needs
 
 returns-2 : tie.Need-returns-2
 returns-2 c =
@@ -41,10 +29,10 @@ pub divide-spec : {M : Type 1} → statement M
 divide-spec =
     tie.close
     (tie.spec
-    enum-known-x
-    enum-told
+    (λ c. search needs)
+    (λ c. search needs)
     returns
-    quotient-requires
-    remainder-requires
+    (λ c κs. search needs)
+    (λ c κs. search needs)
     returns-2
     returns-3)

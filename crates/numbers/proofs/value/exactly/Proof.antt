@@ -18,9 +18,6 @@ read c = toZ-ofZ w64 _ (c .fits .z)
 measured : (c : tie.After-magnitude) → c .magnitude .result ≡ mag (c .before .args .z)
 measured c = c .magnitude .ensures ∙ ap mag (read (c .before))
 
-magnitude-requires : tie.Need-magnitude-requires
-magnitude-requires c κs = search needs
-
 inside : (c : tie.Then1) → mag (c .before .before .args .z) < 2 ^ 31
 inside c = omega (arith, measured (c .before), c .if1 .taken)
 
@@ -34,4 +31,4 @@ returns-2 : tie.Need-returns-2
 returns-2 c = let e = measured (c .before) in sym (exactly-outside _ (omega (arith, e, c .if1 .left)))
 
 pub exactly-spec : {M : Type 1} → statement M
-exactly-spec = tie.close (tie.spec magnitude-requires cast-t5 returns returns-2)
+exactly-spec = tie.close (tie.spec (λ c κs. search needs) cast-t5 returns returns-2)

@@ -5,12 +5,6 @@ use Rattle.numbers.proofs.Integers.{read-back}
 use Rattle.numbers.proofs.value.number_of.Statement.{statement}
 use Rattle.numbers.proofs.value.number_of.Tie as tie
 
-enum-known-x : tie.Need-enum-known-x
-enum-known-x c = search needs
-
-enum-told : tie.Need-enum-told
-enum-told c = search needs
-
 returns : tie.Need-returns
 returns c = read-back _ (c .known-told .given .0 .1) ∙ sym (ap numberOf (c .before .x .given .1))
 
@@ -18,4 +12,4 @@ returns-2 : tie.Need-returns-2
 returns-2 c = sym (ap numberOf (c .enum-told .given .1))
 
 pub number-of-spec : {M : Type 1} → statement M
-number-of-spec = tie.close (tie.spec enum-known-x enum-told returns returns-2)
+number-of-spec = tie.close (tie.spec (λ c. search needs) (λ c. search needs) returns returns-2)

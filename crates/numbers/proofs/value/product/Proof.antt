@@ -17,9 +17,6 @@ cast-exactly-2 c = cast-fits _ (c .fits .y)
 mul-exactly : tie.Need-mul-exactly
 mul-exactly c = rw (read-wide (c .args .x) (c .fits .x), read-wide (c .args .y) (c .fits .y)) (mul-fits _ _ (c .fits .x) (c .fits .y))
 
-exactly-requires : tie.Need-exactly-requires
-exactly-requires c κs = search needs
-
 returns : tie.Need-returns
 returns c =
     let s = c .before in
@@ -27,4 +24,4 @@ returns c =
     ∙ rw (read-wide (s .args .x) (s .fits .x), read-wide (s .args .y) (s .fits .y)) (ap exactly (toZ-ofZ w64 _ (mul-fits _ _ (s .fits .x) (s .fits .y))))
 
 pub product-spec : {M : Type 1} → statement M
-product-spec = tie.close (tie.spec cast-exactly cast-exactly-2 mul-exactly exactly-requires returns)
+product-spec = tie.close (tie.spec cast-exactly cast-exactly-2 mul-exactly (λ c κs. search needs) returns)

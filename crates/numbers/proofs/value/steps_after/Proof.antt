@@ -22,12 +22,6 @@ returns c = sym (cond-no _ _ (lt-leb 1 (c .before .args .denominator) (omega (ar
 cast-exactly : tie.Need-cast-exactly
 cast-exactly c = cast-fits _ (c .before .fits .steps)
 
-total-requires : tie.Need-total-requires
-total-requires c κs = search needs
-
-floored-requires : tie.Need-floored-requires
-floored-requires c κs = search needs
-
 -- the whole part as it was computed
 whole : (c : tie.After-floored) →
     let start = c .before .before .before in
@@ -51,9 +45,6 @@ add-exactly c =
     let start = c .before .before .before in
     rw (read-wide (start .args .steps) (start .fits .steps)) (step-fits _ _ (start .fits .steps) (small c))
 
-exactly-requires : tie.Need-exactly-requires
-exactly-requires c κs = search needs
-
 returns-2 : tie.Need-returns-2
 returns-2 c =
     let f = c .before in
@@ -66,4 +57,4 @@ returns-2 c =
 pub steps-after-spec : {M : Type 1} → statement M
 steps-after-spec =
     tie.close
-    (tie.spec returns cast-exactly total-requires floored-requires add-exactly exactly-requires returns-2)
+    (tie.spec returns cast-exactly (λ c κs. search needs) (λ c κs. search needs) add-exactly (λ c κs. search needs) returns-2)

@@ -17,9 +17,6 @@ cast-exactly-2 c = cast-fits _ (c .fits .y)
 add-exactly : tie.Need-add-exactly
 add-exactly c = rw (read-wide (c .args .x) (c .fits .x), read-wide (c .args .y) (c .fits .y)) (add-fits _ _ (c .fits .x) (c .fits .y))
 
-exactly-requires : tie.Need-exactly-requires
-exactly-requires c κs = search needs
-
 returns : tie.Need-returns
 returns c =
     let s = c .before in
@@ -27,4 +24,4 @@ returns c =
     ∙ rw (read-wide (s .args .x) (s .fits .x), read-wide (s .args .y) (s .fits .y)) (ap exactly (toZ-ofZ w64 _ (add-fits _ _ (s .fits .x) (s .fits .y))))
 
 pub sum-spec : {M : Type 1} → statement M
-sum-spec = tie.close (tie.spec cast-exactly cast-exactly-2 add-exactly exactly-requires returns)
+sum-spec = tie.close (tie.spec cast-exactly cast-exactly-2 add-exactly (λ c κs. search needs) returns)

@@ -8,24 +8,9 @@ use borrow.Author.Needs.{needs}
 use Rattle.request_parts.proofs.calls.read_call.Statement.{statement}
 use Rattle.request_parts.proofs.calls.read_call.Tie as tie
 
-read-below-requires : tie.Need-read-below-requires
-read-below-requires c κs = search needs
-
-enum-known-b : tie.Need-enum-known-b
-enum-known-b c = search needs
-
-enum-told : tie.Need-enum-told
-enum-told c = search needs
-
-byte-fault-requires : tie.Need-byte-fault-requires
-byte-fault-requires c κs = search needs
-
 returns : tie.Need-returns
 unfolding call
 returns c = (ap (λ f. fault (faultOf f)) (c .byte-fault .ensures ∙ ap byteFault (c .before .enum-told .given .1)) ∙ sym (bind-fault _ _ _ (answered (byteOf _) (c .before .before .before .read-below .ensures .0) (c .before .enum-told .given .1))), omega arith)
-
-read-body-requires : tie.Need-read-body-requires
-read-body-requires c κs = search needs
 
 returns-2 : tie.Need-returns-2
 unfolding call
@@ -35,10 +20,10 @@ pub read-call-spec : {M : Type 1} → statement M
 read-call-spec =
     tie.close
     (tie.spec
-    read-below-requires
-    enum-known-b
-    enum-told
-    byte-fault-requires
+    (λ c κs. search needs)
+    (λ c. search needs)
+    (λ c. search needs)
+    (λ c κs. search needs)
     returns
-    read-body-requires
+    (λ c κs. search needs)
     returns-2)

@@ -9,27 +9,9 @@ use borrow.Author.Needs.{needs}
 use Rattle.request_parts.proofs.calls.read_step.Statement.{statement}
 use Rattle.request_parts.proofs.calls.read_step.Tie as tie
 
-read-short-requires : tie.Need-read-short-requires
-read-short-requires c κs = search needs
-
-enum-known-h : tie.Need-enum-known-h
-enum-known-h c = search needs
-
-enum-told : tie.Need-enum-told
-enum-told c = search needs
-
-short-fault-requires : tie.Need-short-fault-requires
-short-fault-requires c κs = search needs
-
 returns : tie.Need-returns
 unfolding stepped
 returns c = (ap (λ f. fault (faultOf f)) (c .short-fault .ensures ∙ ap shortFault (c .before .enum-told .given .1)) ∙ sym (bind-fault _ _ _ (answered (shortOf _) (c .before .before .before .read-short .ensures .0) (c .before .enum-told .given .1))), omega arith)
-
-cast-size : tie.Need-cast-size
-cast-size c = search needs
-
-mul-size : tie.Need-mul-size
-mul-size c = search needs
 
 sub-if1 : tie.Need-sub-if1
 sub-if1 c = omega (arith, ap shortEnd (c .before .h .given .1), c .before .before .before .read-short .ensures .1)
@@ -37,9 +19,6 @@ sub-if1 c = omega (arith, ap shortEnd (c .before .h .given .1), c .before .befor
 returns-2 : tie.Need-returns-2
 unfolding stepped
 returns-2 c = (sym (bind-got _ _ _ (answered (shortOf _) (c .before .before .before .before .read-short .ensures .0) (c .before .before .h .given .1)) ∙ bind-fault _ _ _ (numbers-none _ _ _ refl (c .if1 .taken))), omega arith)
-
-add-t8 : tie.Need-add-t8
-add-t8 c = search needs
 
 returns-3 : tie.Need-returns-3
 unfolding stepped yield
@@ -53,14 +32,14 @@ pub read-step-spec : {M : Type 1} → statement M
 read-step-spec =
     tie.close
     (tie.spec
-    read-short-requires
-    enum-known-h
-    enum-told
-    short-fault-requires
+    (λ c κs. search needs)
+    (λ c. search needs)
+    (λ c. search needs)
+    (λ c κs. search needs)
     returns
-    cast-size
-    mul-size
+    (λ c. search needs)
+    (λ c. search needs)
     sub-if1
     returns-2
-    add-t8
+    (λ c. search needs)
     returns-3)

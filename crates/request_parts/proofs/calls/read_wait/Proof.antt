@@ -8,18 +8,6 @@ use borrow.Author.Needs.{needs}
 use Rattle.request_parts.proofs.calls.read_wait.Statement.{statement}
 use Rattle.request_parts.proofs.calls.read_wait.Tie as tie
 
-read-word-requires : tie.Need-read-word-requires
-read-word-requires c κs = search needs
-
-enum-known-w : tie.Need-enum-known-w
-enum-known-w c = search needs
-
-enum-told : tie.Need-enum-told
-enum-told c = search needs
-
-word-fault-requires : tie.Need-word-fault-requires
-word-fault-requires c κs = search needs
-
 returns : tie.Need-returns
 unfolding waited
 returns c = (ap (λ f. fault (faultOf f)) (c .word-fault .ensures ∙ ap wordFault (c .before .enum-told .given .1)) ∙ sym (bind-fault _ _ _ (answered (wordOf _) (c .before .before .before .read-word .ensures .0) (c .before .enum-told .given .1))), omega arith)
@@ -31,4 +19,4 @@ returns-2 c = (sym (bind-got _ _ _ (answered (wordOf _) (c .before .before .befo
 pub read-wait-spec : {M : Type 1} → statement M
 read-wait-spec =
     tie.close
-    (tie.spec read-word-requires enum-known-w enum-told word-fault-requires returns returns-2)
+    (tie.spec (λ c κs. search needs) (λ c. search needs) (λ c. search needs) (λ c κs. search needs) returns returns-2)

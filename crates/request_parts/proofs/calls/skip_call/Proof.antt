@@ -8,15 +8,6 @@ use borrow.Author.Needs.{needs}
 use Rattle.request_parts.proofs.calls.skip_call.Statement.{statement}
 use Rattle.request_parts.proofs.calls.skip_call.Tie as tie
 
-read-call-requires : tie.Need-read-call-requires
-read-call-requires c κs = search needs
-
-enum-known-c : tie.Need-enum-known-c
-enum-known-c c = search needs
-
-enum-known-c-2 : tie.Need-enum-known-c-2
-enum-known-c-2 c = search needs
-
 returns : tie.Need-returns
 unfolding skipped
 returns c = (sym (mapped-got _ (answered (callOf _) (c .before .before .before .read-call .ensures .0) (c .before .c .given .1))), omega (arith, ap callEnd (c .before .c .given .1), c .before .before .before .read-call .ensures .1))
@@ -27,4 +18,4 @@ returns-2 c = (sym (mapped-fault _ (answered (callOf _) (c .before .before .befo
 
 pub skip-call-spec : {M : Type 1} → statement M
 skip-call-spec =
-    tie.close (tie.spec read-call-requires enum-known-c enum-known-c-2 returns returns-2)
+    tie.close (tie.spec (λ c κs. search needs) (λ c. search needs) (λ c. search needs) returns returns-2)

@@ -9,24 +9,9 @@ use borrow.Author.Needs.{needs}
 use Rattle.request_parts.proofs.calls.skip_calls.Statement.{statement}
 use Rattle.request_parts.proofs.calls.skip_calls.Tie as tie
 
-read-short-requires : tie.Need-read-short-requires
-read-short-requires c κs = search needs
-
-enum-known-h : tie.Need-enum-known-h
-enum-known-h c = search needs
-
-enum-told : tie.Need-enum-told
-enum-told c = search needs
-
-short-fault-requires : tie.Need-short-fault-requires
-short-fault-requires c κs = search needs
-
 returns : tie.Need-returns
 unfolding calls skipped
 returns c = (ap (λ f. fault (faultOf f)) (c .short-fault .ensures ∙ ap shortFault (c .before .enum-told .given .1)) ∙ sym (mapped-fault _ (bind-fault _ _ _ (answered (shortOf _) (c .before .before .before .read-short .ensures .0) (c .before .enum-told .given .1)))), omega arith)
-
-skip-many-requires : tie.Need-skip-many-requires
-skip-many-requires c κs = search needs
 
 returns-2 : tie.Need-returns-2
 unfolding calls
@@ -37,10 +22,10 @@ pub skip-calls-spec : {M : Type 1} → statement M
 skip-calls-spec =
     tie.close
     (tie.spec
-    read-short-requires
-    enum-known-h
-    enum-told
-    short-fault-requires
+    (λ c κs. search needs)
+    (λ c. search needs)
+    (λ c. search needs)
+    (λ c κs. search needs)
     returns
-    skip-many-requires
+    (λ c κs. search needs)
     returns-2)

@@ -19,24 +19,9 @@ abbrev μ-loop : tie.MeasureT-loop
 loop-holds : tie.Need-loop-holds Inv-loop μ-loop
 loop-holds c = (skipping-none _ _ _, λ h. h)
 
-skip-call-requires : tie.Need-skip-call-requires Inv-loop μ-loop
-skip-call-requires c κs = search needs
-
-enum-known-q : tie.Need-enum-known-q Inv-loop μ-loop
-enum-known-q c = search needs
-
-enum-told : tie.Need-enum-told Inv-loop μ-loop
-enum-told c = search needs
-
 returns : tie.Need-returns Inv-loop μ-loop
 returns c = let l = c .before .before in
     (rw (c .enum-told .given .1) (sym (skipping-stop _ _ _ (l .before .before .loop .inv .0) (l .before .loop-test .taken) (answered (reached _ tt) (l .skip-call .ensures .0) (c .enum-told .given .1)))), λ h. l .skip-call .ensures .1)
-
-add-i : tie.Need-add-i Inv-loop μ-loop
-add-i c = omega arith
-
-loop-less : tie.Need-loop-less Inv-loop μ-loop
-loop-less c = omega arith
 
 loop-again : tie.Need-loop-again Inv-loop μ-loop
 loop-again c = let l = c .before .before .before in
@@ -52,11 +37,11 @@ skip-many-spec =
     Inv-loop
     μ-loop
     loop-holds
-    skip-call-requires
-    enum-known-q
-    enum-told
+    (λ c κs. search needs)
+    (λ c. search needs)
+    (λ c. search needs)
     returns
-    add-i
-    loop-less
+    (λ c. omega arith)
+    (λ c. omega arith)
     loop-again
     returns-2)

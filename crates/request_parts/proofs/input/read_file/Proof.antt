@@ -7,29 +7,11 @@ use borrow.Author.Needs.{needs}
 use Rattle.request_parts.proofs.input.read_file.Statement.{statement}
 use Rattle.request_parts.proofs.input.read_file.Tie as tie
 
-read-word-requires : tie.Need-read-word-requires
-read-word-requires c κs = search needs
-
-enum-known-w : tie.Need-enum-known-w
-enum-known-w c = search needs
-
-enum-told : tie.Need-enum-told
-enum-told c = search needs
-
-word-fault-requires : tie.Need-word-fault-requires
-word-fault-requires c κs = search needs
-
 returns : tie.Need-returns
 returns c = (ap (λ f. fault (faultOf f)) (c .word-fault .ensures ∙ ap wordFault (c .before .enum-told .given .1)) ∙ sym (framed-fault _ _ (answered (wordOf _) (c .before .before .before .read-word .ensures .0) (c .before .enum-told .given .1))), tt)
 
-cast-size : tie.Need-cast-size
-cast-size c = search needs
-
 sub-if1 : tie.Need-sub-if1
 sub-if1 c = omega (arith, ap wordEnd (c .before .w .given .1), c .before .before .before .read-word .ensures .1)
-
-add-t13 : tie.Need-add-t13
-add-t13 c = search needs
 
 returns-2 : tie.Need-returns-2
 returns-2 c = (sym (framed-long _ _ _ _ _ (answered (wordOf _) (c .before .before .before .before .read-word .ensures .0) (c .before .before .w .given .1)) refl (c .if1 .taken)), tt)
@@ -41,13 +23,13 @@ pub read-file-spec : {M : Type 1} → statement M
 read-file-spec =
     tie.close
     (tie.spec
-    read-word-requires
-    enum-known-w
-    enum-told
-    word-fault-requires
+    (λ c κs. search needs)
+    (λ c. search needs)
+    (λ c. search needs)
+    (λ c κs. search needs)
     returns
-    cast-size
+    (λ c. search needs)
     sub-if1
-    add-t13
+    (λ c. search needs)
     returns-2
     returns-3)

@@ -6,16 +6,10 @@ use Rattle.request_parts.proofs.input.value.Statement.{statement}
 use Rattle.request_parts.proofs.input.value.Tie as tie
 
 -- src/input.rt:61:26
-word-requires : tie.Need-word-requires
-word-requires c κs = search needs
-
 -- src/input.rt:61:5
-signed-requires : tie.Need-signed-requires
-signed-requires c κs = search needs
-
 -- src/input.rt:58:1
 returns : tie.Need-returns
 returns c = read-back _ (c .signed .ok) ∙ c .signed .ensures ∙ ap signed (c .before .word .ensures)
 
 pub value-spec : {M : Type 1} → statement M
-value-spec = tie.close (tie.spec word-requires signed-requires returns)
+value-spec = tie.close (tie.spec (λ c κs. search needs) (λ c κs. search needs) returns)

@@ -12,29 +12,11 @@ Inv-loop s ticks₀ count i₀ ticks i = Writing (ticksOf s) ticks₀ ticks i
 abbrev μ-loop : tie.MeasureT-loop
 μ-loop s ticks₀ count i₀ ticks i = count - i
 
-least-requires : tie.Need-least-requires Inv-loop μ-loop
-least-requires c κs = search needs
-
 loop-holds : tie.Need-loop-holds Inv-loop μ-loop
 loop-holds c = writing-none _ _
 
-mul-word-at : tie.Need-mul-word-at Inv-loop μ-loop
-mul-word-at c = omega arith
-
-word-at-requires : tie.Need-word-at-requires Inv-loop μ-loop
-word-at-requires c κs = search needs
-
-mul-ticks : tie.Need-mul-ticks Inv-loop μ-loop
-mul-ticks c = omega arith
-
 slice-write-ticks : tie.Need-slice-write-ticks Inv-loop μ-loop
 slice-write-ticks c = omega (arith, c .before .before .loop .inv .long)
-
-add-i : tie.Need-add-i Inv-loop μ-loop
-add-i c = omega arith
-
-loop-less : tie.Need-loop-less Inv-loop μ-loop
-loop-less c = omega arith
 
 loop-again : tie.Need-loop-again Inv-loop μ-loop
 loop-again c = let q = c .before .before .before .least .ensures in
@@ -54,14 +36,14 @@ fill-ticks-spec =
     (tie.spec
     Inv-loop
     μ-loop
-    least-requires
+    (λ c κs. search needs)
     loop-holds
-    mul-word-at
-    word-at-requires
-    mul-ticks
+    (λ c. omega arith)
+    (λ c κs. search needs)
+    (λ c. omega arith)
     slice-write-ticks
-    add-i
-    loop-less
+    (λ c. omega arith)
+    (λ c. omega arith)
     loop-again
     same-length
     returns)

@@ -7,26 +7,8 @@ use borrow.Author.Needs.{needs}
 use Rattle.requests.proofs.request.read_called.Statement.{statement}
 use Rattle.requests.proofs.request.read_called.Tie as tie
 
-size-requires : tie.Need-size-requires
-size-requires c κs = search needs
-
-left-requires : tie.Need-left-requires
-left-requires c κs = search needs
-
 returns : tie.Need-returns
 returns c = (sym (called-none _ _ _ _ (c .before .before .size .ensures) (c .before .left .ensures) (c .if1 .taken)), omega arith)
-
-add-read-body : tie.Need-add-read-body
-add-read-body c = search needs
-
-read-body-requires : tie.Need-read-body-requires
-read-body-requires c κs = search needs
-
-enum-known-c : tie.Need-enum-known-c
-enum-known-c c = search needs
-
-enum-known-c-2 : tie.Need-enum-known-c-2
-enum-known-c-2 c = search needs
 
 returns-2 : tie.Need-returns-2
 returns-2 c = let k = c .before .before .before in
@@ -40,12 +22,12 @@ pub read-called-spec : {M : Type 1} → statement M
 read-called-spec =
     tie.close
     (tie.spec
-    size-requires
-    left-requires
+    (λ c κs. search needs)
+    (λ c κs. search needs)
     returns
-    add-read-body
-    read-body-requires
-    enum-known-c
-    enum-known-c-2
+    (λ c. search needs)
+    (λ c κs. search needs)
+    (λ c. search needs)
+    (λ c. search needs)
     returns-2
     returns-3)

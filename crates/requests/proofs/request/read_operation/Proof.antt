@@ -6,33 +6,6 @@ use borrow.Author.Needs.{needs}
 use Rattle.requests.proofs.request.read_operation.Statement.{statement}
 use Rattle.requests.proofs.request.read_operation.Tie as tie
 
-read-lent-requires : tie.Need-read-lent-requires
-read-lent-requires c κs = search needs
-
-read-called-requires : tie.Need-read-called-requires
-read-called-requires c κs = search needs
-
-read-called-requires-2 : tie.Need-read-called-requires-2
-read-called-requires-2 c κs = search needs
-
-read-called-requires-3 : tie.Need-read-called-requires-3
-read-called-requires-3 c κs = search needs
-
-read-called-requires-4 : tie.Need-read-called-requires-4
-read-called-requires-4 c κs = search needs
-
-read-run-requires : tie.Need-read-run-requires
-read-run-requires c κs = search needs
-
-read-longest-requires : tie.Need-read-longest-requires
-read-longest-requires c κs = search needs
-
-read-longest-requires-2 : tie.Need-read-longest-requires-2
-read-longest-requires-2 c κs = search needs
-
-read-window-requires : tie.Need-read-window-requires
-read-window-requires c κs = search needs
-
 returns : tie.Need-returns
 unfolding operation operations yield
 returns c = (rw (c .match .keys1), omega arith)
@@ -91,15 +64,15 @@ pub read-operation-spec : {M : Type 1} → statement M
 read-operation-spec =
     tie.close
     (tie.spec
-    read-lent-requires
-    read-called-requires
-    read-called-requires-2
-    read-called-requires-3
-    read-called-requires-4
-    read-run-requires
-    read-longest-requires
-    read-longest-requires-2
-    read-window-requires
+    (λ c κs. search needs)
+    (λ c κs. search needs)
+    (λ c κs. search needs)
+    (λ c κs. search needs)
+    (λ c κs. search needs)
+    (λ c κs. search needs)
+    (λ c κs. search needs)
+    (λ c κs. search needs)
+    (λ c κs. search needs)
     returns
     returns-2
     returns-3

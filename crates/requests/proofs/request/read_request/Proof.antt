@@ -11,33 +11,9 @@ use borrow.Author.Needs.{needs}
 use Rattle.requests.proofs.request.read_request.Statement.{statement}
 use Rattle.requests.proofs.request.read_request.Tie as tie
 
-read-below-requires : tie.Need-read-below-requires
-read-below-requires c κs = search needs
-
-enum-known-b : tie.Need-enum-known-b
-enum-known-b c = search needs
-
-enum-told : tie.Need-enum-told
-enum-told c = search needs
-
-byte-fault-requires : tie.Need-byte-fault-requires
-byte-fault-requires c κs = search needs
-
 returns : tie.Need-returns
 unfolding request
 returns c = (ap (λ f. fault (faultOf f)) (c .byte-fault .ensures ∙ ap byteFault (c .before .enum-told .given .1)) ∙ sym (bind-fault _ _ _ (answered (byteOf _) (c .before .before .before .read-below .ensures .0) (c .before .enum-told .given .1))), (omega arith, tt))
-
-read-file-requires : tie.Need-read-file-requires
-read-file-requires c κs = search needs
-
-enum-known-f : tie.Need-enum-known-f
-enum-known-f c = search needs
-
-enum-told-2 : tie.Need-enum-told-2
-enum-told-2 c = search needs
-
-frame-fault-requires : tie.Need-frame-fault-requires
-frame-fault-requires c κs = search needs
 
 returns-2 : tie.Need-returns-2
 returns-2 c =
@@ -54,12 +30,6 @@ read-operation-requires c κs =
     let code = file .before .before in
     let kind = answered (byteOf _) (code .before .before .read-below .ensures .0) (code .b .given .1) in
     (frame-fits _ (file .read-file .ensures .1) (c .before .f .given .1) .1, ltb-true _ 12 (such-at byte _ _ kind .0))
-
-enum-known-o : tie.Need-enum-known-o
-enum-known-o c = search needs
-
-enum-known-o-2 : tie.Need-enum-known-o-2
-enum-known-o-2 c = search needs
 
 returns-3 : tie.Need-returns-3
 returns-3 c =
@@ -86,18 +56,18 @@ pub read-request-spec : {M : Type 1} → statement M
 read-request-spec =
     tie.close
     (tie.spec
-    read-below-requires
-    enum-known-b
-    enum-told
-    byte-fault-requires
+    (λ c κs. search needs)
+    (λ c. search needs)
+    (λ c. search needs)
+    (λ c κs. search needs)
     returns
-    read-file-requires
-    enum-known-f
-    enum-told-2
-    frame-fault-requires
+    (λ c κs. search needs)
+    (λ c. search needs)
+    (λ c. search needs)
+    (λ c κs. search needs)
     returns-2
     read-operation-requires
-    enum-known-o
-    enum-known-o-2
+    (λ c. search needs)
+    (λ c. search needs)
     returns-3
     returns-4)

@@ -7,15 +7,6 @@ use borrow.Author.Needs.{needs}
 use Rattle.requests.proofs.request.read_run.Statement.{statement}
 use Rattle.requests.proofs.request.read_run.Tie as tie
 
-skip-calls-requires : tie.Need-skip-calls-requires
-skip-calls-requires c κs = search needs
-
-enum-known-q : tie.Need-enum-known-q
-enum-known-q c = search needs
-
-enum-known-q-2 : tie.Need-enum-known-q-2
-enum-known-q-2 c = search needs
-
 returns : tie.Need-returns
 returns c = (sym (run-got _ (answered (reached _ tt) (c .before .before .before .skip-calls .ensures .0) (c .before .q .given .1))), omega (arith, ap reachedEnd (c .before .q .given .1), c .before .before .before .skip-calls .ensures .1))
 
@@ -24,4 +15,4 @@ returns-2 c = (sym (run-fault _ (answered (reached _ tt) (c .before .before .bef
 
 pub read-run-spec : {M : Type 1} → statement M
 read-run-spec =
-    tie.close (tie.spec skip-calls-requires enum-known-q enum-known-q-2 returns returns-2)
+    tie.close (tie.spec (λ c κs. search needs) (λ c. search needs) (λ c. search needs) returns returns-2)

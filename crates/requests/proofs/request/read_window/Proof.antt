@@ -8,15 +8,6 @@ use borrow.Author.Needs.{needs}
 use Rattle.requests.proofs.request.read_window.Statement.{statement}
 use Rattle.requests.proofs.request.read_window.Tie as tie
 
-read-word-requires : tie.Need-read-word-requires
-read-word-requires c κs = search needs
-
-enum-known-w : tie.Need-enum-known-w
-enum-known-w c = search needs
-
-enum-known-w-2 : tie.Need-enum-known-w-2
-enum-known-w-2 c = search needs
-
 returns : tie.Need-returns
 unfolding windowed yield
 returns c =
@@ -30,4 +21,4 @@ returns-2 c = (sym (bind-fault _ _ _ (answered (wordOf _) (c .before .before .be
 
 pub read-window-spec : {M : Type 1} → statement M
 read-window-spec =
-    tie.close (tie.spec read-word-requires enum-known-w enum-known-w-2 returns returns-2)
+    tie.close (tie.spec (λ c κs. search needs) (λ c. search needs) (λ c. search needs) returns returns-2)

@@ -3,18 +3,6 @@ use borrow.Author.Needs.{needs}
 use Rattle.tick_lines.proofs.input.after_tick.Statement.{statement}
 use Rattle.tick_lines.proofs.input.after_tick.Tie as tie
 
-enum-known-added : tie.Need-enum-known-added
-enum-known-added c = search needs
-
-next-line-requires : tie.Need-next-line-requires
-next-line-requires c κs = search needs
-
-enum-told : tie.Need-enum-told
-enum-told c = search needs
-
-enum-told-2 : tie.Need-enum-told-2
-enum-told-2 c = search needs
-
 returns : tie.Need-returns
 returns c = λ w ring ts A. let n = c .next-line .ensures in (rw (n .0) (added-next w ring ts A (c .before .before .added .given .1)), n .1)
 
@@ -28,10 +16,10 @@ pub after-tick-spec : {M : Type 1} → statement M
 after-tick-spec =
     tie.close
     (tie.spec
-    enum-known-added
-    next-line-requires
-    enum-told
-    enum-told-2
+    (λ c. search needs)
+    (λ c κs. search needs)
+    (λ c. search needs)
+    (λ c. search needs)
     returns
     returns-2
     returns-3)

@@ -26,31 +26,13 @@ loop-holds : tie.Need-loop-holds Inv-loop μ-loop
 unfolding bytesSaid
 loop-holds c = let a = c .before .before in (a .pre .0, refl, omega arith, a .pre .1, λ ts H. (H, refl))
 
-shared-slice-read-take-byte : tie.Need-shared-slice-read-take-byte Inv-loop μ-loop
-shared-slice-read-take-byte c = search needs
-
 take-byte-requires : tie.Need-take-byte-requires Inv-loop μ-loop
 take-byte-requires c κs = let i = c .before .before .before .loop .inv in (i .0, i .3)
-
-enum-known-r : tie.Need-enum-known-r Inv-loop μ-loop
-enum-known-r c = search needs
-
-enum-told : tie.Need-enum-told Inv-loop μ-loop
-enum-told c = search needs
-
-same-length : tie.Need-same-length Inv-loop μ-loop
-same-length c = search needs
 
 returns : tie.Need-returns Inv-loop μ-loop
 returns c = λ ts H.
     let l = c .before .before .before .before .before .before .before in
     taken-stopped _ _ _ _ (l .before .loop .i + 1) _ (read-next _ _ _ _ _ _ _ _ (l .loop-test .taken) (l .before .loop .inv .4 ts H) (c .before .before .before .before .take-byte .ensures)) (c .enum-told .given .1)
-
-add-i : tie.Need-add-i Inv-loop μ-loop
-add-i c = omega arith
-
-loop-less : tie.Need-loop-less Inv-loop μ-loop
-loop-less c = omega arith
 
 loop-again : tie.Need-loop-again Inv-loop μ-loop
 loop-again c =
@@ -76,9 +58,6 @@ loop-again c =
     in
     (i .0, search needs, omega arith, holds, next)
 
-same-length-2 : tie.Need-same-length-2 Inv-loop μ-loop
-same-length-2 c = search needs
-
 returns-2 : tie.Need-returns-2 Inv-loop μ-loop
 returns-2 c = λ ts H. taken-all _ _ _ _ _ _ (c .loop-test .left) (c .before .loop .inv .4 ts H)
 
@@ -89,14 +68,14 @@ take-bytes-spec =
     Inv-loop
     μ-loop
     loop-holds
-    shared-slice-read-take-byte
+    (λ c. search needs)
     take-byte-requires
-    enum-known-r
-    enum-told
-    same-length
+    (λ c. search needs)
+    (λ c. search needs)
+    (λ c. search needs)
     returns
-    add-i
-    loop-less
+    (λ c. omega arith)
+    (λ c. omega arith)
     loop-again
-    same-length-2
+    (λ c. search needs)
     returns-2)

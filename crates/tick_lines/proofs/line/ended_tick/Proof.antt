@@ -4,24 +4,6 @@ use borrow.Author.Needs.{needs}
 use Rattle.tick_lines.proofs.line.ended_tick.Statement.{statement}
 use Rattle.tick_lines.proofs.line.ended_tick.Tie as tie
 
-enum-told : tie.Need-enum-told
-enum-told c = search needs
-
-enum-known-line : tie.Need-enum-known-line
-enum-known-line c = search needs
-
-tick-of-requires : tie.Need-tick-of-requires
-tick-of-requires c κs = search needs
-
-enum-known-line-2 : tie.Need-enum-known-line-2
-enum-known-line-2 c = search needs
-
-tick-of-requires-2 : tie.Need-tick-of-requires-2
-tick-of-requires-2 c κs = search needs
-
-enum-told-2 : tie.Need-enum-told-2
-enum-told-2 c = search needs
-
 returns : tie.Need-returns
 returns c = ended-blank (c .enum-told .given .1)
 
@@ -38,12 +20,12 @@ pub ended-tick-spec : {M : Type 1} → statement M
 ended-tick-spec =
     tie.close
     (tie.spec
-    enum-told
-    enum-known-line
-    tick-of-requires
-    enum-known-line-2
-    tick-of-requires-2
-    enum-told-2
+    (λ c. search needs)
+    (λ c. search needs)
+    (λ c κs. search needs)
+    (λ c. search needs)
+    (λ c κs. search needs)
+    (λ c. search needs)
     returns
     returns-2
     returns-3

@@ -6,11 +6,8 @@ use Rattle.tick_lines.proofs.line.tick_of.Tie as tie
 returns : tie.Need-returns
 returns c = number-bad _ (c .if1 .taken)
 
-cast-t3 : tie.Need-cast-t3
-cast-t3 c = search needs
-
 returns-2 : tie.Need-returns-2
 returns-2 c = number-tick _ (c .if1 .left)
 
 pub tick-of-spec : {M : Type 1} → statement M
-tick-of-spec = tie.close (tie.spec returns cast-t3 returns-2)
+tick-of-spec = tie.close (tie.spec returns (λ c. search needs) returns-2)

@@ -6,50 +6,11 @@ use borrow.Author.Needs.{needs}
 use Rattle.tick_lines.proofs.line.with_byte.Statement.{statement}
 use Rattle.tick_lines.proofs.line.with_byte.Tie as tie
 
-enum-told : tie.Need-enum-told
-enum-told c = search needs
-
-is-digit-requires : tie.Need-is-digit-requires
-is-digit-requires c κs = search needs
-
-digit-value-requires : tie.Need-digit-value-requires
-digit-value-requires c κs = search needs
-
-with-digit-requires : tie.Need-with-digit-requires
-with-digit-requires c κs = search needs
-
 returns : tie.Need-returns
 returns c = ap Li.Digits (c .with-digit .ensures ∙ ap (withDigit 0) (c .before .digit-value .ensures)) ∙ blank-digit _ (c .before .before .before .before .enum-told .given .1) (sym (c .before .before .before .is-digit .ensures) ∙ c .before .before .if1 .taken)
 
-with-other-requires : tie.Need-with-other-requires
-with-other-requires c κs = search needs
-
-enum-known-line : tie.Need-enum-known-line
-enum-known-line c = search needs
-
-is-digit-requires-2 : tie.Need-is-digit-requires-2
-is-digit-requires-2 c κs = search needs
-
-digit-value-requires-2 : tie.Need-digit-value-requires-2
-digit-value-requires-2 c κs = search needs
-
-with-digit-requires-2 : tie.Need-with-digit-requires-2
-with-digit-requires-2 c κs = search needs
-
 returns-2 : tie.Need-returns-2
 returns-2 c = ap Li.Digits (c .with-digit2 .ensures ∙ ap (withDigit _) (c .before .digit-value2 .ensures)) ∙ digits-digit _ (c .before .before .before .before .before .line .given .1) (sym (c .before .before .before .is-digit2 .ensures) ∙ c .before .before .if2 .taken)
-
-with-other-requires-2 : tie.Need-with-other-requires-2
-with-other-requires-2 c κs = search needs
-
-enum-known-line-2 : tie.Need-enum-known-line-2
-enum-known-line-2 c = search needs
-
-with-other-requires-3 : tie.Need-with-other-requires-3
-with-other-requires-3 c κs = search needs
-
-enum-told-2 : tie.Need-enum-told-2
-enum-told-2 c = search needs
 
 returns-3 : tie.Need-returns-3
 returns-3 c = c .with-other .ensures ∙ blank-other _ (c .before .before .before .enum-told .given .1) (sym (c .before .before .is-digit .ensures) ∙ c .before .if1 .left)
@@ -67,21 +28,21 @@ pub with-byte-spec : {M : Type 1} → statement M
 with-byte-spec =
     tie.close
     (tie.spec
-    enum-told
-    is-digit-requires
-    digit-value-requires
-    with-digit-requires
+    (λ c. search needs)
+    (λ c κs. search needs)
+    (λ c κs. search needs)
+    (λ c κs. search needs)
     returns
-    with-other-requires
-    enum-known-line
-    is-digit-requires-2
-    digit-value-requires-2
-    with-digit-requires-2
+    (λ c κs. search needs)
+    (λ c. search needs)
+    (λ c κs. search needs)
+    (λ c κs. search needs)
+    (λ c κs. search needs)
     returns-2
-    with-other-requires-2
-    enum-known-line-2
-    with-other-requires-3
-    enum-told-2
+    (λ c κs. search needs)
+    (λ c. search needs)
+    (λ c κs. search needs)
+    (λ c. search needs)
     returns-3
     returns-4
     returns-5

@@ -4,9 +4,6 @@ use borrow.Author.Needs.{needs}
 use Rattle.tick_lines.proofs.line.with_other.Statement.{statement}
 use Rattle.tick_lines.proofs.line.with_other.Tie as tie
 
-is-space-requires : tie.Need-is-space-requires
-is-space-requires c κs = search needs
-
 returns : tie.Need-returns
 returns c = sym (cond-yes _ _ (sym (c .before .is-space .ensures) ∙ c .if1 .taken))
 
@@ -14,4 +11,4 @@ returns-2 : tie.Need-returns-2
 returns-2 c = sym (cond-no _ _ (sym (c .before .is-space .ensures) ∙ c .if1 .left))
 
 pub with-other-spec : {M : Type 1} → statement M
-with-other-spec = tie.close (tie.spec is-space-requires returns returns-2)
+with-other-spec = tie.close (tie.spec (λ c κs. search needs) returns returns-2)

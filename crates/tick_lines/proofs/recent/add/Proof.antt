@@ -7,17 +7,8 @@ use borrow.Author.Needs.{needs}
 use Rattle.tick_lines.proofs.recent.add.Statement.{statement}
 use Rattle.tick_lines.proofs.recent.add.Tie as tie
 
-put-requires : tie.Need-put-requires
-put-requires c κs = search needs
-
-same-length : tie.Need-same-length
-same-length c = search needs
-
 returns : tie.Need-returns
 returns c = λ ts H. let p = c .before .before .put .ensures in held-first _ ts _ H (p .0 ts (H .ticks)) (c .before .before .before .before .before .before .before .pre .0) (c .before .before .before .before .if1 .taken) (p .1 .0) (p .1 .1)
-
-place-of-requires : tie.Need-place-of-requires
-place-of-requires c κs = search needs
 
 mul-if2 : tie.Need-mul-if2
 mul-if2 c = omega (arith, last-inside (c .before .before .before .before .pre .1 .1) (c .before .if1 .left) (c .place-of .ensures))
@@ -28,23 +19,11 @@ slice-read-if2 c = omega (arith, last-inside (c .before .before .before .before 
 returns-2 : tie.Need-returns-2
 returns-2 c = λ ts H. let e = c .before .before .before .if1 .left in falls-end ts _ (held-some H e) (last-below H e (c .before .before .place-of .ensures) (c .if2 .taken))
 
-place-of-requires-2 : tie.Need-place-of-requires-2
-place-of-requires-2 c κs = search needs
-
 mul-start : tie.Need-mul-start
 mul-start c = omega (arith, start-inside (c .before .before .before .before .before .before .before .pre .1 .1) (c .before .before .before .before .if1 .left) (c .place-of2 .ensures))
 
 slice-read-start : tie.Need-slice-read-start
 slice-read-start c = omega (arith, start-inside (c .before .before .before .before .before .before .before .before .pre .1 .1) (c .before .before .before .before .before .if1 .left) (c .before .place-of2 .ensures), c .before .before .before .before .before .before .before .before .pre .1 .1 .ticks .room)
-
-in-window-requires : tie.Need-in-window-requires
-in-window-requires c κs = search needs
-
-put-requires-2 : tie.Need-put-requires-2
-put-requires-2 c κs = search needs
-
-same-length-2 : tie.Need-same-length-2
-same-length-2 c = search needs
 
 returns-3 : tie.Need-returns-3
 returns-3 c = λ ts H.
@@ -61,15 +40,6 @@ returns-4 c = λ ts H.
     let g = start-window H e _ (c .before .before .before .before .place-of2 .ensures) (sym (c .before .before .in-window .ensures) ∙ not-false _ (c .before .if3 .left)) in
     held-full _ ts _ H (held-some H e) l g (c .if4 .taken)
 
-add-put : tie.Need-add-put
-add-put c = search needs
-
-put-requires-3 : tie.Need-put-requires-3
-put-requires-3 c κs = search needs
-
-same-length-3 : tie.Need-same-length-3
-same-length-3 c = search needs
-
 returns-5 : tie.Need-returns-5
 returns-5 c = λ ts H.
     let e = c .before .before .before .before .before .before .before .before .before .before .before .before .if1 .left in
@@ -82,22 +52,22 @@ pub add-spec : {M : Type 1} → statement M
 add-spec =
     tie.close
     (tie.spec
-    put-requires
-    same-length
+    (λ c κs. search needs)
+    (λ c. search needs)
     returns
-    place-of-requires
+    (λ c κs. search needs)
     mul-if2
     slice-read-if2
     returns-2
-    place-of-requires-2
+    (λ c κs. search needs)
     mul-start
     slice-read-start
-    in-window-requires
-    put-requires-2
-    same-length-2
+    (λ c κs. search needs)
+    (λ c κs. search needs)
+    (λ c. search needs)
     returns-3
     returns-4
-    add-put
-    put-requires-3
-    same-length-3
+    (λ c. search needs)
+    (λ c κs. search needs)
+    (λ c. search needs)
     returns-5)

@@ -4,9 +4,6 @@ use borrow.Author.Needs.{needs}
 use Rattle.tick_lines.proofs.recent.next_place.Statement.{statement}
 use Rattle.tick_lines.proofs.recent.next_place.Tie as tie
 
-add-result : tie.Need-add-result
-add-result c = search needs
-
 returns : tie.Need-returns
 returns c = sym (next-low _ (c .if1 .taken))
 
@@ -14,4 +11,4 @@ returns-2 : tie.Need-returns-2
 returns-2 c = sym (next-high _ (c .if1 .left))
 
 pub next-place-spec : {M : Type 1} → statement M
-next-place-spec = tie.close (tie.spec add-result returns returns-2)
+next-place-spec = tie.close (tie.spec (λ c. search needs) returns returns-2)

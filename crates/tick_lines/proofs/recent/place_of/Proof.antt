@@ -7,14 +7,8 @@ use Rattle.tick_lines.proofs.recent.place_of.Tie as tie
 returns : tie.Need-returns
 returns c = sym (place-low _ _ (c .if1 .taken))
 
-add-result : tie.Need-add-result
-add-result c = search needs
-
-sub-result : tie.Need-sub-result
-sub-result c = search needs
-
 returns-2 : tie.Need-returns-2
 returns-2 c = sym (place-high _ _ (c .if1 .left))
 
 pub place-of-spec : {M : Type 1} → statement M
-place-of-spec = tie.close (tie.spec returns add-result sub-result returns-2)
+place-of-spec = tie.close (tie.spec returns (λ c. search needs) (λ c. search needs) returns-2)
