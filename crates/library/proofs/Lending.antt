@@ -11,11 +11,11 @@ use lib.Seq.{drop-cons}
 use Rattle.lists.specs.Lists.{all}
 use Rattle.lists.proofs.Lists.{getD-map}
 use Rattle.lists.proofs.Bools.{cond-yes, cond-no}
-use Rattle.reading.specs.Answer.{Answer, done, refused}
+use Rattle.reading.specs.Answer.{Answer, refused}
 use Rattle.reading.specs.Verdict.{verdictOf, verdictNumber, orKept}
 use Rattle.reading.specs.declared.verdict.Verdict.{Verdict}
 use Rattle.reading.specs.declared.verdict.Verdict.the-variants as Vd
-use Rattle.reading.proofs.Verdicts.{was-done, was-refused, verdict-done-at, verdict-refused-at}
+use Rattle.reading.proofs.Verdicts.{was-done, was-refused, verdict-done-at}
 use Rattle.clocks.specs.Longest.{Tells}
 use Rattle.chart_records.specs.Rules.{chartOf}
 use Rattle.chart_moves.specs.declared.configuration.Configuration.{Configuration}

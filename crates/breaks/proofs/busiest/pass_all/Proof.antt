@@ -1,4 +1,3 @@
-use Prim.Native.Nat.{_-_}
 use native.Mathlib.Omega.{arith}
 use borrow.Author.Tests.{not-true, not-false}
 use Rattle.breaks.proofs.Passes.{first-some, first-sought, passed-all, ordered-yes, ordered-no}

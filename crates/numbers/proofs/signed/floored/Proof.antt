@@ -4,7 +4,6 @@ use native.Mathlib.Omega.{arith}
 use native.Mathlib.Nat.{div-le-self}
 use Prim.Native.Nat.{_/_, _≤_, _<_, _^_}
 use mathlib.Core.Path.{_≡_, refl, _∙_, sym, ap}
-use lib.IntN.{negsuc}
 use lib.Signed.{mag}
 use mir.Syntax.{w64}
 use mir.Val.{toZ, ofZ}
