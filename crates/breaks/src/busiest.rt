@@ -1,5 +1,6 @@
 // The operation: the most breaks within so many consecutive ticks, and the first tick of the earliest window that has them and
-// begins at a break.
+// begins at a break. Two means make the pass quick: 32 ticks at a time (block.rt), and a count to begin with that some window has
+// (reached.rt), so that the window seldom grows. Only the time depends on them.
 ghost use mathlib.Core.Path.{_≡_};
 ghost use Prim.Native.Nat.{ℕ, _≤_};
 ghost use lib.ListN.{length};

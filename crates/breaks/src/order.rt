@@ -1,4 +1,5 @@
-// The order of the first ticks.
+// The order of the first ticks, which the window passes over: every tick is looked at for its order, also where the answer is
+// settled.
 ghost use Prim.Native.Nat.{_≤_};
 ghost use lib.ListN.{length};
 ghost use Rattle.break_windows.specs.Found.{Climbs};

@@ -1,4 +1,7 @@
-// Completion: the active composite states whose active basic states below are all marked with an exit.
+// Completion: the active composite states whose active basic states below are all marked with an exit. A state's exits are the
+// bits of a byte, so one pass gives the sets of all eight exits. It leaves out what is not active: where the active states are a
+// tree nothing is active below such a state, and it bars nothing (`completed-idle`). So the contract asks for a tree, and a step
+// makes the pass after 17.
 ghost use mathlib.Core.Path.{_≡_};
 ghost use mathlib.Core.Bool.{true, cond, not, _&&_};
 ghost use lib.Dec.{eqb};

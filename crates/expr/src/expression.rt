@@ -1,4 +1,6 @@
-// Expressions: prefix codes, read and evaluated from the front of a part of a record.
+// Expressions: prefix codes, read and evaluated from the front of a part of a record. The evaluator reads on after a value that
+// is none: the other side of a guard, or the next guard or update, begins after the expression. So it is held to `mapped` of the
+// reader, and the faults that it tells are the reader's.
 ghost use mathlib.Core.Path.{_≡_};
 ghost use Prim.Native.Nat.{_≤_, _<_};
 ghost use lib.IntN.{pos};

@@ -1,2 +1,2 @@
-// Expressions.
+// Expressions: read as a file is checked, and evaluated on variables.
 pub mod expression;

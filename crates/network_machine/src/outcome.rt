@@ -1,4 +1,4 @@
-// What a step or a wait answers.
+// What a start, a step or a wait answers.
 ghost use mathlib.Core.Path.{_≡_};
 ghost use Rattle.reading.specs.Answer.{refused};
 ghost use Rattle.reading.specs.Verdict.{verdictNumber};

@@ -65,7 +65,8 @@ pub fn is_divisor(d: u32) -> bool
     1 <= d && d < 2147483648
 }
 
-// The quotient rounded down. By what is no divisor it is 0.
+// The quotient rounded down. By what is no divisor it is 0. The magnitude is divided, which is n for n and for -(n + 1): of
+// -(n + 1) by d that gives -(n / d + 1), rounded down without a case.
 pub fn quotient(x: i32, d: u32) -> i32
     ensures { λ r. ⌜ r ≡ cond (isDivisor d) (floorDiv x d) (pos 0) ⌝ }
 {

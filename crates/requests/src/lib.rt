@@ -1,2 +1,2 @@
-// Requests to the machines in their binary form: a file, and what is asked of it.
+// Requests in their binary form: checks, flattening, calls of the machines, runs of both, weft breaks.
 pub mod request;
