@@ -13,7 +13,7 @@ use lib.Seq.{getD-set-same, getD-set-other}
 use Rattle.lists.specs.Lists.{has, all, implies}
 use Rattle.lists.proofs.Bools.{and-l, and-r, both, not-yes, implies-at, implies-by, same, cond-yes, cond-no}
 use Rattle.lists.proofs.Lists.{all-at, all-by, all-same, keep-same}
-use Rattle.lists.proofs.Bits.{has-and, has-zero, has-byte}
+use Rattle.lists.proofs.Bits.{has-and, has-zero, has-full}
 use Rattle.chart_records.specs.Chart.{Chart, states, parentOf, basic}
 use Rattle.chart_records.specs.Tree.{isChild, children}
 use Rattle.chart_tree.specs.Table.{Column}
@@ -52,7 +52,7 @@ module _ (c : Chart) (tree : Parents c) (σ : Configuration) where
   -- before the first state every row has all exits
   pub passed-none : (rows : List ℕ) (i : ℕ) → size c ≤ i → ((x : ℕ) → x < size c → getD rows x 0 ≡ 255) → PassedTo c σ i rows
   passed-none rows i h full x e k l =
-      ap (λ (y : ℕ). has y e) (full x k) ∙ has-byte e l
+      ap (λ (y : ℕ). has y e) (full x k) ∙ has-full 8 e l
       ∙ sym (both (implies-by (leb i x) _ (λ z. absurd (omega (arith, leb-true i x z)))) (completed-none i e x h))
 
   -- in the end the sets

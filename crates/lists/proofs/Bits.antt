@@ -82,10 +82,6 @@ has-full (suc n) (suc i) h =
     has-suc (2 ^ suc n - 1) i ∙ ap (λ (m : ℕ). has m i) (let z : (2 ^ suc n - 1) / 2 ≡ 2 ^ n - 1 = omega (arith, pow-suc 2 n, pow-pos n) in z)
     ∙ has-full n i (omega arith)
 
--- so a full byte each of eight
-pub has-byte : (i : ℕ) → i < 8 → has 255 i ≡ true
-has-byte i h = has-full 8 i h
-
 digit-and : (x y : ℕ) → x < 2 → y < 2 → eqb (Words.bitAnd x y) 1 ≡ (eqb x 1 && eqb y 1)
 digit-and zero zero h k = refl
 digit-and zero (suc zero) h k = refl
