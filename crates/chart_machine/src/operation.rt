@@ -240,7 +240,7 @@ pub fn start(file: &[u8]) -> Outcome
     };
     Outcome {
         verdict: Verdict::Done,
-        configuration: Configuration::start(f.tree),
+        configuration: Configuration::start(f),
     }
 }
 

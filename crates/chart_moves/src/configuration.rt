@@ -1,12 +1,12 @@
 // What the chart machine moves.
 ghost use mathlib.Core.Path.{_≡_};
-ghost use mathlib.Core.Bool.{true};
+ghost use mathlib.Core.List.{List};
+ghost use Prim.Native.Nat.{ℕ};
 ghost use Rattle.chart_records.specs.Chart.{Chart};
-ghost use Rattle.chart_records.specs.Rules.{parents, entryMarks};
-ghost use Rattle.chart_tree.specs.Table.{Tabled};
+ghost use Rattle.chart.specs.Ready.{Ready};
 ghost use Rattle.chart_moves.specs.Machine.{start};
+use chart::check::CheckedFile;
 use chart_tree::entry::start_active;
-use chart_tree::table::Tree;
 
 pub struct Configuration {
     pub active: [bool; Configuration::STATES],
@@ -21,12 +21,12 @@ impl Configuration {
 
     pub const CLOCKS: usize = 8;
 
-    // What entering the root by the main entry enters, all values 0.
-    pub fn start(tree: Tree) -> Configuration
-        ensures { λ r. ⌜ ((c : Chart) → Tabled c tree → parents c ≡ true → entryMarks c ≡ true → r ≡ start c) ⌝ }
+    // What entering the root by the main entry enters, all values 0; of a file that passed the check.
+    pub fn start(file: CheckedFile) -> Configuration
+        ensures { λ r. ⌜ ((rest : List ℕ) (c : Chart) → Ready rest (file .counts) (file .offsets) (file .tree) c → r ≡ start c) ⌝ }
     {
         Configuration {
-            active: start_active(tree),
+            active: start_active(file.tree),
             variables: [0; Self::VARIABLES],
             clocks: [0; Self::CLOCKS],
         }

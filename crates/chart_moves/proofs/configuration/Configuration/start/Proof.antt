@@ -5,12 +5,9 @@ use borrow.Author.Needs.{needs}
 use Rattle.chart_moves.proofs.configuration.Configuration.start.Statement.{statement}
 use Rattle.chart_moves.proofs.configuration.Configuration.start.Tie as tie
 
-start-active-requires : tie.Need-start-active-requires
-start-active-requires c κs = search needs
-
 returns : tie.Need-returns
 unfolding start
-returns c = λ k T r5 r8 j. record { active = c .start-active .ensures k T r5 r8 j; variables = replicate 16 (pos 0); clocks = replicate 8 0 }
+returns c = λ rest k R j. record { active = c .start-active .ensures k (R .tabled) (R .parents) (R .entry-marks) j; variables = replicate 16 (pos 0); clocks = replicate 8 0 }
 
 pub start-spec : {M : Type 1} → statement M
-start-spec = tie.close (tie.spec start-active-requires returns)
+start-spec = tie.close (tie.spec (λ c κs. search needs) returns)
