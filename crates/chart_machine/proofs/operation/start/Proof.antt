@@ -7,26 +7,11 @@ use borrow.Author.Needs.{needs}
 use Rattle.chart_machine.proofs.operation.start.Statement.{statement}
 use Rattle.chart_machine.proofs.operation.start.Tie as tie
 
-checked-requires : tie.Need-checked-requires
-checked-requires c κs = search needs
-
-enum-told : tie.Need-enum-told
-enum-told c = search needs
-
-enum-told-2 : tie.Need-enum-told-2
-enum-told-2 c = search needs
-
-zero-configuration-requires : tie.Need-zero-configuration-requires
-zero-configuration-requires c κs = search needs
-
 returns : tie.Need-returns
 unfolding outcomeOf
 returns c =
     let told = c .before .enum-told2 .given .1 in
     rw (c .zero-configuration .ensures, told, start-refused _ (was-refused (chartOf _) (c .before .before .before .checked .ensures .0) told))
-
-start-requires : tie.Need-start-requires
-start-requires c κs = search needs
 
 returns-2 : tie.Need-returns-2
 unfolding outcomeOf
@@ -38,10 +23,10 @@ pub start-spec : {M : Type 1} → statement M
 start-spec =
     tie.close
     (tie.spec
-    checked-requires
-    enum-told
-    enum-told-2
-    zero-configuration-requires
+    (λ c κs. search needs)
+    (λ c. search needs)
+    (λ c. search needs)
+    (λ c κs. search needs)
     returns
-    start-requires
+    (λ c κs. search needs)
     returns-2)
