@@ -1,5 +1,5 @@
 //! The proved implementation, called through its C functions: those of `crates/library`, and for
-//! networks also those that a board calls, `crates/network_machine`.
+//! networks also those that a board calls, `crates/network_in_place`.
 //!
 //! A function answers 0, or the number of the refusal, and then leaves what was lent as it was. What is
 //! lent only to be read is passed by a pointer too, and where it is tested that it stays as it is, not
