@@ -11,7 +11,6 @@ use reading::field::ByteRead;
 use reading::field::Frame;
 use reading::field::Reached;
 use reading::field::ShortRead;
-use reading::field::WordRead;
 
 // The content of a state's record.
 fn read_state(s: &[u8], at: usize, counts: Counts) -> Reached

@@ -11,7 +11,7 @@ ghost use Rattle.numbers.specs.Integer.{signed};
 ghost use Rattle.numbers.specs.Value.{divided};
 ghost use Rattle.expr.specs.Expression.{divisor, expression, value};
 ghost use Rattle.expr.specs.Evaluation.{valueOf, valueEnd, valueFault};
-ghost use Rattle.reading.specs.Places.{onward, byteOf, byteEnd, wordOf, wordEnd, reached, reachedEnd, byteReached, wordReached};
+ghost use Rattle.reading.specs.Places.{onward, wordOf, wordEnd, reached, reachedEnd, byteReached, wordReached};
 use numbers::signed::is_divisor;
 use numbers::signed::signed;
 use numbers::value::Value;

@@ -8,7 +8,7 @@ ghost use Rattle.lists.specs.Lists.{has};
 ghost use Rattle.chart_records.specs.Chart.{Chart};
 ghost use Rattle.chart_records.specs.Tree.{under, entered};
 ghost use Rattle.chart_tree.specs.Table.{Rooted};
-ghost use Rattle.flattening.specs.Flatten.{Place, idle, child, signalling, ownEdge};
+ghost use Rattle.flattening.specs.Flatten.{Place, signalling, ownEdge};
 ghost use Rattle.flatten_edges.specs.Adding.{Adds};
 ghost use Rattle.flatten_edges.specs.Ends.{Joins};
 ghost use Rattle.flatten_edges.specs.Hearing.{Entering, HearsEntries, HearsExits, entryEdges, exitEdges};

@@ -9,7 +9,7 @@ ghost use Rattle.reading.specs.Reading.{byte, byte2, such, mapped};
 ghost use Rattle.reading.specs.Places.{onward, byteOf, shortOf, reached};
 ghost use Rattle.expr.specs.Evaluation.{valueOf};
 ghost use Rattle.expr.specs.Expression.{expression, value};
-ghost use Rattle.updates.specs.Update.{opens, advanced, form, ofForm, update, formOf, writes, advance, stays, updated};
+ghost use Rattle.updates.specs.Update.{opens, advanced, form, update, formOf, writes, advance, stays, updated};
 ghost use Rattle.updates.specs.Forms.{formRead, formFault, Noted};
 ghost use lib.Dec.{leb};
 use expr::expression;
