@@ -1,7 +1,7 @@
 //! Requests answered by this implementation and by the proved one, those on networks by both sets
 //! of its functions. The first on which they differ stops the program.
 
-use std::collections::BTreeMap;
+use std::collections::{BTreeMap, BTreeSet};
 use std::fmt;
 
 use crate::coverage::features::operation_name;
@@ -189,7 +189,9 @@ fn with_file(request: &Request, other: Vec<u8>) -> Request {
 impl fmt::Display for Agreed {
     fn fmt(&self, formatter: &mut fmt::Formatter) -> fmt::Result {
         writeln!(formatter, "{:<20}{:>12}{:>12}", "operation", "accepted", "refused")?;
-        for (name, accepted) in &self.accepted {
+        let names: BTreeSet<_> = self.accepted.keys().chain(self.refused.keys()).collect();
+        for name in names {
+            let accepted = self.accepted.get(name).unwrap_or(&0);
             let refused = self.refused.get(name).unwrap_or(&0);
             writeln!(formatter, "{name:<20}{accepted:>12}{refused:>12}")?;
         }
