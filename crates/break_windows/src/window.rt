@@ -3,7 +3,7 @@ ghost use Rattle.std.specs.Prelude.{◌≡◌};
 ghost use Rattle.break_windows.specs.Breaks.{in_window};
 
 // The most breaks in a window, and the first tick of the earliest window that has so many and begins at a break.
-#[derive(Drop)]
+#[derive(Clone, Copy)]
 pub struct Best {
     pub count: usize,
     pub first: u32,

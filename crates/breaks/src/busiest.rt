@@ -14,7 +14,7 @@ use crate::pass::{Passed, pass};
 use crate::reached::reached;
 use break_windows::window::Best;
 
-#[derive(Drop)]
+#[derive(Clone, Copy)]
 pub enum Counted {
     Breaks(Best),
     Refused(u8),

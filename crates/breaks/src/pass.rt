@@ -8,7 +8,7 @@ ghost use Rattle.breaks.specs.Passes.{PassedTo};
 use break_windows::window::{Best, in_window};
 
 // What a pass found, or that a tick is smaller than the one before it.
-#[derive(Drop)]
+#[derive(Clone, Copy)]
 pub enum Passed {
     To(Best),
     Falls,

@@ -64,7 +64,7 @@ fn rules_checked(rest: &[u8], counts: Counts, offsets: &[u32], passed: bool, tre
 }
 
 // The verdict on a file, and what the machine uses of one that passes.
-#[derive(Drop)]
+#[derive(Clone, Copy)]
 pub struct CheckedFile {
     pub verdict: Verdict,
     pub counts: Counts,

@@ -12,7 +12,7 @@ use labels::label::LabelRead;
 use reading::field::{ByteRead, Fault, Frame, Reached};
 
 // Where a transition ends, and whether its label keeps rule 13.
-#[derive(Drop)]
+#[derive(Clone, Copy)]
 pub struct TransitionRead {
     pub reached: Reached,
     pub once: bool,
@@ -85,7 +85,7 @@ fn transition_at(s: &[u8], at: usize, counts: Counts) -> TransitionRead
 }
 
 // The transitions are read: whether all keep rule 13, and where their records stand.
-#[derive(Drop)]
+#[derive(Clone, Copy)]
 pub struct TransitionsRead {
     pub reached: Reached,
     pub once: bool,

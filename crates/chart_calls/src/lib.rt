@@ -1,4 +1,6 @@
 // The calls of a script on a chart, for the programs that run one.
+#![tactic(auto)]
+
 ghost use Rattle.std.specs.Prelude.{◌≡◌};
 ghost use Rattle.chart_machine.specs.Outcomes.{zero_configuration};
 ghost use Rattle.chart_calls.specs.Calls.{answer_to};

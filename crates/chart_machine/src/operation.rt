@@ -26,7 +26,7 @@ use reading::verdict::{Verdict, number_of};
 use steps::step::last_tests;
 
 // What became of a call, and the configuration after it: the next one, or the one given where the call is refused.
-#[derive(Drop)]
+#[derive(Clone, Copy)]
 pub struct Outcome {
     pub verdict: Verdict,
     pub configuration: Configuration,

@@ -7,7 +7,7 @@ ghost use Rattle.chart_moves.specs.Machine.{start};
 use chart::check::CheckedFile;
 use chart_tree::entry::start_active;
 
-#[derive(Drop)]
+#[derive(Clone, Copy)]
 pub struct Configuration {
     pub active: [bool; Configuration::STATES],
     pub variables: [i32; Configuration::VARIABLES],

@@ -12,7 +12,7 @@ use chart_tree::table::Tree;
 use lists::number::least;
 
 // Of each transition of a step its source, destination and entry.
-#[derive(Drop)]
+#[derive(Clone, Copy)]
 pub struct Moves {
     pub sources: [u8; Moves::COUNT],
     pub destinations: [u8; Moves::COUNT],

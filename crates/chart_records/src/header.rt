@@ -4,7 +4,7 @@ ghost use Rattle.reading.specs.Answer.{done};
 ghost use Rattle.chart_records.specs.Chart.{headed, counts_at, in_range, counts_of};
 ghost use Rattle.chart_records.specs.Headers.{header_of};
 
-#[derive(Drop)]
+#[derive(Clone, Copy)]
 pub struct Counts {
     pub version: u8,
     pub states: u8,
@@ -18,7 +18,7 @@ pub struct Counts {
 }
 
 // The counts, or the number of the refusal.
-#[derive(Drop)]
+#[derive(Clone, Copy)]
 pub enum HeaderRead {
     Counts(Counts),
     Refused(u8),

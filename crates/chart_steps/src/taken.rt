@@ -84,7 +84,7 @@ fn clocks_after(rest: &[u8], offsets: &[u32], list: &[u16], clocks: [u32; 8]) ->
 }
 
 // The configuration after some transitions, and whether their updates stayed in the range.
-#[derive(Drop)]
+#[derive(Clone, Copy)]
 pub struct Next {
     pub configuration: Configuration,
     pub within: bool,

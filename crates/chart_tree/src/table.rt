@@ -7,7 +7,7 @@ ghost use Rattle.chart_tree.specs.Table.{Begun, Rooted};
 use reading::field::byte_at;
 
 // The parent, kind, entry marks and exit marks of each state; past the states 255, 0, 0, 0.
-#[derive(Drop)]
+#[derive(Clone, Copy)]
 pub struct Tree {
     pub parents: [u8; Tree::STATES],
     pub kinds: [u8; Tree::STATES],

@@ -1,4 +1,6 @@
 // Checks the chart on standard input: it passes, or the number of the refusal and its sentence.
+#![tactic(auto)]
+
 use reading::verdict::Verdict;
 
 fn verdict(file: &[u8]) {

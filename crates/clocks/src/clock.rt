@@ -9,14 +9,14 @@ use crate::left::{is_kept, ticks_left};
 use reading::field::{Fault, Reached, WordRead, read_word, word_fault};
 
 // Clocks after a delay, and whether they are within the limit.
-#[derive(Drop)]
+#[derive(Clone, Copy)]
 pub struct Delayed {
     pub within: bool,
     pub clocks: [u32; 8],
 }
 
 // A row of bounds that is read.
-#[derive(Drop)]
+#[derive(Clone, Copy)]
 pub struct RowRead {
     pub reached: Reached,
     pub row: [u32; 8],

@@ -11,14 +11,14 @@ ghost use Rattle.clocks.specs.Longest.{told, Tells};
 use crate::clock::{keeps, least};
 
 // The ticks left before a clock passes its bound or the limit, or that the bound is broken.
-#[derive(Drop)]
+#[derive(Clone, Copy)]
 pub enum Left {
     Ticks(u32),
     Broken,
 }
 
 // The longest wait of a configuration, or the number of the refusal.
-#[derive(Drop)]
+#[derive(Clone, Copy)]
 pub enum Longest {
     Ticks(u32),
     Refused(u8),

@@ -1,4 +1,6 @@
 // What the programs for people share: printing, the sentences of the refusals, scripts of calls, files.
+#![tactic(auto)]
+
 pub mod file;
 pub mod print;
 pub mod script;

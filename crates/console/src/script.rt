@@ -7,7 +7,7 @@ ghost use Rattle.console.specs.Places.{place_of, ends_run, with_digit, with_numb
 use crate::print;
 use reading::field::byte_at;
 
-#[derive(Drop)]
+#[derive(Clone, Copy)]
 pub enum Call {
     Nothing,
     Start,
@@ -19,7 +19,7 @@ pub enum Call {
 }
 
 // A call, with the numbers of a step. More than sixteen numbers are kept as seventeen, which no machine takes.
-#[derive(Drop)]
+#[derive(Clone, Copy)]
 pub struct Line {
     pub call: Call,
     pub list: [u16; 17],
@@ -69,7 +69,7 @@ fn run_end(s: &[u8], at: usize, spaces: bool) -> usize
 }
 
 // Where a word begins and ends.
-#[derive(Drop)]
+#[derive(Clone, Copy)]
 pub enum Word {
     Part(usize, usize),
     None,
@@ -89,7 +89,7 @@ fn next_word(s: &[u8], at: usize) -> Word
     }
 }
 
-#[derive(Drop)]
+#[derive(Clone, Copy)]
 pub enum NumberRead {
     Value(u32),
     Bad,

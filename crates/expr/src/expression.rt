@@ -19,7 +19,7 @@ use reading::field::{
 pub const LEVELS: u8 = 8;
 
 // The value of an expression and the next place, or the fault.
-#[derive(Drop)]
+#[derive(Clone, Copy)]
 pub enum ValueRead {
     Value(Value, usize),
     Fault(Fault),

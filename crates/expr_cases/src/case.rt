@@ -1,6 +1,6 @@
 // A case as it is read from left to right: a name and a colon, the word of an operation, and its numbers, which are kept
 // as numbers of one, two and four bytes.
-#[derive(Drop)]
+#[derive(Clone, Copy)]
 pub struct Case {
     // Whether the name is over, and the first letter of the operation, 0 before it.
     pub named: bool,

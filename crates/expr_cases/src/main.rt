@@ -1,6 +1,8 @@
 // Worked cases of expressions, guards, updates, labels, clocks and sets of moves, a line each: a name, the operation
 // and its numbers. The answer has the name and what the operation gives. S4, S6, S7, S8 and S10 are the samples of the
 // paper that these functions decide.
+#![tactic(auto)]
+
 mod case;
 mod expressions;
 mod moves;

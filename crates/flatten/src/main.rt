@@ -1,4 +1,6 @@
 // Flattens the chart on standard input: writes the bytes of its network, or the number of the refusal and a line feed.
+#![tactic(auto)]
+
 use flattener::operation::Flattened;
 
 fn write_refusal(k: u8) {

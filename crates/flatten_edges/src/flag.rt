@@ -13,7 +13,7 @@ use lists::mark::has;
 use reading::field::byte_at;
 
 // The numbers of the two places of an edge, the flags that it writes and their values.
-#[derive(Drop)]
+#[derive(Clone, Copy)]
 pub struct Ends {
     pub source: u8,
     pub target: u8,
@@ -22,7 +22,7 @@ pub struct Ends {
 }
 
 // What a label has before its body.
-#[derive(Drop)]
+#[derive(Clone, Copy)]
 pub struct Signals {
     pub signal: u8,
     pub channel: u8,

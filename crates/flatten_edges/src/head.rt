@@ -7,7 +7,7 @@ ghost use Rattle.flatten_edges.specs.Gathering.{head_of, head_bytes};
 ghost use Rattle.flatten_edges.specs.Adding.{Adds};
 
 // The fields of an edge's record, up to the body of its label.
-#[derive(Drop)]
+#[derive(Clone, Copy)]
 pub struct Head {
     pub source: u8,
     pub target: u8,

@@ -15,7 +15,7 @@ use flatten_places::transition::Transitions;
 use flatten_places::walk::{Tables, of_transition};
 
 // The transitions from a state, ascending.
-#[derive(Drop)]
+#[derive(Clone, Copy)]
 pub struct Sources {
     pub items: [u8; Transitions::COUNT],
     pub count: u8,

@@ -10,7 +10,7 @@ use chart_tree::table::Tree;
 use reading::field::byte_at;
 
 // The sequential state of each automaton, and the automaton of each sequential state (255 of any other state).
-#[derive(Drop)]
+#[derive(Clone, Copy)]
 pub struct Automata {
     pub states: [u8; Automata::COUNT],
     pub numbers: [u8; 48],

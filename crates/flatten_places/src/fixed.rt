@@ -11,7 +11,7 @@ use chart_tree::table::Tree;
 
 // Of each state its kind, where that of a plain state is that of a basic one, and the exits that it is at, as bits: for
 // a basic or plain state those that all basic states at or below it are marked with, for any other none.
-#[derive(Drop)]
+#[derive(Clone, Copy)]
 pub struct Fixed {
     pub kinds: [u8; 48],
     pub exits: [u8; 48],

@@ -1,4 +1,6 @@
 // The places of a chart to be flattened: its fixed states, automata, pairs and transitions, as tables.
+#![tactic(auto)]
+
 pub mod automaton;
 pub mod below;
 pub mod fixed;

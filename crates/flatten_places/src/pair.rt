@@ -10,7 +10,7 @@ use crate::transition::Transitions;
 use chart_tree::table::marks_at;
 use reading::field::byte_at;
 
-#[derive(Drop)]
+#[derive(Clone, Copy)]
 pub struct Pairs {
     pub states: [u8; Pairs::COUNT],
     pub marks: [u8; Pairs::COUNT],

@@ -16,7 +16,7 @@ use reading::field::byte_at;
 
 // Of each place its kind, the state or transition that it stands for, the entry before which it is, its automaton, and
 // the exits that it is at, as bits.
-#[derive(Drop)]
+#[derive(Clone, Copy)]
 pub struct Places {
     pub kinds: [u8; Places::COUNT],
     pub values: [u8; Places::COUNT],
@@ -39,7 +39,7 @@ impl Places {
 }
 
 // The same of one place.
-#[derive(Drop)]
+#[derive(Clone, Copy)]
 struct Row {
     kind: u8,
     value: u8,

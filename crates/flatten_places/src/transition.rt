@@ -8,7 +8,7 @@ use chart_records::header::Counts;
 use chart_records::transition::{destination_of, entry_of, exit_of, source_of};
 
 // Of each transition its source, destination, exit and entry.
-#[derive(Drop)]
+#[derive(Clone, Copy)]
 pub struct Transitions {
     pub sources: [u8; Transitions::COUNT],
     pub destinations: [u8; Transitions::COUNT],

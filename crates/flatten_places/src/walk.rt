@@ -12,7 +12,7 @@ use reading::field::byte_at;
 // a child's place, and the exits that basic states at or below it are marked with; of each transition the numbers of the
 // places where it departs to and arrives; of each automaton the numbers of its idle and its initial place; how many
 // channels the chart has.
-#[derive(Drop)]
+#[derive(Clone, Copy)]
 pub struct Tables {
     pub tree: Tree,
     pub fixed: Fixed,

@@ -7,7 +7,7 @@ use flatten_places::transition::Transitions;
 
 // The counts and states of the chart, which of these are fixed, its transitions and places, the number of each automaton's
 // initial place, and how many automata and broadcast channels the network has.
-#[derive(Drop)]
+#[derive(Clone, Copy)]
 pub struct Summary {
     pub counts: Counts,
     pub tree: Tree,

@@ -26,7 +26,7 @@ use flatten_tables::tabulate::{summary_of, tables_of};
 use reading::verdict::Verdict;
 
 // The network's length in bytes, or the number of the refusal.
-#[derive(Drop)]
+#[derive(Clone, Copy)]
 pub enum Flattened {
     Length(usize),
     Refused(u8),

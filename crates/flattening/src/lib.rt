@@ -1,1 +1,3 @@
 // Flattening as the paper fixes it: definitions and their laws alone, no function.
+#![tactic(auto)]
+

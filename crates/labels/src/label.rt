@@ -82,7 +82,7 @@ fn all_hold(
 }
 
 // The variables after some updates, and whether these stayed in the range.
-#[derive(Drop)]
+#[derive(Clone, Copy)]
 pub struct NewValues {
     pub values: [i32; 16],
     pub within: bool,
@@ -192,7 +192,7 @@ fn read_channel(s: &[u8], at: usize, channels: u8, signal: u8) -> ByteRead
 }
 
 // What is kept of a label that was read: its first fields, where its body stands, and whether it keeps rule 13.
-#[derive(Drop)]
+#[derive(Clone, Copy)]
 pub struct Label {
     pub signal: u8,
     pub channel: u8,
@@ -201,7 +201,7 @@ pub struct Label {
     pub once: bool,
 }
 
-#[derive(Drop)]
+#[derive(Clone, Copy)]
 pub enum LabelRead {
     Label(Label, usize),
     Fault(Fault),

@@ -1,3 +1,5 @@
 // Guards, and the labels of transitions and edges that hold them.
+#![tactic(auto)]
+
 pub mod guard;
 pub mod label;

@@ -17,7 +17,7 @@ use network_records::location::read_locations;
 use reading::field::{Fault, Reached};
 
 // The counts of a file that is right, or the number of the refusal.
-#[derive(Drop)]
+#[derive(Clone, Copy)]
 pub enum Finding {
     Counts(Counts),
     Refused(u8),

@@ -11,7 +11,7 @@ use network_records::header::Counts;
 use reading::field::{Reached, TestRead, test_fault};
 
 // What a pass over all edges finds: where it ends, and whether all keep rule 13.
-#[derive(Drop)]
+#[derive(Clone, Copy)]
 pub struct EdgesRead {
     pub reached: Reached,
     pub once: bool,

@@ -1,4 +1,6 @@
 // The calls of a script on a network, for the programs that run one.
+#![tactic(auto)]
+
 ghost use Rattle.std.specs.Prelude.{◌≡◌};
 ghost use Rattle.network_machine.specs.Answers.{zero_configuration};
 ghost use Rattle.network_calls.specs.Calls.{answer_to};

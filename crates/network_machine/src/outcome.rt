@@ -9,7 +9,7 @@ use network_moves::configuration::Configuration;
 use reading::verdict::Verdict;
 
 // What became of a call, and the configuration after it.
-#[derive(Drop)]
+#[derive(Clone, Copy)]
 pub struct Outcome {
     pub verdict: Verdict,
     pub configuration: Configuration,

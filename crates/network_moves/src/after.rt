@@ -65,7 +65,7 @@ fn assigned_by(rest: &[u8], counts: Counts, e: Edge, old: [i32; 16], new: [i32; 
 }
 
 // The configuration after some edges, and whether their updates stayed in the range.
-#[derive(Drop)]
+#[derive(Clone, Copy)]
 pub struct Next {
     pub configuration: Configuration,
     pub within: bool,

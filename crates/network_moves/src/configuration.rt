@@ -13,7 +13,7 @@ use network_records::header::Counts;
 use network_records::location::{automaton_of, is_urgent, keeps_bounds, left_under};
 
 #[repr(C)]
-#[derive(Drop)]
+#[derive(Clone, Copy)]
 pub struct Configuration {
     pub locations: [u8; Configuration::AUTOMATA],
     pub flags: [u8; Configuration::AUTOMATA],

@@ -13,7 +13,7 @@ use labels::label::LabelRead;
 use reading::field::{ByteRead, Fault, Frame, ShortRead, TestRead, byte_at, short_at};
 
 // The fields of an edge, and where the body of its label stands.
-#[derive(Drop)]
+#[derive(Clone, Copy)]
 pub struct Edge {
     pub source: u8,
     pub target: u8,

@@ -3,7 +3,7 @@ ghost use Rattle.std.specs.Prelude.{◌≡◌};
 ghost use Rattle.network_records.specs.Network.{in_range, headed, counts_at, counts_of};
 ghost use Rattle.network_records.specs.Headers.{header_of, HeaderFits};
 
-#[derive(Drop)]
+#[derive(Clone, Copy)]
 pub struct Counts {
     pub version: u8,
     pub automata: u8,
@@ -15,7 +15,7 @@ pub struct Counts {
     pub broadcasts: u8,
 }
 
-#[derive(Drop)]
+#[derive(Clone, Copy)]
 pub enum HeaderRead {
     Counts(Counts),
     Refused,

@@ -6,7 +6,7 @@ ghost use Rattle.numbers.specs.Value.{exactly, of_one, combined, divided, is_num
 
 use crate::signed::{compare, floored, magnitude, quotient, remainder, total};
 
-#[derive(Drop)]
+#[derive(Clone, Copy)]
 pub enum Value {
     Number(i32),
     None,

@@ -12,7 +12,7 @@ use lists::number::least;
 use network::bearing::transitions_of;
 
 // Transitions, ascending: the first `count` of the list.
-#[derive(Drop)]
+#[derive(Clone, Copy)]
 pub struct Transitions {
     pub list: [u16; 16],
     pub count: usize,

@@ -17,7 +17,7 @@ use crate::owe::named;
 use reading::verdict::Verdict;
 
 // Both machines, and how many urgent moves are owed.
-#[derive(Drop)]
+#[derive(Clone, Copy)]
 pub struct Run {
     pub network: network_moves::configuration::Configuration,
     pub chart: chart_moves::configuration::Configuration,
@@ -25,7 +25,7 @@ pub struct Run {
 }
 
 // The call of the chart that is read from one of the network.
-#[derive(Drop)]
+#[derive(Clone, Copy)]
 pub enum Reading {
     Nothing,
     Step,
@@ -34,7 +34,7 @@ pub enum Reading {
 
 // What follows a call of the network: its verdict, the call that is read and the chart's verdict on it, and the run. A
 // step is read with the transitions that the move carries.
-#[derive(Drop)]
+#[derive(Clone, Copy)]
 pub struct Followed {
     pub verdict: Verdict,
     pub reading: Reading,

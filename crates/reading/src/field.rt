@@ -10,47 +10,47 @@ ghost use Rattle.reading.specs.Places.{FrameFits, wholly, byte_fault, short_faul
 ghost use Rattle.reading.specs.Places.{reached_fault};
 
 // What a file can have wrong: a length, or a field out of its range.
-#[derive(Drop)]
+#[derive(Clone, Copy)]
 pub enum Fault {
     Length,
     Range,
 }
 
 // A value and the next place, or the fault.
-#[derive(Drop)]
+#[derive(Clone, Copy)]
 pub enum ByteRead {
     Value(u8, usize),
     Fault(Fault),
 }
 
-#[derive(Drop)]
+#[derive(Clone, Copy)]
 pub enum ShortRead {
     Value(u16, usize),
     Fault(Fault),
 }
 
-#[derive(Drop)]
+#[derive(Clone, Copy)]
 pub enum WordRead {
     Value(u32, usize),
     Fault(Fault),
 }
 
 // Whether a test holds.
-#[derive(Drop)]
+#[derive(Clone, Copy)]
 pub enum TestRead {
     Value(bool, usize),
     Fault(Fault),
 }
 
 // Where a record's bytes begin and end, or the fault of its length.
-#[derive(Drop)]
+#[derive(Clone, Copy)]
 pub enum Frame {
     Part(usize, usize),
     Fault(Fault),
 }
 
 // The next place, or the fault: it stands beside a value that is an array, which no enum can hold.
-#[derive(Drop)]
+#[derive(Clone, Copy)]
 pub enum Reached {
     At(usize),
     Fault(Fault),

@@ -10,14 +10,14 @@ use reading::field::{
 };
 
 // A step has so many numbers, which stand from a place on; a wait has ticks.
-#[derive(Drop)]
+#[derive(Clone, Copy)]
 pub enum Call {
     Step(u16, usize),
     Wait(u32),
 }
 
 // A call, and the place after it.
-#[derive(Drop)]
+#[derive(Clone, Copy)]
 pub enum CallRead {
     Value(Call, usize),
     Fault(Fault),

@@ -1,2 +1,4 @@
 // Requests in their binary form: checks, flattening, calls of the machines, runs of both, weft breaks.
+#![tactic(auto)]
+
 pub mod request;

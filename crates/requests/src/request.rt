@@ -10,7 +10,7 @@ use reading::field::{
 use request_parts::calls::{Call, CallRead, read_body, skip_calls};
 use request_parts::input::read_file;
 
-#[derive(Drop)]
+#[derive(Clone, Copy)]
 pub enum Machine {
     Chart,
     Network,
@@ -19,7 +19,7 @@ pub enum Machine {
 // What is asked of a file: flattening into a buffer of so many bytes; a call of a machine from the configuration that
 // stands at a place; calls that stand from a place on, with their number in front; the longest wait of the configuration
 // that stands at a place; the weft breaks within a window of so many ticks, the file being the ticks of the breaks.
-#[derive(Drop)]
+#[derive(Clone, Copy)]
 pub enum Operation {
     Check,
     Flatten(u32),
@@ -30,14 +30,14 @@ pub enum Operation {
     Breaks(u32),
 }
 
-#[derive(Drop)]
+#[derive(Clone, Copy)]
 pub enum OperationRead {
     Value(Operation, usize),
     Fault(Fault),
 }
 
 // The file's bytes stand between two places.
-#[derive(Drop)]
+#[derive(Clone, Copy)]
 pub struct Request {
     pub from: usize,
     pub to: usize,
@@ -45,7 +45,7 @@ pub struct Request {
 }
 
 // A request, and the place after it.
-#[derive(Drop)]
+#[derive(Clone, Copy)]
 pub enum RequestRead {
     Value(Request, usize),
     Fault(Fault),

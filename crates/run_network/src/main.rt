@@ -1,5 +1,7 @@
 // Runs a network, the file that the first argument names, from a script of calls on standard input. After each call it
 // prints the configuration, or the longest wait where that is asked for, or the number of the refusal and its sentence.
+#![tactic(auto)]
+
 ghost use Rattle.std.specs.Prelude.{◌≡◌};
 ghost use Rattle.console.specs.Script.{line_of};
 ghost use Rattle.network_calls.specs.Calls.{after_line};

@@ -1,6 +1,8 @@
 // Runs a chart, the file that the first argument names, and its network side by side. The script on standard input has
 // calls of the network, and each that is accepted is read as a call of the chart, or as none; the longest wait is asked of
 // both. After each call both configurations are printed, and how many urgent moves are owed.
+#![tactic(auto)]
+
 mod follow;
 mod show;
 

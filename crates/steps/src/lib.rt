@@ -1,2 +1,4 @@
 // What the steps of charts and networks share.
+#![tactic(auto)]
+
 pub mod step;

@@ -9,7 +9,7 @@ ghost use Rattle.steps.specs.Cases.{owner_of, signals_on, takes_part, one_sender
 use reading::verdict::Verdict;
 
 // Of a chosen transition or edge. Its owner is a sequential state or an automaton.
-#[derive(Drop)]
+#[derive(Clone, Copy)]
 pub struct Member {
     pub signal: u8,
     pub channel: u8,
@@ -17,7 +17,7 @@ pub struct Member {
 }
 
 // Broadcast: allowed if no further active receiver of the channel fits.
-#[derive(Drop)]
+#[derive(Clone, Copy)]
 pub enum Case {
     Refused,
     Allowed,

@@ -9,7 +9,7 @@ use crate::line::{Line, Tick, ended_tick, with_byte};
 use crate::recent::{Added, Recent, add, no_ticks};
 
 // The ticks of the lines that have ended, and the line that is being read, with its number.
-#[derive(Drop)]
+#[derive(Clone, Copy)]
 pub struct State {
     pub recent: Recent,
     pub line: Line,
@@ -18,7 +18,7 @@ pub struct State {
 
 // Why reading stopped: a line that has no tick and is not blank, a tick that is smaller than the one before it, or a window with
 // more breaks than ticks are kept.
-#[derive(Drop)]
+#[derive(Clone, Copy)]
 pub enum Stop {
     Bad,
     Falls,
@@ -26,7 +26,7 @@ pub enum Stop {
 }
 
 // What is known after some bytes, or why and at which line reading stopped.
-#[derive(Drop)]
+#[derive(Clone, Copy)]
 pub enum Read {
     On(State),
     Stopped(Stop, u64),

@@ -7,7 +7,7 @@ ghost use Rattle.tick_lines.specs.declared.line.Line.TheVariants as Li;
 use console::script::{digit_value, is_digit, is_space, with_digit};
 
 // What is known of a line: nothing but spaces; digits of a number, last; a number, and spaces after it; something else.
-#[derive(Drop)]
+#[derive(Clone, Copy)]
 pub enum Line {
     Blank,
     Digits(u64),
@@ -16,7 +16,7 @@ pub enum Line {
 }
 
 // The tick of a line.
-#[derive(Drop)]
+#[derive(Clone, Copy)]
 pub enum Tick {
     None,
     Value(u32),

@@ -7,7 +7,7 @@ use break_windows::window::in_window;
 
 // The place of the ring that the next tick is put at, and how many it holds; the most breaks in a window so far, and the first
 // tick of the earliest window that has them.
-#[derive(Drop)]
+#[derive(Clone, Copy)]
 pub struct Recent {
     pub next: usize,
     pub held: usize,
@@ -16,7 +16,7 @@ pub struct Recent {
 }
 
 // After one tick more; or it is smaller than the one before it; or a window has more than 65,536 breaks.
-#[derive(Drop)]
+#[derive(Clone, Copy)]
 pub enum Added {
     Next(Recent),
     Falls,

@@ -1,2 +1,4 @@
 // Updates, which are assignments and advances.
+#![tactic(auto)]
+
 pub mod update;

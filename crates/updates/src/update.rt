@@ -16,7 +16,7 @@ use reading::field::{ByteRead, Fault, Reached, ShortRead};
 use reading::{field, version};
 
 // Two variables and a ratio. The whole part is added to the steps, and what it leaves is kept as the remainder.
-#[derive(Drop)]
+#[derive(Clone, Copy)]
 pub struct Advance {
     pub steps: u8,
     pub remainder: u8,
@@ -25,14 +25,14 @@ pub struct Advance {
 }
 
 // The form of an update: an assignment of a variable, whose expression follows, or an advance.
-#[derive(Drop)]
+#[derive(Clone, Copy)]
 pub enum Form {
     Assignment(u8),
     Advance(Advance),
 }
 
 // The form and the next place, or the fault.
-#[derive(Drop)]
+#[derive(Clone, Copy)]
 pub enum FormRead {
     Form(Form, usize),
     Fault(Fault),
@@ -193,7 +193,7 @@ fn stored(values: [i32; 16], variable: u8, z: i32) -> [i32; 16]
 
 // The variables after an update, whether it stayed in the range, and the place after it: a fault stands beside an array,
 // which no enum can hold.
-#[derive(Drop)]
+#[derive(Clone, Copy)]
 pub struct Updated {
     pub reached: Reached,
     pub within: bool,

@@ -4,6 +4,8 @@
 //
 // Requests of every kind are answered by one program, so that the loop over them and its proof stand once. The input may have any
 // length: the whole requests in a window are answered, what is left of another is moved to its front, and it is filled again.
+#![tactic(auto)]
+
 mod answer;
 mod breaks_requests;
 mod chart_requests;
@@ -54,7 +56,7 @@ fn answer_whole(s: &[u8]) -> Reached
 }
 
 // What follows a round: another, with so many bytes of a request in front of the window, or none.
-#[derive(Drop)]
+#[derive(Clone, Copy)]
 enum Round {
     Next(usize),
     Last,

@@ -4,6 +4,8 @@
 //
 // The input is read once, and may be longer than what is kept of it: the last 65,536 ticks, which suffice as long as no window
 // has more breaks than that. A list with such a window is not answered, and is said to have one.
+#![tactic(auto)]
+
 ghost use Rattle.std.specs.Prelude.{◌≡◌, List, ℕ, ◌≤◌, length};
 ghost use Rattle.tick_lines.specs.Rings.{Holds};
 

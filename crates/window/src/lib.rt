@@ -1,4 +1,6 @@
 // Parts of the bytes of an input, of which a window holds some. No part passes the end.
+#![tactic(auto)]
+
 ghost use Rattle.std.specs.Prelude.{◌≡◌, ◌++◌, ◌-◌, length, take, drop};
 
 use reading::field::left;
