@@ -130,7 +130,7 @@ module _ (n : Network) where
   unfolding tested
   accepted_by ν ms h =
       allowed_move_by ν ms h.tests
-      ∙ (unless_by 28 _ h.all_stay
+      ∙ (unless_by 28 _ h.all_stay_lem
       ∙ (unless_by 21 _ (ap (bounds_kept n) h.result ∙ h.bounds_kept_lem) ∙ ap done h.result))
 
   -- a wait is accepted only where no urgent location is occupied

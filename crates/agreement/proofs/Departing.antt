@@ -77,6 +77,7 @@ module _ (c : Chart) (σ : ChartConfiguration) where
     | yes e ↦ cond_yes _ _ (eq-eqb (home c u) (home c t) e) ∙ ap (departure c) (f u (here refl) e)
     | no d ↦ cond_no _ _ (ne_eqb (home c u) (home c t) d) ∙ departed_home us (λ w k. f w (there k)) (⊎_elim (λ e. absurd (d (ap (home c) (sym e)))) (λ k. k) (cases_cons m))
   ]
+  departed_home [] {t = t} f m = elim m [ ]
 
   pub departed_other : (ts : List ℕ) (q : ℕ) → ((u : ℕ) → Mem u ts → home c u ≡ q → ⊥) → departed c σ ts q ≡ pictured c σ q
   unfolding departed

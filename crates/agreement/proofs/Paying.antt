@@ -46,6 +46,7 @@ without c (x ∷ xs) {p} o (here e) = record {
   once = o.1;
   owes_is = ap (λ (z : Pending). owes c z + owes_all c xs) (sym e);
 }
+without c mathlib.Core.List.[] o m = elim m [ ]
 without c (x ∷ xs) {p} o (there m) =
     let w = without c xs o.1 m in
     record {

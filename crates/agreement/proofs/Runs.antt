@@ -192,8 +192,8 @@ module _ (claims : AllClaims) (c : Chart) (passed : Passed c) (ranges : Ranges c
   run_keeps : {r : Run} → Invariant r → (calls : List Call) → Invariant (run_from c n r calls)
   unfolding run_from
   run_keeps holds [] = holds
-  run_keeps holds (step ms ∷ xs) = run_keeps (step_keeps holds ms) xs
-  run_keeps holds (wait d ∷ xs) = run_keeps (wait_keeps holds d) xs
+  run_keeps {r = r} holds (step ms ∷ xs) = run_keeps {r = extended c n r (step ms)} (step_keeps holds ms) xs
+  run_keeps {r = r} holds (wait d ∷ xs) = run_keeps {r = extended c n r (wait d)} (wait_keeps holds d) xs
 
   -- the invariant says all that is claimed
   module _ {r : Run} (holds : Invariant r) where

@@ -145,7 +145,7 @@ module _ (file : List ℕ) (c : Chart) (h : chart_of file ≡ done c) where
         steps = λ σ ms e.
             sym (ap (λ (x : ChartConfiguration). x.variables) (chart_step_lem σ ms e).result)
             ∙ ap (λ (ls : List Label). variables_after ls σ.variables) (map-map label_of (transition_at c) ms);
-        stay = λ σ ms e. (chart_step_lem σ ms e).all_stay;
+        stay = λ σ ms e. (chart_step_lem σ ms e).all_stay_lem;
         members = λ σ ms e m j. map_by label_of (get_d_mem c.transitions m _ ((chart_step_lem σ ms e).tests.are_known.each m j));
         waits = chart_wait_lem;
         once = λ l m.
@@ -188,7 +188,7 @@ module _ (file : List ℕ) (n : Network) (h : network_of file ≡ done n) where
         steps = λ σ ms e.
             sym (ap (λ (x : NetworkConfiguration). x.variables) (network_step_lem σ ms e).result)
             ∙ ap (λ (ls : List Label). variables_after ls σ.variables) (map-map label_of (edge_at n) ms);
-        stay = λ σ ms e. (network_step_lem σ ms e).all_stay;
+        stay = λ σ ms e. (network_step_lem σ ms e).all_stay_lem;
         members = λ σ ms e m j. map_by label_of (get_d_mem n.edges m _ ((network_step_lem σ ms e).tests.are_known.each m j));
         waits = network_wait;
         once = λ l m. let t = map_at label_of n.edges m in ap assigns_once t.2 ∙ assign_once t.0 t.1;

@@ -29,6 +29,7 @@ pub climbs_above : (x : ℕ) (xs : List ℕ) → climbs (x ∷ xs) ≡ true → 
 unfolding climbs
 climbs_above x (y ∷ ys) h (here e) = omega (arith, leb-true x y (and_l (leb x y) _ h))
 climbs_above x (y ∷ ys) h (there m) = omega (arith, leb-true x y (and_l (leb x y) _ h), climbs_above y ys (and_r (leb x y) _ h) m)
+climbs_above x [] h m = elim m [ ]
 
 -- by neighbours
 pub climbs_at_lem : (ts : List ℕ) → climbs ts ≡ true → Climbs ts (length ts)

@@ -38,11 +38,13 @@ greatest_of_above : (xs : List ℕ) {x : ℕ} → Mem x xs → x ≤ greatest_of
 unfolding greatest_of
 greatest_of_above (y ∷ ys) (here e) = omega arith
 greatest_of_above (y ∷ ys) (there m) = omega (arith, greatest_of_above ys m)
+greatest_of_above [] m = elim m [ ]
 
 greatest_of_image : (f : ℕ → ℕ) (xs : List ℕ) {x : ℕ} → Mem x xs → f x ≤ greatest_of (map f xs)
 unfolding greatest_of
 greatest_of_image f (y ∷ ys) {x} (here e) = let q : f x ≡ f y = ap f e in omega (arith, q)
 greatest_of_image f (y ∷ ys) (there m) = omega (arith, greatest_of_image f ys m)
+greatest_of_image f [] m = elim m [ ]
 
 greatest_of_most : (f : ℕ → ℕ) (xs : List ℕ) (m : ℕ) → ((i : ℕ) → f i ≤ m) → greatest_of (map f xs) ≤ m
 unfolding greatest_of
@@ -168,6 +170,7 @@ first_passes p (x ∷ xs) {t} m h = ⊎_elim
     (λ e. rw e (here refl, e))
     (λ e. rw e (⊎_elim (λ q. clash (ap p (sym q) ∙ h) e) (λ n. let r = first_passes p xs n h in (there r.0, r.1)) (cases_cons m)))
     (decided (p x))
+first_passes p [] {t = t} m h = elim m [ ]
 
 first_least : (p : ℕ → Bool) (ts : List ℕ) → climbs ts ≡ true → {t : ℕ} → Mem t ts → p t ≡ true → first_of p ts ≤ t
 unfolding first_of
@@ -175,6 +178,7 @@ first_least p (x ∷ xs) c {t} m h = ⊎_elim
     (λ e. rw e (⊎_elim (λ q. omega arith) (λ n. climbs_above x xs c n) (cases_cons m)))
     (λ e. rw e (⊎_elim (λ q. clash (ap p (sym q) ∙ h) e) (λ n. first_least p xs (climbs_tail x xs c) n h) (cases_cons m)))
     (decided (p x))
+first_least p [] c {t = t} m h = elim m [ ]
 
 -- where there is a break, the window that is answered begins at one, and has the most breaks
 pub first_begins : (w : ℕ) (ts : List ℕ) → 1 ≤ length ts → Mem (first_with (most_breaks w ts) w ts) ts × (within w ts (first_with (most_breaks w ts) w ts) ≡ most_breaks w ts)

@@ -48,6 +48,8 @@ pub row_free : (n : ℕ) → n ≤ 8 → Row n free
 row_free n h = record { long = refl; bound = λ b m. rw (taken n 8 b m); past = dropped n 8 h }
   where
     taken : (n k b : ℕ) → Mem b (take n (replicate k no_bound)) → b ≡ no_bound
+    taken zero k b m = elim m [ ]
+    taken (suc n) zero b m = elim m [ ]
     taken (suc n) (suc k) b (here e) = e
     taken (suc n) (suc k) b (there m) = taken n k b m
 
@@ -76,6 +78,8 @@ drop_join (suc n) (x ∷ xs) (y ∷ ys) = drop_join n xs ys
 
 join_mem : (a b : List ℕ) {z : ℕ} → Mem z (join a b) → (x : ℕ) × (y : ℕ) × Mem x a × Mem y b × (z ≡ min x y)
 unfolding join
+join_mem [] b m = elim m [ ]
+join_mem (x ∷ xs) [] m = elim m [ ]
 join_mem (x ∷ xs) (y ∷ ys) (here e) = (x, y, here refl, here refl, e)
 join_mem (x ∷ xs) (y ∷ ys) (there m) = let w = join_mem xs ys m in (w.0, w.1, there w.2, there w.3, w.4)
 

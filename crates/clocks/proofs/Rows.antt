@@ -64,6 +64,7 @@ module _ (m : ℕ) where
   unfolding reset_from
   values_reset_from i (c ∷ cs) v x (here e) = omega (arith, reset_le i c, v c (here refl))
   values_reset_from i (c ∷ cs) v x (there n) = values_reset_from (suc i) cs (λ y k. v y (there k)) x n
+  values_reset_from i [] v x m = elim m [ ]
 
   pub values_reset : (cs : List ℕ) → ClockValues cs → ClockValues (reset m cs)
   unfolding reset
@@ -101,6 +102,7 @@ keeps_zeros (b ∷ bs) (suc n) = both (kept_is b 0 ∙ le-leb 0 b (omega arith))
 pub values_zeros : (n : ℕ) → ClockValues (replicate n 0)
 values_zeros (suc n) x (here e) = omega arith
 values_zeros (suc n) x (there m) = values_zeros n x m
+values_zeros zero x m = elim m [ ]
 
 -- and they are within the limit, and 0 past any number of them
 pub in_limit_zeros : (n m : ℕ) → in_limit n (replicate m 0) ≡ true

@@ -55,6 +55,7 @@ pub sorted_by : (xs : List ℕ) {z : ℕ} → Mem z xs → Mem z (sorted xs)
 unfolding sorted
 sorted_by (x ∷ xs) (here e) = insert_by x (sorted xs) (inl e)
 sorted_by (x ∷ xs) (there m) = insert_by x (sorted xs) (inr (sorted_by xs m))
+sorted_by [] m = elim m [ ]
 
 pub sorted_at : (xs : List ℕ) {z : ℕ} → Mem z (sorted xs) → Mem z xs
 unfolding sorted

@@ -34,6 +34,7 @@ pub ascending_above : (x : ℕ) (xs : List ℕ) → ascending (x ∷ xs) ≡ tru
 unfolding ascending
 ascending_above x (y ∷ ys) h (here e) = omega (arith, ltb-true x y (and_l (ltb x y) _ h))
 ascending_above x (y ∷ ys) h (there m) = omega (arith, ltb-true x y (and_l (ltb x y) _ h), ascending_above y ys (and_r (ltb x y) _ h) m)
+ascending_above x [] h m = elim m [ ]
 
 pub ascending_cons : (x : ℕ) (xs : List ℕ) → ((z : ℕ) → Mem z xs → x < z) → ascending xs ≡ true → ascending (x ∷ xs) ≡ true
 unfolding ascending

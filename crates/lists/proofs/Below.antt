@@ -18,6 +18,7 @@ pub range_at : (from n : ℕ) {x : ℕ} → Mem x (range from n) → (from ≤ x
 unfolding range
 range_at from (suc n) (here e) = omega arith
 range_at from (suc n) (there m) = let r = range_at (suc from) n m in omega arith
+range_at from zero m = elim m [ ]
 
 pub range_by : (from n x : ℕ) → from ≤ x → x < from + n → Mem x (range from n)
 unfolding range

@@ -25,6 +25,7 @@ module _ {A B : Type 0} (f : A → List B) where
   unfolding concat
   concat_by {xs = z ∷ zs} {y} (here e) m = append_left (concat f zs) (subst (λ (w : A). Mem y (f w)) e m)
   concat_by {xs = z ∷ zs} (there n) m = append_right (f z) (concat_by n m)
+  concat_by {xs = []} n m = elim n [ ]
 
   pub concat_at : (xs : List A) {y : B} → Mem y (concat f xs) → (x : A) × Mem x xs × Mem y (f x)
   unfolding concat
@@ -63,6 +64,7 @@ unfolding concat
 concat_one f (z ∷ zs) o x (here e) h =
     rw (concat_none f zs (λ y m. h y (there m) (λ q. o.0 (cast (sym (q ∙ e)) m))), e) (append-nil (f z))
 concat_one f (z ∷ zs) o x (there m) h = rw (h z (here refl) (λ q. o.0 (cast q m))) (concat_one f zs o.1 x m (λ y n. h y (there n)))
+concat_one f [] o x m h = elim m [ ]
 
 -- of one element
 pub concat_single : {A B : Type 0} (f : A → List B) (x : A) → concat f (x ∷ []) ≡ f x

@@ -26,6 +26,7 @@ module _ {A : Type 0} (p : A → Bool) where
   unfolding all
   all_at (y ∷ ys) h (here e) = ap p e ∙ and_l (p y) (all p ys) h
   all_at (y ∷ ys) h (there m) = all_at ys (and_r (p y) (all p ys) h) m
+  all_at [] h m = elim m [ ]
 
   pub all_by : (xs : List A) → ((x : A) → Mem x xs → p x ≡ true) → all p xs ≡ true
   unfolding all
@@ -37,6 +38,7 @@ module _ {A : Type 0} (p : A → Bool) where
   unfolding any
   any_by {x} {xs = y ∷ ys} (here e) h = or_l (any p ys) (ap p (sym e) ∙ h)
   any_by {x} {xs = y ∷ ys} (there m) h = or_r (p y) (any_by m h)
+  any_by {xs = []} m h = elim m [ ]
 
   pub any_at : (xs : List A) → any p xs ≡ true → (x : A) × Mem x xs × (p x ≡ true)
   unfolding any
@@ -92,6 +94,7 @@ module _ {A : Type 0} (p : A → Bool) where
       go : (b : Bool) → Mem x (keep p ys) → Mem x (cond b (y ∷ keep p ys) (keep p ys))
       go true n = there n
       go false n = n
+  keep_by [] m h = elim m [ ]
 
 -- map
 module _ {A B : Type 0} (f : A → B) where
@@ -102,6 +105,7 @@ module _ {A B : Type 0} (f : A → B) where
   pub map_at : (xs : List A) {y : B} → Mem y (map f xs) → (x : A) × Mem x xs × (y ≡ f x)
   map_at (x ∷ xs) (here e) = (x, here refl, e)
   map_at (x ∷ xs) (there m) = let r = map_at xs m in (r.0, there r.1, r.2)
+  map_at [] m = elim m [ ]
 
 -- two lists element by element; past the end of either stands e, which f gives there too
 module _ {A B C : Type 0} (f : A → B → C) where
@@ -144,10 +148,12 @@ get_d_map f (x ∷ xs) (suc i) a b h = get_d_map f xs i a b (omega arith)
 pub mem_get_d : {A : Type 0} {x : A} {xs : List A} (d : A) → Mem x xs → (i : ℕ) × (i < length xs) × (get_or xs i d ≡ x)
 mem_get_d {xs = y ∷ ys} d (here e) = (0, omega arith, sym e)
 mem_get_d {xs = y ∷ ys} d (there m) = let r = mem_get_d d m in (suc r.0, omega (arith, r.1), r.2)
+mem_get_d {xs = []} d m = elim m [ ]
 
 pub mem_some : {A : Type 0} {x : A} {xs : List A} → Mem x xs → 1 ≤ length xs
 mem_some {xs = y ∷ ys} (here e) = omega arith
 mem_some {xs = y ∷ ys} (there m) = omega arith
+mem_some {xs = []} m = elim m [ ]
 
 pub some_mem : {A : Type 0} (xs : List A) → 1 ≤ length xs → (x : A) × Mem x xs
 some_mem [] h = absurd (omega arith)

@@ -65,6 +65,7 @@ take_out (x ∷ xs) (here e) = (xs, refl, λ z m. ⊎_elim (λ q. inl (q ∙ sym
 take_out (x ∷ xs) (there m) =
     let r = take_out xs m in
     (x ∷ r.0, ap suc r.1, λ z k. ⊎_elim (λ q. inr (here q)) (λ j. ⊎_elim inl (λ i. inr (there i)) (r.2 z j)) (cases_cons k))
+take_out [] m = elim m [ ]
 
 pub partners_length : {A B : Type 0} (R : A → B → Type 0) (xs : List A) (ys : List B) → Once xs → ((x : A) → Mem x xs → (y : B) × Mem y ys × R x y)
     → ((x z : A) (y : B) → R x y → R z y → x ≡ z) → length xs ≤ length ys
@@ -99,6 +100,7 @@ once_map f (x ∷ xs) o (here p) (here q) e = p ∙ sym q
 once_map f (x ∷ xs) o (here p) (there n) e = absurd (o.0 (cast (ap f (sym p) ∙ e) (map_by f n)))
 once_map f (x ∷ xs) o (there m) (here q) e = absurd (o.0 (cast (ap f (sym q) ∙ sym e) (map_by f m)))
 once_map f (x ∷ xs) o (there m) (there n) e = once_map f xs o.1 m n e
+once_map f [] o m _ e = elim m [ ]
 
 eqb_swap : (x y : ℕ) → eqb x y ≡ eqb y x
 eqb_swap x y = same (eqb x y) (eqb y x) (λ h. eq-eqb y x (sym (eqb-true x y h))) (λ h. eq-eqb x y (sym (eqb-true y x h)))

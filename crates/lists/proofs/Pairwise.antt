@@ -54,9 +54,10 @@ module _ {A : Type 0} (R : A → A → Type 0) where
   pairwise_right [] ys o = o
   pairwise_right (x ∷ xs) ys o = pairwise_right xs ys o.1
 
-  pub pairwise_across : {xs : List A} (ys : List A) {x y : A} → Pairwise R (xs ++ ys) → Mem x xs → Mem y ys → R x y
-  pairwise_across {xs = z ∷ zs} ys {x} {y} o (here e) n = subst (λ (w : A). R w y) (sym e) (o.0 y (append_right zs n))
+  pub pairwise_across : {x y : A} {xs : List A} (ys : List A) → Pairwise R (xs ++ ys) → Mem x xs → Mem y ys → R x y
+  pairwise_across {x} {y} {xs = z ∷ zs} ys o (here e) n = subst (λ (w : A). R w y) (sym e) (o.0 y (append_right zs n))
   pairwise_across {xs = z ∷ zs} ys o (there m) n = pairwise_across ys o.1 m n
+  pairwise_across {xs = []} ys o m n = elim m [ ]
 
   pub pairwise_get_d : (xs : List A) (d : A) (i j : ℕ) → Pairwise R xs → i < j → j < length xs → R (get_or xs i d) (get_or xs j d)
   pairwise_get_d [] d i j o l h = absurd (omega arith)
@@ -66,12 +67,13 @@ module _ {A : Type 0} (R : A → A → Type 0) where
 
   -- where an order without both ways goes along the list, so does the relation along the order
   pub pairwise_order :
-      (Q : A → A → Type 0) → ((x y : A) → Q x y → Q y x → ⊥) → {xs : List A} {x y : A} → Pairwise Q xs → Pairwise R xs →
+      (Q : A → A → Type 0) → ((x y : A) → Q x y → Q y x → ⊥) → {x y : A} {xs : List A} → Pairwise Q xs → Pairwise R xs →
       Mem x xs → Mem y xs → Q x y → R x y
-  pairwise_order Q f {xs = z ∷ zs} {x} {y} o k (here p) (here q) h = absurd (let l = subst₂ Q p q h in f z z l l)
-  pairwise_order Q f {xs = z ∷ zs} {x} {y} o k (here p) (there n) h = subst (λ (w : A). R w y) (sym p) (k.0 y n)
-  pairwise_order Q f {xs = z ∷ zs} {x} {y} o k (there m) (here q) h = absurd (f x z (subst (Q x) q h) (o.0 x m))
-  pairwise_order Q f {xs = z ∷ zs} {x} {y} o k (there m) (there n) h = pairwise_order Q f o.1 k.1 m n h
+  pairwise_order Q f {x} {y} {xs = z ∷ zs} o k (here p) (here q) h = absurd (let l = subst₂ Q p q h in f z z l l)
+  pairwise_order Q f {x} {y} {xs = z ∷ zs} o k (here p) (there n) h = subst (λ (w : A). R w y) (sym p) (k.0 y n)
+  pairwise_order Q f {x} {y} {xs = z ∷ zs} o k (there m) (here q) h = absurd (f x z (subst (Q x) q h) (o.0 x m))
+  pairwise_order Q f {x} {y} {xs = z ∷ zs} o k (there m) (there n) h = pairwise_order Q f o.1 k.1 m n h
+  pairwise_order Q f {xs = []} o k m _ h = elim m [ ]
 
 -- of the values of a function
 module _ {A B : Type 0} (S : B → B → Type 0) (f : A → B) where
@@ -91,10 +93,11 @@ module _ {A B : Type 0} (S : B → B → Type 0) (f : A → List B) where
   pairwise_concat (x ∷ xs) g o = pairwise_append S (f x) (concat f xs) (g x (here refl)) (pairwise_concat xs (λ y m. g y (there m)) o.1)
       (λ a b m n. let r = concat_at f xs n in o.0 r.0 r.1 a b m r.2)
 
-  pub pairwise_in : {xs : List A} {x : A} → Pairwise S (concat f xs) → Mem x xs → Pairwise S (f x)
+  pub pairwise_in : {x : A} {xs : List A} → Pairwise S (concat f xs) → Mem x xs → Pairwise S (f x)
   unfolding concat
-  pairwise_in {xs = y ∷ ys} {x} o (here e) = subst (λ (z : A). Pairwise S (f z)) (sym e) (pairwise_left S (f y) (concat f ys) o)
+  pairwise_in {x} {xs = y ∷ ys} o (here e) = subst (λ (z : A). Pairwise S (f z)) (sym e) (pairwise_left S (f y) (concat f ys) o)
   pairwise_in {xs = y ∷ ys} o (there m) = pairwise_in (pairwise_right S (f y) (concat f ys) o) m
+  pairwise_in {xs = []} o m = elim m [ ]
 
   pub pairwise_between : (xs : List A) → Pairwise S (concat f xs) → Pairwise (λ x y. (a b : B) → Mem a (f x) → Mem b (f y) → S a b) xs
   unfolding concat

@@ -133,6 +133,7 @@ position_concat p f (y ∷ ys) {x} o (there m) g h =
     let l = ascending_above y ys o m in
     let rest = position_concat p f ys (ascending_tail y ys o) m (λ z n k. g z (there n) k) h in
     rw (lt-ltb y x l) (position_right p (f y) (concat f ys) (g y (here refl) l) ∙ omega (arith, rest, length-append (f y) (concat f (keep (λ z. ltb z x) ys))))
+position_concat p f [] o m g h = elim m [ ]
 
 pub position_end : {A : Type 0} (p : A → Bool) {rest : List A} → rest ≡ [] → position p rest ≡ 0
 unfolding position

@@ -49,6 +49,7 @@ module _ (n : Network) (a : ℕ) where
     move_to (e ∷ es) ls l h (here p) o = move_kept es _ (omega (arith, length-set ls (owner_of n e) e.target)) (λ x m. h x (there m))
         (let q = ap (owner_of n) (sym p) ∙ o in ap (λ (i : ℕ). get_or (set ls (owner_of n e) e.target) i 0) (sym q) ∙ get_or-set_same ls (owner_of n e) e.target 0 (omega arith) ∙ h e (here refl) q)
     move_to (e ∷ es) ls l h (there m) o = move_to es _ (omega (arith, length-set ls (owner_of n e) e.target)) (λ x k. h x (there k)) m o
+    move_to [] ls l h m o = elim m [ ]
 
   -- flags x become y, and stay so
   module _ (x y : ℕ) where
@@ -71,3 +72,4 @@ module _ (n : Network) (a : ℕ) where
           ∙ ap (λ (z : ℕ). overwrite z e.written e.values) (ap (λ (i : ℕ). get_or fs i 0) (sym q) ∙ k) ∙ (h e (here refl) (sym q)).0)
       | no d ↦ ⊎_elim (λ p. absurd (d (sym (ap (owner_of n) (sym p) ∙ o)))) (λ j. write_to es _ (omega arith) (λ z i. h z (there i)) (get_or-set_other fs (owner_of n e) a _ 0 d ∙ k) j o) (cases_cons m)
     ]
+    write_to [] fs l h k m o = elim m [ ]

@@ -44,6 +44,7 @@ said_next a s i h = ap (bytes_said a) (rw add-one (take-suc s i 0 h)) ∙ said_m
 -- where reading goes on, the ring holds some ticks
 pub on_holds : (w : ℕ) (ring : List ℕ) (a : Said) (s : State) → ReadTo w ring a (Re.On s) → (ts : List ℕ) × Holds w ring s.recent ts
 on_holds w ring (said ts l) s R = (ts, R.0)
+on_holds w ring Rattle.tick_lines.specs.Inputs.unread s R = elim R [ ]
 
 -- a byte
 pub feed_said : (ts : List ℕ) (l : Line) (b : ℕ) → b ≡ 10 → byte_said (said ts l) b ≡ line_ended ts (ended_tick l)
@@ -59,6 +60,7 @@ pub read_more :
     (w : ℕ) (ring ring' : List ℕ) (a : Said) (s : State) (b : ℕ) (r : Read) → ReadTo w ring a (Re.On s) →
     ((ts : List ℕ) → Holds w ring s.recent ts → ReadTo w ring' (byte_said (said ts s.line) b) r) → ReadTo w ring' (byte_said a b) r
 read_more w ring ring' (said ts l) s b r R f = subst (λ (k : Line). ReadTo w ring' (byte_said (said ts k) b) r) R.1 (f ts R.0)
+read_more w ring ring' Rattle.tick_lines.specs.Inputs.unread s b r R f = elim R [ ]
 
 -- a byte of many
 pub read_next :

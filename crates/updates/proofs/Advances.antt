@@ -226,3 +226,4 @@ unfolding concat
 once_each (w ∷ us) {u} (here e) o =
     subst (λ (x : Update). Once (writes (form_of x))) (sym e) (once_first (writes (form_of w)) (targets us) o)
 once_each (w ∷ us) (there m) o = once_each us m (once_second (writes (form_of w)) (targets us) o)
+once_each [] m o = elim m [ ]
