@@ -1,0 +1,28 @@
+use Rattle.numbers.specs.Relation.{relations, compareℕ}
+use Rattle.numbers.proofs.Integers.{first_relation}
+use Rattle.numbers.proofs.signed.compare_clocks.Goals as goal
+
+-- One arm for each relation.
+pub returns-in-1 : goal.returns-in-1
+unfolding compareℕ relations
+returns-in-1 c = rw c.in-1.is
+
+pub returns-in-2 : goal.returns-in-2
+unfolding compareℕ relations
+returns-in-2 c = rw c.in-2.is
+
+pub returns-in-3 : goal.returns-in-3
+unfolding compareℕ relations
+returns-in-3 c = rw c.in-3.is
+
+pub returns-in-4 : goal.returns-in-4
+unfolding compareℕ relations
+returns-in-4 c = rw c.in-4.is
+
+pub returns-in-5 : goal.returns-in-5
+unfolding compareℕ relations
+returns-in-5 c = rw c.in-5.is
+
+pub returns-in_default : goal.returns-in_default
+unfolding compareℕ relations
+returns-in_default c = rw (first_relation _ c.in_default.in_default-own.rest.0.0.0.0.1 c.in_default.in_default-own.rest.0.0.0.1 c.in_default.in_default-own.rest.0.0.1 c.in_default.in_default-own.rest.0.1 c.in_default.in_default-own.rest.1)
