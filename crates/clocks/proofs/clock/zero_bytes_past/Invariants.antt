@@ -1,0 +1,10 @@
+use lib.Dec.{eqb}
+use Rattle.lists.proofs.Loops.{Passed}
+use Prim.Native.Nat.{◌-◌}
+use Rattle.clocks.proofs.clock.zero_bytes_past.Given as goal
+
+abbrev pub invariant-loop-i : goal.invariant-loop-i
+invariant-loop-i l = Passed (λ x. eqb x 0) 16 l.bytes l.count l.i
+
+abbrev pub decreases-loop-i : goal.decreases-loop-i
+decreases-loop-i l = 16 - l.i
