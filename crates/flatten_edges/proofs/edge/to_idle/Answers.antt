@@ -1,0 +1,7 @@
+use Rattle.flatten_edges.proofs.Children.{idle_adds}
+use Rattle.flatten_edges.proofs.edge.to_idle.Goals as goal
+
+pub returns : goal.returns
+returns c = λ d T S m f.
+    idle_adds d _ T _ m _ _ S _ f c.of_state-q.ensures c.of_state-low.ensures c.of_place.ensures
+    c.of_automaton-first.ensures c.joining-e.ensures c.channel_of-before.ensures c.hear_exits.ensures

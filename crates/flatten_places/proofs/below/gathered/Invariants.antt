@@ -1,0 +1,13 @@
+use Rattle.flatten_places.proofs.Underneath.{SeenFrom}
+use Rattle.chart_tree.specs.Table.{Rooted}
+use Rattle.chart_records.specs.Chart.{Chart}
+use lib.ListN.{length}
+use Prim.Native.Nat.{◌≤◌}
+use mathlib.Core.Path.{◌≡◌}
+use Rattle.flatten_places.proofs.below.gathered.Given as goal
+
+abbrev pub invariant-loop-s : goal.invariant-loop-s
+invariant-loop-s l = (length l.below ≡ 48) × (l.s ≤ l.initial.s) × (l.initial.s ≤ 48) × ((c : Chart) → Rooted c l.parents → l.initial.s ≡ length c.states → SeenFrom c l.initial.below l.below l.s)
+
+abbrev pub decreases-loop-s : goal.decreases-loop-s
+decreases-loop-s l = l.s

@@ -1,0 +1,19 @@
+use mathlib.Core.Path.{◌≡◌}
+use Prim.Native.Nat.{ℕ, ◌-◌}
+use lib.ListN.{drop}
+use Rattle.lists.specs.Lists.{below, all}
+use Rattle.network_records.specs.Layout.{Located}
+use mathlib.Core.Bool.{Bool}
+use Rattle.network_records.specs.Network.{Network}
+use Rattle.network_moves.specs.Machine.{place}
+use Rattle.network_moves.specs.declared.configuration.Configuration.{Configuration}
+use Rattle.network_moves.proofs.configuration.at_own_locations.Given as goal
+
+abbrev own : Network → Configuration → ℕ → Bool
+own n c b = is_of n (place c b) b
+
+abbrev pub invariant-loop-a : goal.invariant-loop-a
+invariant-loop-a l = (n : Network) → Located l.rest l.counts n → all (own n l.c) (below n.automata) ≡ all (own n l.c) (drop l.a (below n.automata))
+
+abbrev pub decreases-loop-a : goal.decreases-loop-a
+decreases-loop-a l = l.counts.automata - l.a
