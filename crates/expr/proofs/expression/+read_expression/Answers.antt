@@ -71,7 +71,7 @@ pub returns-in-1-clause-means : goal.returns-in-1-clause-means
 unfolding skipped
 returns-in-1-clause-means t c =
     byte_skipped _ c.read_below.result c.byte_reached.ensures c.read_below.ensures.means
-        ∙ sym (read_variable _ _ _ _ c.if-s-eq0.false c.if-levels-eq0.false c.in-1.is)
+    ∙ sym (read_variable _ _ _ _ c.if-s-eq0.false c.if-levels-eq0.false c.in-1.is)
 
 pub returns-in-At-second-clause-means : goal.returns-in-At-second-clause-means
 unfolding skipped
