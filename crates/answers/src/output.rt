@@ -67,37 +67,29 @@ pub fn flattened(out: &mut impl Write, t: &[u8]) -> io::Result<()> {
 }
 
 fn bytes(out: &mut impl Write, t: &[u8]) -> io::Result<()> {
-    let mut i = 0;
-    while i < t.len() {
-        byte(out, t[i])?;
-        i += 1;
+    for x in t {
+        byte(out, *x)?;
     }
     Ok(())
 }
 
 fn marks(out: &mut impl Write, t: &[bool]) -> io::Result<()> {
-    let mut i = 0;
-    while i < t.len() {
-        mark(out, t[i])?;
-        i += 1;
+    for x in t {
+        mark(out, *x)?;
     }
     Ok(())
 }
 
 fn words(out: &mut impl Write, t: &[u32]) -> io::Result<()> {
-    let mut i = 0;
-    while i < t.len() {
-        word(out, t[i])?;
-        i += 1;
+    for x in t {
+        word(out, *x)?;
     }
     Ok(())
 }
 
 fn values(out: &mut impl Write, t: &[i32]) -> io::Result<()> {
-    let mut i = 0;
-    while i < t.len() {
-        value(out, t[i])?;
-        i += 1;
+    for x in t {
+        value(out, *x)?;
     }
     Ok(())
 }
@@ -138,10 +130,8 @@ fn listed(out: &mut impl Write, first: bool, n: u16) -> io::Result<()> {
 
 // Numbers with commas.
 pub fn numbers(out: &mut impl Write, t: &[u16]) -> io::Result<()> {
-    let mut i = 0;
-    while i < t.len() {
+    for i in 0..t.len() {
         listed(out, i == 0, t[i])?;
-        i += 1;
     }
     Ok(())
 }

@@ -37,13 +37,11 @@ pub fn signed_number(out: &mut impl Write, z: i32) -> io::Result<()> {
 // The first variables of sixteen, as many as are declared.
 pub fn variables(out: &mut impl Write, values: &[i32; 16], count: u8) -> io::Result<()> {
     text(out, b"  variables")?;
-    let mut i = 0;
-    while i < 16 {
+    for i in 0..16 {
         let value = values[i];
         if i < count as usize {
             signed_number(out, value)?;
         }
-        i += 1;
     }
     line_end(out)
 }
@@ -51,13 +49,11 @@ pub fn variables(out: &mut impl Write, values: &[i32; 16], count: u8) -> io::Res
 // The first clocks of eight, as many as are declared.
 pub fn clocks(out: &mut impl Write, values: &[u32; 8], count: u8) -> io::Result<()> {
     text(out, b"  clocks")?;
-    let mut i = 0;
-    while i < 8 {
+    for i in 0..8 {
         let value = values[i];
         if i < count as usize {
             word(out, value)?;
         }
-        i += 1;
     }
     line_end(out)
 }
@@ -65,13 +61,11 @@ pub fn clocks(out: &mut impl Write, values: &[u32; 8], count: u8) -> io::Result<
 // The first of sixteen bytes under their name, as many as there are automata.
 pub fn automata(out: &mut impl Write, name: &[u8], values: &[u8; 16], count: u8) -> io::Result<()> {
     text(out, name)?;
-    let mut i = 0;
-    while i < 16 {
+    for i in 0..16 {
         let value = values[i];
         if i < count as usize {
             byte(out, value)?;
         }
-        i += 1;
     }
     line_end(out)
 }
@@ -79,12 +73,10 @@ pub fn automata(out: &mut impl Write, name: &[u8], values: &[u8; 16], count: u8)
 // The numbers of the active states.
 pub fn states(out: &mut impl Write, active: &[bool; 48]) -> io::Result<()> {
     text(out, b"  active")?;
-    let mut s = 0;
-    while s < 48 {
+    for s in 0..48 {
         if active[s] {
             number(out, s as u64)?;
         }
-        s += 1;
     }
     line_end(out)
 }
