@@ -1,27 +1,29 @@
-// Answers, on standard output.
+// Answers, on an output.
 ghost use Rattle.std.specs.Prelude.{◌≡◌};
 ghost use Rattle.numbers.specs.Integer.{signed};
 
 use crate::checksum::checksum;
 use numbers::signed::{absolute, is_negative};
+use std::io;
+use std::io::Write;
 
-pub fn text(s: &[u8]) {
-    io::write_all(1, s);
+pub fn text(out: &mut impl Write, s: &[u8]) -> io::Result<()> {
+    out.write_all(s)
 }
 
-pub fn number(n: u64) {
-    io::print_decimal(1, n);
+pub fn number(out: &mut impl Write, n: u64) -> io::Result<()> {
+    write!(out, "{n}")
 }
 
 // A refusal is its number.
-pub fn refusal(k: u8) {
-    number(k as u64);
-    text(b"\n");
+pub fn refusal(out: &mut impl Write, k: u8) -> io::Result<()> {
+    number(out, k as u64)?;
+    text(out, b"\n")
 }
 
 // The end of a run on input that is not made of whole requests.
-pub fn malformed() {
-    text(b"malformed\n");
+pub fn malformed(out: &mut impl Write) -> io::Result<()> {
+    text(out, b"malformed\n")
 }
 
 // The 32 bits of a signed number.
@@ -37,97 +39,99 @@ fn bits(z: i32) -> u32
 }
 
 // Two hexadecimal digits.
-fn byte(x: u8) {
-    io::print_hex(1, x as u64, 2);
+fn byte(out: &mut impl Write, x: u8) -> io::Result<()> {
+    write!(out, "{x:02x}")
 }
 
 // 1 for what is active.
-fn mark(b: bool) {
-    if b {
-        byte(1);
-    } else {
-        byte(0);
-    }
+fn mark(out: &mut impl Write, b: bool) -> io::Result<()> {
+    if b { byte(out, 1) } else { byte(out, 0) }
 }
 
 // Eight hexadecimal digits.
-fn word(x: u32) {
-    io::print_hex(1, x as u64, 8);
+fn word(out: &mut impl Write, x: u32) -> io::Result<()> {
+    write!(out, "{x:08x}")
 }
 
-fn value(z: i32) {
-    word(bits(z));
+fn value(out: &mut impl Write, z: i32) -> io::Result<()> {
+    word(out, bits(z))
 }
 
 // A network that was written: how many bytes it has, and their checksum.
-pub fn flattened(t: &[u8]) {
-    text(b"ok ");
-    number(t.len() as u64);
-    text(b" ");
-    word(checksum(t));
-    text(b"\n");
+pub fn flattened(out: &mut impl Write, t: &[u8]) -> io::Result<()> {
+    text(out, b"ok ")?;
+    number(out, t.len() as u64)?;
+    text(out, b" ")?;
+    word(out, checksum(t))?;
+    text(out, b"\n")
 }
 
-fn bytes(t: &[u8]) {
-    let mut i = 0;
-    while i < t.len() {
-        byte(t[i]);
-        i += 1;
+fn bytes(out: &mut impl Write, t: &[u8]) -> io::Result<()> {
+    for x in t {
+        byte(out, *x)?;
     }
+    Ok(())
 }
 
-fn marks(t: &[bool]) {
-    let mut i = 0;
-    while i < t.len() {
-        mark(t[i]);
-        i += 1;
+fn marks(out: &mut impl Write, t: &[bool]) -> io::Result<()> {
+    for x in t {
+        mark(out, *x)?;
     }
+    Ok(())
 }
 
-fn words(t: &[u32]) {
-    let mut i = 0;
-    while i < t.len() {
-        word(t[i]);
-        i += 1;
+fn words(out: &mut impl Write, t: &[u32]) -> io::Result<()> {
+    for x in t {
+        word(out, *x)?;
     }
+    Ok(())
 }
 
-fn values(t: &[i32]) {
-    let mut i = 0;
-    while i < t.len() {
-        value(t[i]);
-        i += 1;
+fn values(out: &mut impl Write, t: &[i32]) -> io::Result<()> {
+    for x in t {
+        value(out, *x)?;
     }
+    Ok(())
 }
 
 // The configuration of a chart.
-pub fn chart(active: &[bool; 48], variables: &[i32; 16], clocks: &[u32; 8]) {
-    marks(active);
-    values(variables);
-    words(clocks);
+pub fn chart(
+    out: &mut impl Write,
+    active: &[bool; 48],
+    variables: &[i32; 16],
+    clocks: &[u32; 8],
+) -> io::Result<()> {
+    marks(out, active)?;
+    values(out, variables)?;
+    words(out, clocks)
 }
 
 // The configuration of a network.
-pub fn network(locations: &[u8; 16], flags: &[u8; 16], variables: &[i32; 16], clocks: &[u32; 8]) {
-    bytes(locations);
-    bytes(flags);
-    values(variables);
-    words(clocks);
+pub fn network(
+    out: &mut impl Write,
+    locations: &[u8; 16],
+    flags: &[u8; 16],
+    variables: &[i32; 16],
+    clocks: &[u32; 8],
+) -> io::Result<()> {
+    bytes(out, locations)?;
+    bytes(out, flags)?;
+    values(out, variables)?;
+    words(out, clocks)
 }
 
 // A number after a comma, or as the first without one.
-fn listed(first: bool, n: u16) {
+fn listed(out: &mut impl Write, first: bool, n: u16) -> io::Result<()> {
     if !first {
-        text(b",");
+        text(out, b",")?;
     }
-    number(n as u64);
+    number(out, n as u64)
 }
 
 // Numbers with commas.
-pub fn numbers(t: &[u16]) {
-    let mut i = 0;
-    while i < t.len() {
-        listed(i == 0, t[i]);
-        i += 1;
+pub fn numbers(out: &mut impl Write, t: &[u16]) -> io::Result<()> {
+    for i in 0..t.len() {
+        listed(out, i == 0, t[i])?;
     }
+    Ok(())
 }

@@ -12,15 +12,17 @@ use console::print;
 use console::script::{Call, Line};
 use lists::number::least;
 use reading::field::byte_at;
+use std::io;
+use std::io::Write;
 
 // The declared part of a configuration. The counts stand in the file's header.
-pub fn show(file: &[u8], c: Configuration) {
+pub fn show(out: &mut impl Write, file: &[u8], c: Configuration) -> io::Result<()> {
     let active = c.active;
     let variables = c.variables;
     let clocks = c.clocks;
-    print::states(&active);
-    print::variables(&variables, byte_at(file, 5));
-    print::clocks(&clocks, byte_at(file, 4));
+    print::states(out, &active)?;
+    print::variables(out, &variables, byte_at(file, 5))?;
+    print::clocks(out, &clocks, byte_at(file, 4))
 }
 
 // What stands for a configuration before the start.
@@ -35,11 +37,11 @@ pub fn no_configuration() -> Configuration
 }
 
 // Asks for the longest wait, and shows it, or the refusal.
-pub fn show_longest(file: &[u8], c: Configuration) {
+pub fn show_longest(out: &mut impl Write, file: &[u8], c: Configuration) -> io::Result<()> {
     let longest = chart_machine::operation::longest(file, c);
     match longest {
-        Longest::Ticks(ticks) => print::longest(ticks),
-        Longest::Refused(k) => console::sentence::refused_call(k),
+        Longest::Ticks(ticks) => print::longest(out, ticks),
+        Longest::Refused(k) => console::sentence::refused_call(out, k),
     }
 }
 

@@ -2,18 +2,20 @@
 #![tactic(auto)]
 
 use reading::verdict::Verdict;
+use std::io;
+use std::io::Write;
 
-fn verdict(file: &[u8]) {
+fn verdict(out: &mut impl Write, file: &[u8]) -> io::Result<()> {
     let answer = chart::check::check(file);
     match answer {
-        Verdict::Done => console::print::text(b"passes\n"),
-        Verdict::Refused(k) => console::sentence::refusal(k),
+        Verdict::Done => console::print::text(out, b"passes\n"),
+        Verdict::Refused(k) => console::sentence::refusal(out, k),
     }
 }
 
 // One byte more is read than a chart may have, so that a longer input is refused as such.
-fn main() {
+fn main(rt: HostRuntime) -> io::Result<()> {
     let mut buffer = [0u8; 65537];
-    let n = io::read_full(0, &mut buffer);
-    verdict(&buffer[..n]);
+    let n = window::fill(&mut rt.stdin(), &mut buffer)?;
+    verdict(&mut rt.stdout(), &buffer[..n])
 }

@@ -1,94 +1,82 @@
-// Printing to standard output.
+// Printing, to an output.
+use std::io;
+use std::io::Write;
 
-pub fn text(s: &[u8]) {
-    io::write_all(1, s);
+pub fn text(out: &mut impl Write, s: &[u8]) -> io::Result<()> {
+    out.write_all(s)
 }
 
-pub fn line_end() {
-    text(b"\n");
+pub fn line_end(out: &mut impl Write) -> io::Result<()> {
+    text(out, b"\n")
 }
 
 // A number with a space before it.
-pub fn number(n: u64) {
-    text(b" ");
-    io::print_decimal(1, n);
+pub fn number(out: &mut impl Write, n: u64) -> io::Result<()> {
+    write!(out, " {n}")
 }
 
-pub fn byte(b: u8) {
-    number(b as u64);
+pub fn byte(out: &mut impl Write, b: u8) -> io::Result<()> {
+    number(out, b as u64)
 }
 
-fn word(n: u32) {
-    number(n as u64);
+fn word(out: &mut impl Write, n: u32) -> io::Result<()> {
+    number(out, n as u64)
 }
 
 // The line of the longest wait.
-pub fn longest(ticks: u32) {
-    text(b"  longest wait");
-    word(ticks);
-    line_end();
+pub fn longest(out: &mut impl Write, ticks: u32) -> io::Result<()> {
+    text(out, b"  longest wait")?;
+    word(out, ticks)?;
+    line_end(out)
 }
 
-pub fn signed_number(z: i32) {
-    if numbers::signed::is_negative(z) {
-        text(b" -");
-    } else {
-        text(b" ");
-    }
-    io::print_decimal(1, numbers::signed::absolute(z) as u64);
+pub fn signed_number(out: &mut impl Write, z: i32) -> io::Result<()> {
+    write!(out, " {z}")
 }
 
 // The first variables of sixteen, as many as are declared.
-pub fn variables(values: &[i32; 16], count: u8) {
-    text(b"  variables");
-    let mut i = 0;
-    while i < 16 {
+pub fn variables(out: &mut impl Write, values: &[i32; 16], count: u8) -> io::Result<()> {
+    text(out, b"  variables")?;
+    for i in 0..16 {
         let value = values[i];
         if i < count as usize {
-            signed_number(value);
+            signed_number(out, value)?;
         }
-        i += 1;
     }
-    line_end();
+    line_end(out)
 }
 
 // The first clocks of eight, as many as are declared.
-pub fn clocks(values: &[u32; 8], count: u8) {
-    text(b"  clocks");
-    let mut i = 0;
-    while i < 8 {
+pub fn clocks(out: &mut impl Write, values: &[u32; 8], count: u8) -> io::Result<()> {
+    text(out, b"  clocks")?;
+    for i in 0..8 {
         let value = values[i];
         if i < count as usize {
-            word(value);
+            word(out, value)?;
         }
-        i += 1;
     }
-    line_end();
+    line_end(out)
 }
 
 // The first of sixteen bytes under their name, as many as there are automata.
-pub fn automata(name: &[u8], values: &[u8; 16], count: u8) {
-    text(name);
-    let mut i = 0;
-    while i < 16 {
+pub fn automata(out: &mut impl Write, name: &[u8], values: &[u8; 16], count: u8) -> io::Result<()> {
+    text(out, name)?;
+    for i in 0..16 {
         let value = values[i];
         if i < count as usize {
-            byte(value);
+            byte(out, value)?;
         }
-        i += 1;
     }
-    line_end();
+    line_end(out)
 }
 
 // The numbers of the active states.
-pub fn states(active: &[bool; 48]) {
-    text(b"  active");
-    let mut s = 0;
-    while s < 48 {
+pub fn states(out: &mut impl Write, active: &[bool; 48]) -> io::Result<()> {
+    text(out, b"  active")?;
+    for s in 0..48 {
         if active[s] {
-            number(s as u64);
+            number(out, s as u64)?;
         }
-        s += 1;
     }
-    line_end();
+    line_end(out)
 }

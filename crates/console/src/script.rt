@@ -1,11 +1,13 @@
 // Scripts of calls, a line each: start, step 3 7, wait 5, longest. What follows # is a comment.
-ghost use Rattle.std.specs.Prelude.{◌≡◌, ◌-◌, eqb};
+ghost use Rattle.std.specs.Prelude.{◌≡◌, ◌-◌, IfOk, eqb};
 ghost use Rattle.reading.specs.Places.{onward};
 ghost use Rattle.console.specs.Script.{is_space, words, same_word, is_digit, number_of, plain_line, shortened, step_line, wait_line, alone_line, call_line, line_of, is_call, next_number};
 ghost use Rattle.console.specs.Places.{place_of, ends_run, with_digit, with_number, words_found, WordFits};
 
 use crate::print;
 use reading::field::byte_at;
+use std::io;
+use std::io::Write;
 
 #[derive(Clone, Copy)]
 pub enum Call {
@@ -282,39 +284,41 @@ pub fn next_number(number: u64) -> u64
     if number < 1000000 { number + 1 } else { number }
 }
 
-fn mistake(number: u64, text: &[u8], what: &[u8]) {
-    print::text(b"line");
-    print::number(number);
-    print::text(b": '");
-    print::text(text);
-    print::text(what);
-    print::line_end();
+fn mistake(out: &mut impl Write, number: u64, text: &[u8], what: &[u8]) -> io::Result<()> {
+    print::text(out, b"line")?;
+    print::number(out, number)?;
+    print::text(out, b": '")?;
+    print::text(out, text)?;
+    print::text(out, what)?;
+    print::line_end(out)
 }
 
 // Whether a line has a call. It is printed then, and what is wrong with one that should have a call and has none.
-pub fn is_call(call: Call, text: &[u8], number: u64) -> bool
-    ensures { result ≡ is_call call }
+pub fn is_call(out: &mut impl Write, call: Call, text: &[u8], number: u64) -> io::Result<bool>
+    ensures { IfOk result (λ b. b ≡ is_call call) }
 {
     match call {
-        Call::Nothing => return false,
+        Call::Nothing => return Ok(false),
         Call::Unknown => {
             mistake(
+                out,
                 number,
                 text,
                 b"' is no call; calls are start, step and numbers, wait and ticks, longest",
-            );
-            return false;
+            )?;
+            return Ok(false);
         }
         Call::Number => {
             mistake(
+                out,
                 number,
                 text,
                 b"' lacks a number, has one too many, or has a word that is no number up to 4,294,967,295",
-            );
-            return false;
+            )?;
+            return Ok(false);
         }
-        _ => print::text(text),
+        _ => print::text(out, text)?,
     }
-    print::line_end();
-    true
+    print::line_end(out)?;
+    Ok(true)
 }

@@ -7,6 +7,8 @@ use labels::{guard, label};
 use numbers::value::Value;
 use numbers::{signed, value};
 use reading::field::{Reached, TestRead};
+use std::io;
+use std::io::Write;
 
 // The first two of sixteen variables.
 fn variables(a: i32, b: i32) -> [i32; 16] {
@@ -25,81 +27,87 @@ fn clocks(x: u32, y: u32) -> [u32; 8] {
 }
 
 // A value: a number, or that there is none.
-fn value_or_none(x: Value) {
+fn value_or_none(out: &mut impl Write, x: Value) -> io::Result<()> {
     match x {
-        Value::Number(z) => signed_number(z),
-        Value::None => none(),
+        Value::Number(z) => signed_number(out, z),
+        Value::None => none(out),
     }
 }
 
 // The value of an expression where a is -7 and b is 8, and how many bytes it takes.
-pub fn show_value(s: &[u8]) {
+pub fn show_value(out: &mut impl Write, s: &[u8]) -> io::Result<()> {
     let values = variables(-7, 8);
     let v = expression::evaluate(s, expression::LEVELS, 16, &values);
     match v {
         ValueRead::Value(x, n) => {
-            value_or_none(x);
-            number(n as u64);
+            value_or_none(out, x)?;
+            number(out, n as u64)
         }
-        ValueRead::Fault(f) => fault(f),
+        ValueRead::Fault(f) => fault(out, f),
     }
 }
 
 // How many bytes an expression takes, as a file is checked.
-pub fn show_expression(s: &[u8]) {
+pub fn show_expression(out: &mut impl Write, s: &[u8]) -> io::Result<()> {
     let q = expression::read_expression(s, expression::LEVELS, 16);
     match q {
-        Reached::At(n) => number(n as u64),
-        Reached::Fault(f) => fault(f),
+        Reached::At(n) => number(out, n as u64),
+        Reached::Fault(f) => fault(out, f),
     }
 }
 
 // Whether a guard holds where a is 3 and b is 5, and the clocks are at 7 and 4.
-pub fn show_guard(s: &[u8]) {
+pub fn show_guard(out: &mut impl Write, s: &[u8]) -> io::Result<()> {
     let values = variables(3, 5);
     let t = guard::guard_holds(s, 0, 8, 16, &values, clocks(7, 4));
     match t {
         TestRead::Value(b, n) => {
-            truth(b);
-            number(n as u64);
+            truth(out, b)?;
+            number(out, n as u64)
         }
-        TestRead::Fault(f) => fault(f),
+        TestRead::Fault(f) => fault(out, f),
     }
 }
 
 // Whether the updates of a label's body stay in the range, and the first two variables after them, from 3 and 8, in a file
 // of version 2. The variables are 0 where there is no number for them; no step stores that.
-pub fn show_assigned(s: &[u8]) {
+pub fn show_assigned(out: &mut impl Write, s: &[u8]) -> io::Result<()> {
     let values = variables(3, 8);
     let after = label::assigned(s, 0, 2, 0, 16, values, values);
     let variables = after.values;
-    truth(after.within);
-    signed_number(variables[0]);
-    signed_number(variables[1]);
+    truth(out, after.within)?;
+    signed_number(out, variables[0])?;
+    signed_number(out, variables[1])
 }
 
 // An advance of steps and a remainder, in two's complement, by a ratio.
-pub fn show_advance(steps: u32, remainder: u32, numerator: u32, denominator: u32) {
+pub fn show_advance(
+    out: &mut impl Write,
+    steps: u32,
+    remainder: u32,
+    numerator: u32,
+    denominator: u32,
+) -> io::Result<()> {
     let x = signed::signed(steps);
     let y = signed::signed(remainder);
     let p = (numerator % 65536) as u16;
     let q = (denominator % 65536) as u16;
-    value_or_none(value::steps_after(x, y, p, q));
-    signed_number(signed::remainder_after(y, p, q));
+    value_or_none(out, value::steps_after(x, y, p, q))?;
+    signed_number(out, signed::remainder_after(y, p, q))
 }
 
 // A label of a file's version, with one clock, two variables and three channels: where its body stands, and rule 13.
-pub fn show_label(s: &[u8]) {
+pub fn show_label(out: &mut impl Write, s: &[u8]) -> io::Result<()> {
     if s.len() == 0 {
-        return;
+        return Ok(());
     }
     let l = label::read_label(&s[1..], 0, s[0], 1, 2, 3);
     match l {
         LabelRead::Label(k, next) => {
-            number(k.body as u64);
-            truth(k.once);
-            number(next as u64);
+            number(out, k.body as u64)?;
+            truth(out, k.once)?;
+            number(out, next as u64)
         }
-        LabelRead::Fault(f) => fault(f),
+        LabelRead::Fault(f) => fault(out, f),
     }
 }

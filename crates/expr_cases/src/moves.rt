@@ -2,6 +2,8 @@
 use crate::show::{number, text, truth};
 use clocks::clock;
 use reading::field::byte_at;
+use std::io;
+use std::io::Write;
 use steps::step;
 use steps::step::{Case, Member};
 
@@ -14,24 +16,24 @@ fn first(x: u32, others: u32) -> [u32; 8] {
 
 // A wait from a value of the first clock, on which alone is a bound: whether the clocks stay within the limit, and
 // whether the bound is kept.
-pub fn show_wait(bound: u32, value: u32, ticks: u32) {
+pub fn show_wait(out: &mut impl Write, bound: u32, value: u32, ticks: u32) -> io::Result<()> {
     let d = clock::later(1, ticks, first(value, 0));
     let later = d.clocks;
-    truth(d.within);
-    truth(clock::keeps(first(bound, 4294967295), later));
+    truth(out, d.within)?;
+    truth(out, clock::keeps(first(bound, 4294967295), later))
 }
 
 // A bound on the first clock and none on the others, joined with the same bound on all.
-pub fn show_joined(bound: u32, other: u32) {
+pub fn show_joined(out: &mut impl Write, bound: u32, other: u32) -> io::Result<()> {
     let joined = clock::join(first(bound, 4294967295), [other; 8]);
-    number(joined[0] as u64);
-    number(joined[1] as u64);
+    number(out, joined[0] as u64)?;
+    number(out, joined[1] as u64)
 }
 
 // The first clock after its reset.
-pub fn show_reset(value: u32) {
+pub fn show_reset(out: &mut impl Write, value: u32) -> io::Result<()> {
     let after = clock::reset(1, first(value, 0));
-    number(after[0] as u64);
+    number(out, after[0] as u64)
 }
 
 // A member of a set: signal, channel and owner.
@@ -45,26 +47,26 @@ fn member(s: &[u8], i: u8) -> Member {
 }
 
 // A set of one or two moves, three numbers each. Channel 0 is a rendezvous channel, channel 1 a broadcast channel.
-pub fn show_set(s: &[u8]) {
+pub fn show_set(out: &mut impl Write, s: &[u8]) -> io::Result<()> {
     let mut m = [member(s, 0); 16];
     m[1] = member(s, 1);
     let k = step::case_of(m, s.len() / 3, 1);
     match k {
-        Case::Refused => text(b" refused"),
-        Case::Allowed => text(b" allowed"),
+        Case::Refused => text(out, b" refused"),
+        Case::Allowed => text(out, b" allowed"),
         Case::Broadcast(channel) => {
-            text(b" broadcast");
-            number(channel as u64);
+            text(out, b" broadcast")?;
+            number(out, channel as u64)
         }
     }
 }
 
 // Whether a set that sends by automaton 0 alone is maximal: the automata of the receivers, 255 where one is not active.
-pub fn show_maximal(receivers: &[u8]) {
-    truth(step::maximal(receivers, &[0]));
+pub fn show_maximal(out: &mut impl Write, receivers: &[u8]) -> io::Result<()> {
+    truth(out, step::maximal(receivers, &[0]))
 }
 
 // Whether a list has edges of four, each once and in order.
-pub fn show_known(list: &[u16]) {
-    truth(step::known(list, 4));
+pub fn show_known(out: &mut impl Write, list: &[u16]) -> io::Result<()> {
+    truth(out, step::known(list, 4))
 }

@@ -1,40 +1,35 @@
-// Answers, on standard output.
-use numbers::signed;
+// Answers, on an output.
 use reading::field::Fault;
+use std::io;
+use std::io::Write;
 
-pub fn text(s: &[u8]) {
-    io::write_all(1, s);
+pub fn text(out: &mut impl Write, s: &[u8]) -> io::Result<()> {
+    out.write_all(s)
 }
 
-pub fn number(n: u64) {
-    text(b" ");
-    io::print_decimal(1, n);
+pub fn number(out: &mut impl Write, n: u64) -> io::Result<()> {
+    write!(out, " {n}")
 }
 
-pub fn signed_number(z: i32) {
-    if signed::is_negative(z) {
-        text(b" -");
-    } else {
-        text(b" ");
-    }
-    io::print_decimal(1, signed::absolute(z) as u64);
+pub fn signed_number(out: &mut impl Write, z: i32) -> io::Result<()> {
+    write!(out, " {z}")
 }
 
-pub fn truth(b: bool) {
+pub fn truth(out: &mut impl Write, b: bool) -> io::Result<()> {
     if b {
-        text(b" yes");
+        text(out, b" yes")
     } else {
-        text(b" no");
+        text(out, b" no")
     }
 }
 
-pub fn none() {
-    text(b" none");
+pub fn none(out: &mut impl Write) -> io::Result<()> {
+    text(out, b" none")
 }
 
-pub fn fault(f: Fault) {
+pub fn fault(out: &mut impl Write, f: Fault) -> io::Result<()> {
     match f {
-        Fault::Length => text(b" fault of the length"),
-        Fault::Range => text(b" out of range"),
+        Fault::Length => text(out, b" fault of the length"),
+        Fault::Range => text(out, b" out of range"),
     }
 }

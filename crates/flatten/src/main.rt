@@ -2,27 +2,26 @@
 #![tactic(auto)]
 
 use flattener::operation::Flattened;
+use std::io;
+use std::io::Write;
 
-fn write_refusal(k: u8) {
-    io::print_decimal(1, k as u64);
-    io::write_all(1, b"\n");
+fn write_refusal(out: &mut impl Write, k: u8) -> io::Result<()> {
+    writeln!(out, "{k}")
 }
 
 // Flattens a chart into a buffer of 65,536 bytes.
-fn answer(file: &[u8]) {
-    let mut buffer = io::large_buffer();
+fn answer(out: &mut impl Write, file: &[u8]) -> io::Result<()> {
+    let mut buffer = [0; 65536];
     let flattened = flattener::operation::flatten(file, &mut buffer);
     match flattened {
-        Flattened::Length(length) => {
-            io::write_all(1, &buffer[0..length]);
-        }
-        Flattened::Refused(k) => write_refusal(k),
+        Flattened::Length(length) => out.write_all(&buffer[0..length]),
+        Flattened::Refused(k) => write_refusal(out, k),
     }
 }
 
 // One byte more is read than a chart may have, so that a longer input is refused as such.
-fn main() {
+fn main(rt: HostRuntime) -> io::Result<()> {
     let mut buffer = [0u8; 65537];
-    let n = io::read_full(0, &mut buffer);
-    answer(&buffer[..n]);
+    let n = window::fill(&mut rt.stdin(), &mut buffer)?;
+    answer(&mut rt.stdout(), &buffer[..n])
 }

@@ -12,18 +12,20 @@ use lists::number::least;
 use network_machine::outcome::Outcome;
 use network_moves::configuration::Configuration;
 use reading::field::byte_at;
+use std::io;
+use std::io::Write;
 
 // The declared part of a configuration. The counts stand in the file's header.
-pub fn show(file: &[u8], c: Configuration) {
+pub fn show(out: &mut impl Write, file: &[u8], c: Configuration) -> io::Result<()> {
     let locations = c.locations;
     let flags = c.flags;
     let variables = c.variables;
     let clocks = c.clocks;
     let automata = byte_at(file, 5);
-    print::automata(b"  locations", &locations, automata);
-    print::automata(b"  flags", &flags, automata);
-    print::variables(&variables, byte_at(file, 10));
-    print::clocks(&clocks, byte_at(file, 9));
+    print::automata(out, b"  locations", &locations, automata)?;
+    print::automata(out, b"  flags", &flags, automata)?;
+    print::variables(out, &variables, byte_at(file, 10))?;
+    print::clocks(out, &clocks, byte_at(file, 9))
 }
 
 // What stands for a configuration before the start.
@@ -39,11 +41,11 @@ pub fn no_configuration() -> Configuration
 }
 
 // Asks for the longest wait, and shows it, or the refusal.
-pub fn show_longest(file: &[u8], c: Configuration) {
+pub fn show_longest(out: &mut impl Write, file: &[u8], c: Configuration) -> io::Result<()> {
     let longest = network_machine::operation::longest(file, c);
     match longest {
-        Longest::Ticks(ticks) => print::longest(ticks),
-        Longest::Refused(k) => console::sentence::refused_call(k),
+        Longest::Ticks(ticks) => print::longest(out, ticks),
+        Longest::Refused(k) => console::sentence::refused_call(out, k),
     }
 }
 

@@ -1,5 +1,5 @@
 // The calls of a script, on the network and on the chart that follows it.
-ghost use Rattle.std.specs.Prelude.{◌≡◌, []};
+ghost use Rattle.std.specs.Prelude.{◌≡◌, IfOk, []};
 ghost use Rattle.chart_records.specs.Chart.{Chart};
 ghost use Rattle.network_records.specs.Network.{Network};
 ghost use Rattle.agreement.specs.Agreement as agreed;
@@ -12,21 +12,23 @@ use lists::number::least;
 use paired_run::run;
 use paired_run::run::{Followed, Run};
 use reading::verdict::Verdict;
+use std::io;
+use std::io::Write;
 
 // Both machines start anew.
-fn started(file: &[u8], bytes: &[u8]) -> Run
-    ensures { (c : Chart) (n : Network) → Flattening file.now bytes.now c n → Stands result (agreed.run c n []) }
+fn started(out: &mut impl Write, file: &[u8], bytes: &[u8]) -> io::Result<Run>
+    ensures { IfOk result (λ r. (c : Chart) (n : Network) → Flattening file.now bytes.now c n → Stands r (agreed.run c n [])) }
 {
     let r = run::start(file, bytes);
-    show_network(bytes, r.network);
-    show_start();
-    r
+    show_network(out, bytes, r.network)?;
+    show_start(out)?;
+    Ok(r)
 }
 
 // What follows a call of the network, which is shown. The agreement says that the chart accepts the call that is read, if
 // the machines were started.
-fn shown(bytes: &[u8], f: Followed) -> Run
-    ensures { result ≡ f.run }
+fn shown(out: &mut impl Write, bytes: &[u8], f: Followed) -> io::Result<Run>
+    ensures { IfOk result (λ r. r ≡ f.run) }
 {
     let verdict = f.verdict;
     let reading = f.reading;
@@ -34,39 +36,45 @@ fn shown(bytes: &[u8], f: Followed) -> Run
     let answer = f.answer;
     let r = f.run;
     if let Verdict::Refused(k) = verdict {
-        console::sentence::refused_call(k);
+        console::sentence::refused_call(out, k)?;
     }
-    show_network(bytes, r.network);
-    show_call(reading, carried);
+    show_network(out, bytes, r.network)?;
+    show_call(out, reading, carried)?;
     if let Verdict::Refused(k) = answer {
-        console::sentence::refused_call(k);
+        console::sentence::refused_call(out, k)?;
     }
-    r
+    Ok(r)
 }
 
 // Both machines are asked for the longest wait, and stay as they are.
-fn asked(file: &[u8], bytes: &[u8], r: Run) -> Run
-    ensures { result ≡ r }
+fn asked(out: &mut impl Write, file: &[u8], bytes: &[u8], r: Run) -> io::Result<Run>
+    ensures { IfOk result (λ next. next ≡ r) }
 {
-    network_calls::show_longest(bytes, r.network);
-    show_network(bytes, r.network);
-    show_longest();
-    chart_calls::show_longest(file, r.chart);
-    r
+    network_calls::show_longest(out, bytes, r.network)?;
+    show_network(out, bytes, r.network)?;
+    show_longest(out)?;
+    chart_calls::show_longest(out, file, r.chart)?;
+    Ok(r)
 }
 
 // The run after a call of the network.
-pub fn after_call(file: &[u8], bytes: &[u8], r: Run, line: Line) -> Run
-    ensures { AfterLine file.now bytes.now r line result }
+pub fn after_call(
+    out: &mut impl Write,
+    file: &[u8],
+    bytes: &[u8],
+    r: Run,
+    line: Line,
+) -> io::Result<Run>
+    ensures { IfOk result (λ next. AfterLine file.now bytes.now r line next) }
 {
     let call = line.call;
     let list = line.list;
     let count = least(line.count, 17);
     match call {
-        Call::Start => started(file, bytes),
-        Call::Step => shown(bytes, run::after_step(file, bytes, r, &list[0..count])),
-        Call::Wait(ticks) => shown(bytes, run::after_wait(file, bytes, r, ticks)),
-        Call::Longest => asked(file, bytes, r),
-        _ => r,
+        Call::Start => started(out, file, bytes),
+        Call::Step => shown(out, bytes, run::after_step(file, bytes, r, &list[0..count])),
+        Call::Wait(ticks) => shown(out, bytes, run::after_wait(file, bytes, r, ticks)),
+        Call::Longest => asked(out, file, bytes, r),
+        _ => Ok(r),
     }
 }

@@ -2,56 +2,68 @@
 use console::print;
 use paired_run::carry::Transitions;
 use paired_run::run::Reading;
+use std::io;
+use std::io::Write;
 
 // The configuration of the network.
-pub fn show_network(file: &[u8], c: network_moves::configuration::Configuration) {
-    print::text(b" network\n");
-    network_calls::show(file, c);
+pub fn show_network(
+    out: &mut impl Write,
+    file: &[u8],
+    c: network_moves::configuration::Configuration,
+) -> io::Result<()> {
+    print::text(out, b" network\n")?;
+    network_calls::show(out, file, c)
 }
 
-fn show_number(n: u16) {
-    print::number(n as u64);
+fn show_number(out: &mut impl Write, n: u16) -> io::Result<()> {
+    print::number(out, n as u64)
 }
 
 // The first `count` numbers of a step.
-fn show_list(list: &[u16; 16], count: usize) {
+fn show_list(out: &mut impl Write, list: &[u16; 16], count: usize) -> io::Result<()> {
     for i in 0..16 {
         if i < count {
-            show_number(list[i]);
+            show_number(out, list[i])?;
         }
     }
+    Ok(())
 }
 
-pub fn show_start() {
-    print::text(b" chart: start\n");
+pub fn show_start(out: &mut impl Write) -> io::Result<()> {
+    print::text(out, b" chart: start\n")
 }
 
-pub fn show_longest() {
-    print::text(b" chart: longest\n");
+pub fn show_longest(out: &mut impl Write) -> io::Result<()> {
+    print::text(out, b" chart: longest\n")
 }
 
 // The call of the chart that is read.
-pub fn show_call(reading: Reading, carried: Transitions) {
+pub fn show_call(out: &mut impl Write, reading: Reading, carried: Transitions) -> io::Result<()> {
     let list = carried.list;
-    print::text(b" chart:");
+    print::text(out, b" chart:")?;
     match reading {
-        Reading::Nothing => print::text(b" no call"),
+        Reading::Nothing => print::text(out, b" no call")?,
         Reading::Step => {
-            print::text(b" step");
-            show_list(&list, carried.count);
+            print::text(out, b" step")?;
+            show_list(out, &list, carried.count)?;
         }
         Reading::Wait(ticks) => {
-            print::text(b" wait");
-            print::number(ticks as u64);
+            print::text(out, b" wait")?;
+            print::number(out, ticks as u64)?;
         }
     }
-    print::line_end();
+    print::line_end(out)
 }
 
 // The configuration of the chart, and how many urgent moves are owed.
-pub fn show_chart(file: &[u8], c: chart_moves::configuration::Configuration, owed: u64) {
-    chart_calls::show(file, c);
-    print::text(b" urgent moves owed:");
-    print::number(owed);
-    print::line_end();
+pub fn show_chart(
+    out: &mut impl Write,
+    file: &[u8],
+    c: chart_moves::configuration::Configuration,
+    owed: u64,
+) -> io::Result<()> {
+    chart_calls::show(out, file, c)?;
+    print::text(out, b" urgent moves owed:")?;
+    print::number(out, owed)?;
+    print::line_end(out)
 }

@@ -3,29 +3,31 @@ use answers::output;
 use break_windows::window::Best;
 use breaks::busiest::{Counted, busiest};
 use request_parts::ticks::fill_ticks;
+use std::io;
+use std::io::Write;
 
 // More ticks than a request can have: it has 131,072 bytes at most, and a tick has four.
 const TICKS: usize = 32768;
 
-fn show_best(best: Best) {
-    output::text(b"ok ");
-    output::number(best.count as u64);
-    output::text(b" ");
-    output::number(best.first as u64);
-    output::text(b"\n");
+fn show_best(out: &mut impl Write, best: Best) -> io::Result<()> {
+    output::text(out, b"ok ")?;
+    output::number(out, best.count as u64)?;
+    output::text(out, b" ")?;
+    output::number(out, best.first as u64)?;
+    output::text(out, b"\n")
 }
 
 // The most breaks and the first tick of the earliest window that has them, or the refusal.
-fn show(answer: Counted) {
+fn show(out: &mut impl Write, answer: Counted) -> io::Result<()> {
     match answer {
-        Counted::Breaks(best) => show_best(best),
-        Counted::Refused(k) => output::refusal(k),
+        Counted::Breaks(best) => show_best(out, best),
+        Counted::Refused(k) => output::refusal(out, k),
     }
 }
 
 // The breaks within a window of so many ticks; the ticks of the breaks stand in some bytes.
-pub fn count(bytes: &[u8], window: u32) {
+pub fn count(out: &mut impl Write, bytes: &[u8], window: u32) -> io::Result<()> {
     let mut ticks = [0; TICKS];
     let n = fill_ticks(bytes, &mut ticks);
-    show(busiest(&ticks[0..n], window));
+    show(out, busiest(&ticks[0..n], window))
 }

@@ -7,6 +7,8 @@ use chart_moves::configuration::Configuration;
 use reading::verdict::Verdict;
 use request_parts::calls::Call;
 use request_parts::input;
+use std::io;
+use std::io::Write;
 
 // The configuration in front of some bytes.
 fn configuration(s: &[u8]) -> Configuration {
@@ -17,49 +19,58 @@ fn configuration(s: &[u8]) -> Configuration {
     }
 }
 
-fn show_configuration(c: Configuration) {
-    output::text(b"ok ");
-    show::chart(c);
-    output::text(b"\n");
+fn show_configuration(out: &mut impl Write, c: Configuration) -> io::Result<()> {
+    output::text(out, b"ok ")?;
+    show::chart(out, c)?;
+    output::text(out, b"\n")
 }
 
-fn show_outcome(o: Outcome) {
+fn show_outcome(out: &mut impl Write, o: Outcome) -> io::Result<()> {
     let verdict = o.verdict;
     match verdict {
-        Verdict::Done => show_configuration(o.configuration),
-        Verdict::Refused(k) => output::refusal(k),
+        Verdict::Done => show_configuration(out, o.configuration),
+        Verdict::Refused(k) => output::refusal(out, k),
     }
 }
 
-pub fn check(file: &[u8]) {
+pub fn check(out: &mut impl Write, file: &[u8]) -> io::Result<()> {
     let verdict = chart::check::check(file);
     match verdict {
-        Verdict::Done => output::text(b"ok\n"),
-        Verdict::Refused(k) => output::refusal(k),
+        Verdict::Done => output::text(out, b"ok\n"),
+        Verdict::Refused(k) => output::refusal(out, k),
     }
 }
 
-pub fn start(file: &[u8]) {
-    show_outcome(operation::start(file));
+pub fn start(out: &mut impl Write, file: &[u8]) -> io::Result<()> {
+    show_outcome(out, operation::start(file))
 }
 
 // A step, of which so many numbers stand in front of some bytes.
-fn step(file: &[u8], given: Configuration, numbers: &[u8], count: u16) {
+fn step(
+    out: &mut impl Write,
+    file: &[u8],
+    given: Configuration,
+    numbers: &[u8],
+    count: u16,
+) -> io::Result<()> {
     let list = input::shorts(numbers, count);
     let size = count as usize;
-    show_outcome(operation::step(file, given, &list[0..size]));
+    show_outcome(out, operation::step(file, given, &list[0..size]))
 }
 
 // A call from the configuration that stands at a place.
-pub fn call(file: &[u8], s: &[u8], at: usize, c: Call) {
+pub fn call(out: &mut impl Write, file: &[u8], s: &[u8], at: usize, c: Call) -> io::Result<()> {
     let given = configuration(window::tail(s, at));
     match c {
-        Call::Step(count, from) => step(file, given, window::tail(s, from), count),
-        Call::Wait(ticks) => show_outcome(operation::wait(file, given, ticks)),
+        Call::Step(count, from) => step(out, file, given, window::tail(s, from), count),
+        Call::Wait(ticks) => show_outcome(out, operation::wait(file, given, ticks)),
     }
 }
 
 // The longest wait of the configuration that stands at a place.
-pub fn longest(file: &[u8], s: &[u8], at: usize) {
-    show::longest(operation::longest(file, configuration(window::tail(s, at))));
+pub fn longest(out: &mut impl Write, file: &[u8], s: &[u8], at: usize) -> io::Result<()> {
+    show::longest(
+        out,
+        operation::longest(file, configuration(window::tail(s, at))),
+    )
 }

@@ -15,7 +15,7 @@ mod paired_answers;
 mod paired_requests;
 mod show;
 
-ghost use Rattle.std.specs.Prelude.{◌≤◌, length};
+ghost use Rattle.std.specs.Prelude.{◌≤◌, IfOk, length};
 ghost use Rattle.reading.specs.Places.{reached_end};
 
 use answer::answer;
@@ -23,6 +23,8 @@ use answers::output;
 use reading::field::{Fault, Reached};
 use requests::request;
 use requests::request::RequestRead;
+use std::io;
+use std::io::{Read, Write};
 
 // How many bytes the window has, and so a request at most: twice as many as a chart can have.
 const WINDOW: usize = 131072;
@@ -38,21 +40,21 @@ fn stopped(f: Fault, at: usize) -> Reached
 }
 
 // Answers the whole requests in front of some bytes. The place after the last.
-fn answer_whole(s: &[u8]) -> Reached
-    ensures { reached_end result ≤ length s.now }
+fn answer_whole(out: &mut impl Write, s: &[u8]) -> io::Result<Reached>
+    ensures { IfOk result (λ r. reached_end r ≤ length s.now) }
 {
     let mut at = 0;
     while at < s.len() {
         let q = request::read_request(s, at);
         match q {
             RequestRead::Value(asked, next) => {
-                answer(s, asked);
+                answer(out, s, asked)?;
                 at = next;
             }
-            RequestRead::Fault(f) => return stopped(f, at),
+            RequestRead::Fault(f) => return Ok(stopped(f, at)),
         }
     }
-    Reached::At(at)
+    Ok(Reached::At(at))
 }
 
 // What follows a round: another, with so many bytes of a request in front of the window, or none.
@@ -62,56 +64,66 @@ enum Round {
     Last,
 }
 
-fn malformed() -> Round {
-    output::malformed();
-    Round::Last
+fn malformed(out: &mut impl Write) -> io::Result<Round> {
+    output::malformed(out)?;
+    Ok(Round::Last)
 }
 
 // Where the input ends nothing is left of a request.
-fn end(kept: usize) -> Round {
-    if kept == 0 { Round::Last } else { malformed() }
+fn end(out: &mut impl Write, kept: usize) -> io::Result<Round> {
+    if kept == 0 {
+        Ok(Round::Last)
+    } else {
+        malformed(out)
+    }
 }
 
 // Answers the whole requests in so many bytes of the window, and moves what is left of another to its front.
-fn answer_front(bytes: &mut [u8], full: usize) -> Round
+fn answer_front(out: &mut impl Write, bytes: &mut [u8], full: usize) -> io::Result<Round>
     requires { full ≤ length bytes.old }
 {
-    let q = answer_whole(&bytes[0..full]);
+    let q = answer_whole(out, &bytes[0..full])?;
     let Reached::At(at) = q else {
-        return malformed();
+        return malformed(out);
     };
     window::shift(bytes, at);
-    Round::Next(full - at)
+    Ok(Round::Next(full - at))
 }
 
 // Reads behind the bytes that were kept. A request that fills the window is not read on.
-fn read_on(bytes: &mut [u8], kept: usize) -> Round {
+fn read_on(
+    source: &mut impl Read,
+    out: &mut impl Write,
+    bytes: &mut [u8],
+    kept: usize,
+) -> io::Result<Round> {
     if bytes.len() <= kept {
-        return malformed();
+        return malformed(out);
     }
-    let count = io::read_full(0, &mut bytes[kept..]);
+    let count = window::fill(source, &mut bytes[kept..])?;
     if count == 0 {
-        return end(kept);
+        return end(out, kept);
     }
-    answer_front(bytes, kept + count)
+    answer_front(out, bytes, kept + count)
 }
 
 // A proved loop has to end, and nothing says that an input does: the rounds are counted, from a number that no run
 // uses up.
-fn answer_all(bytes: &mut [u8]) {
+fn answer_all(source: &mut impl Read, out: &mut impl Write, bytes: &mut [u8]) -> io::Result<()> {
     let mut kept = 0;
     let mut rounds = u64::MAX;
     while rounds > 0 {
-        let r = read_on(bytes, kept);
+        let r = read_on(source, out, bytes, kept)?;
         let Round::Next(left) = r else {
-            return;
+            return Ok(());
         };
         kept = left;
         rounds -= 1;
     }
+    Ok(())
 }
 
-fn main() {
+fn main(rt: HostRuntime) -> io::Result<()> {
     let mut bytes = [0; WINDOW];
-    answer_all(&mut bytes);
+    answer_all(&mut rt.stdin(), &mut rt.stdout(), &mut bytes)
 }

@@ -6,62 +6,65 @@ use chart_moves::configuration::Configuration;
 use paired_run::carry::Transitions;
 use paired_run::run::{Followed, Reading, Run};
 use reading::verdict::Verdict;
+use std::io;
+use std::io::Write;
 
-fn show_verdict(verdict: Verdict) {
+fn show_verdict(out: &mut impl Write, verdict: Verdict) -> io::Result<()> {
     match verdict {
-        Verdict::Done => output::text(b"ok "),
+        Verdict::Done => output::text(out, b"ok "),
         Verdict::Refused(k) => {
-            output::number(k as u64);
-            output::text(b" ");
+            output::number(out, k as u64)?;
+            output::text(out, b" ")
         }
     }
 }
 
 // No move carries over sixteen transitions.
-fn show_step(carried: Transitions) {
+fn show_step(out: &mut impl Write, carried: Transitions) -> io::Result<()> {
     let list = carried.list;
     let count = carried.count;
-    output::text(b" step ");
+    output::text(out, b" step ")?;
     if count <= 16 {
-        output::numbers(&list[0..count]);
+        output::numbers(out, &list[0..count])?;
     }
+    Ok(())
 }
 
-fn show_reading(reading: Reading, carried: Transitions) {
+fn show_reading(out: &mut impl Write, reading: Reading, carried: Transitions) -> io::Result<()> {
     match reading {
-        Reading::Nothing => output::text(b" none"),
-        Reading::Step => show_step(carried),
+        Reading::Nothing => output::text(out, b" none"),
+        Reading::Step => show_step(out, carried),
         Reading::Wait(ticks) => {
-            output::text(b" wait ");
-            output::number(ticks as u64);
+            output::text(out, b" wait ")?;
+            output::number(out, ticks as u64)
         }
     }
 }
 
 // What stands after the call that is read.
-fn show_chart(c: Configuration, owed: u64) {
-    output::text(b" ");
-    show::chart(c);
-    output::text(b" ");
-    output::number(owed);
-    output::text(b"\n");
+fn show_chart(out: &mut impl Write, c: Configuration, owed: u64) -> io::Result<()> {
+    output::text(out, b" ")?;
+    show::chart(out, c)?;
+    output::text(out, b" ")?;
+    output::number(out, owed)?;
+    output::text(out, b"\n")
 }
 
 // After the starts.
-pub fn show_start(r: Run) {
-    output::text(b"ok ");
-    show::network(r.network);
-    output::text(b" start");
-    show_chart(r.chart, r.owed);
+pub fn show_start(out: &mut impl Write, r: Run) -> io::Result<()> {
+    output::text(out, b"ok ")?;
+    show::network(out, r.network)?;
+    output::text(out, b" start")?;
+    show_chart(out, r.chart, r.owed)
 }
 
 // After a call of the network.
-pub fn show_call(f: Followed) {
+pub fn show_call(out: &mut impl Write, f: Followed) -> io::Result<()> {
     let run = f.run;
     let verdict = f.verdict;
     let reading = f.reading;
-    show_verdict(verdict);
-    show::network(run.network);
-    show_reading(reading, f.carried);
-    show_chart(run.chart, run.owed);
+    show_verdict(out, verdict)?;
+    show::network(out, run.network)?;
+    show_reading(out, reading, f.carried)?;
+    show_chart(out, run.chart, run.owed)
 }

@@ -12,6 +12,8 @@ ghost use Rattle.tick_lines.specs.Rings.{Holds};
 use console::print::{number, text};
 use console::script::NumberRead;
 use console::sentence::refusal;
+use std::io;
+use std::io::Write;
 use tick_lines::input;
 use tick_lines::input::{Read, State, Stop};
 
@@ -19,108 +21,113 @@ use tick_lines::input::{Read, State, Stop};
 const ROOM: usize = 65536;
 
 // So many of something, whose name is that of one.
-fn many(n: u64, name: &[u8]) {
-    number(n);
-    text(name);
+fn many(out: &mut impl Write, n: u64, name: &[u8]) -> io::Result<()> {
+    number(out, n)?;
+    text(out, name)?;
     if n != 1 {
-        text(b"s");
+        text(out, b"s")?;
     }
+    Ok(())
 }
 
 // The most breaks within a window, and where.
-fn show_breaks(count: usize, first: u32, window: u32) {
-    text(b"at most");
-    many(count as u64, b" break");
-    text(b" within");
-    many(window as u64, b" tick");
-    text(b", first in the window from tick");
-    number(first as u64);
-    text(b" on\n");
+fn show_breaks(out: &mut impl Write, count: usize, first: u32, window: u32) -> io::Result<()> {
+    text(out, b"at most")?;
+    many(out, count as u64, b" break")?;
+    text(out, b" within")?;
+    many(out, window as u64, b" tick")?;
+    text(out, b", first in the window from tick")?;
+    number(out, first as u64)?;
+    text(out, b" on\n")
 }
 
-fn show_unread() {
-    text(b"the input cannot be read\n");
+fn show_unread(out: &mut impl Write) -> io::Result<()> {
+    text(out, b"the input cannot be read\n")
 }
 
 // Why reading stopped, and at which line.
-fn show_stop(why: Stop, n: u64, window: u32) {
-    text(b"line");
-    number(n);
-    text(b": ");
+fn show_stop(out: &mut impl Write, why: Stop, n: u64, window: u32) -> io::Result<()> {
+    text(out, b"line")?;
+    number(out, n)?;
+    text(out, b": ")?;
     match why {
-        Stop::Bad => text(b"no number up to 4,294,967,295\n"),
-        Stop::Falls => refusal(29),
+        Stop::Bad => text(out, b"no number up to 4,294,967,295\n"),
+        Stop::Falls => refusal(out, 29),
         Stop::Full => {
-            text(b"over 65,536 breaks within");
-            many(window as u64, b" tick");
-            text(b", which is more than are counted\n");
+            text(out, b"over 65,536 breaks within")?;
+            many(out, window as u64, b" tick")?;
+            text(out, b", which is more than are counted\n")
         }
     }
 }
 
 // What is written at the end of the input, or where reading stopped.
-fn show(r: Read, window: u32) {
+fn show(out: &mut impl Write, r: Read, window: u32) -> io::Result<()> {
     match r {
         Read::On(state) => {
             let recent = state.recent;
-            show_breaks(recent.count, recent.first, window);
+            show_breaks(out, recent.count, recent.first, window)
         }
-        Read::Stopped(why, n) => show_stop(why, n, window),
+        Read::Stopped(why, n) => show_stop(out, why, n, window),
     }
 }
 
 // The last line may have no line feed.
-fn finish(ring: &mut [u32], state: State, window: u32)
+fn finish(out: &mut impl Write, ring: &mut [u32], state: State, window: u32) -> io::Result<()>
     requires { (1 ≤ window) × ((ts : List ℕ) × Holds window ring.old state.recent ts) }
 {
     let r = input::end_line(ring, state, window);
-    show(r, window);
+    show(out, r, window)
 }
 
 // A proved loop has to end, and nothing says that an input does: the rounds are counted, from a number that no run uses up.
-fn count(ring: &mut [u32], bytes: &mut [u8], window: u32)
+fn count(
+    source: &mut impl io::Read,
+    out: &mut impl Write,
+    ring: &mut [u32],
+    bytes: &mut [u8],
+    window: u32,
+) -> io::Result<()>
     requires { (1 ≤ window) × (length ring.old ≡ 65536) }
 {
     let mut state = input::start();
     let mut rounds = u64::MAX;
     while rounds > 0 {
-        let got = libc::read(0, bytes);
-        if got < 0 {
-            show_unread();
-            return;
-        }
-        let n = io::count(got, bytes);
+        let got = source.read(bytes);
+        let Ok(n) = got else {
+            return show_unread(out);
+        };
         if n == 0 {
-            finish(ring, state, window);
-            return;
+            return finish(out, ring, state, window);
         }
         let r = input::take_bytes(ring, state, &bytes[0..n], window);
         let Read::On(next) = r else {
-            show(r, window);
-            return;
+            return show(out, r, window);
         };
         state = next;
         rounds -= 1;
     }
+    Ok(())
 }
 
-fn count_within(window: u32) {
+fn count_within(source: &mut impl io::Read, out: &mut impl Write, window: u32) -> io::Result<()> {
     if window == 0 {
-        refusal(29);
-        return;
+        return refusal(out, 29);
     }
     let mut ring = [0u32; ROOM];
-    let mut bytes = io::large_buffer();
-    count(&mut ring, &mut bytes, window);
+    let mut bytes = [0; 65536];
+    count(source, out, &mut ring, &mut bytes, window)
 }
 
-fn main() {
-    let mut word = io::buffer();
-    let length = os::arg(1, &mut word);
+fn main(rt: HostRuntime) -> io::Result<()> {
+    let mut out = rt.stdout();
+    let mut word = [0; 4096];
+    let length = console::file::first_argument(&rt, &mut word);
     let w = console::script::number(&word[..length]);
     match w {
-        NumberRead::Value(window) => count_within(window),
+        NumberRead::Value(window) => count_within(&mut rt.stdin(), &mut out, window),
         NumberRead::Bad => text(
+            &mut out,
             b"the first argument has to be the window: a number from 1 to 4,294,967,295\n",
         ),
     }

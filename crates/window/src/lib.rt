@@ -2,8 +2,26 @@
 #![tactic(auto)]
 
 ghost use Rattle.std.specs.Prelude.{◌≡◌, ◌++◌, ◌-◌, length, take, drop};
+ghost use Rattle.std.specs.Io.{ReadsAtMost};
 
 use reading::field::left;
+use std::io;
+use std::io::Read;
+
+// Reads until the bytes are full or the input ends, and answers how many were read.
+pub fn fill(input: &mut impl Read, bytes: &mut [u8]) -> io::Result<usize>
+    ensures { ReadsAtMost result bytes.new }
+{
+    let mut done = 0;
+    while done < bytes.len() {
+        let n = input.read(&mut bytes[done..])?;
+        if n == 0 {
+            break;
+        }
+        done += n;
+    }
+    Ok(done)
+}
 
 // The bytes in front of a place.
 pub fn front(s: &[u8], to: usize) -> &[u8]
