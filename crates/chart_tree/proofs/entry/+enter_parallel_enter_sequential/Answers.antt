@@ -1,4 +1,4 @@
-use Rattle.std.proofs.Common.{rules, arith, ◌≡◌, ◌∙◌, sym}
+use Rattle.std.proofs.Common.{rules, arith, ◌∙◌, sym}
 use Rattle.chart_tree.proofs.Entries.{opens_marked, opens_every, enters_child, kind_basic, kind_parallel, grown_none, grown_skip, grown_more, grown_leaf, grown_all}
 use Rattle.chart_tree.proofs.entry.+enter_parallel_enter_sequential.Goals as goal
 use Rattle.chart_tree.proofs.entry.+enter_parallel_enter_sequential.Goals.{enter_parallel-then-is_child+in-0, enter_parallel-then-is_child+in-2, enter_parallel-then-is_child+in_default, enter_parallel-else-is_child, enter_sequential-then-is_marked_child+in-0, enter_sequential-then-is_marked_child+in-2, enter_sequential-then-is_marked_child+in_default, enter_sequential-else-is_marked_child}

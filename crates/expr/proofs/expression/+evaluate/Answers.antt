@@ -1,4 +1,4 @@
-use Rattle.std.proofs.Common.{arith, ℕ, List, ◌≡◌, ◌≢◌, ◌+◌, ◌-◌, ◌≤◌, ◌<◌, sym, ap, ◌∙◌, length, get_or, ℤ}
+use Rattle.std.proofs.Common.{arith, ℕ, List, ◌≡◌, ◌≢◌, ◌-◌, ◌≤◌, ◌<◌, sym, ap, ◌∙◌, length, get_or, ℤ}
 use Rattle.reading.specs.Reading.{Reader, yield, ◌>>=◌, mapped}
 use Rattle.numbers.specs.Value.{combined, divided}
 use Rattle.numbers.specs.declared.value.Value.{Value}

@@ -1,4 +1,4 @@
-use Rattle.std.proofs.Common.{arith, ℕ, List, ◌≡◌, ◌≢◌, ◌+◌, ◌-◌, ◌≤◌, ◌<◌, refl, sym, ap, ◌∙◌, length, get_or}
+use Rattle.std.proofs.Common.{arith, ℕ, List, ◌≡◌, ◌≢◌, ◌-◌, ◌≤◌, ◌<◌, refl, sym, ap, ◌∙◌, length, get_or}
 use Rattle.reading.specs.Reading.{Reader, yield, ◌>>=◌, mapped, skipped}
 use Rattle.expr.specs.Expression.{divisor, expression}
 use Rattle.reading.specs.Places.{onward, reached}
