@@ -15,10 +15,10 @@ returns-then-exit c = λ d n s q T S L h o f g m R.
 
 pub returns-then-size-gt1024 : goal.returns-then-size-gt1024
 returns-then-size-gt1024 c = λ d n s q T S L h o f g m R.
-    bear_over d _ _ _ T S n _ _ L _ h _ o _ _ q f g m c.signals_of-s.ensures c.left_by-2-1.ensures _ c.if-exit.ensures
-    c.tree-1.false c.of_transition.ensures c.sets_by-size.ensures R _ _ c.if-size-gt1024.true
+    bear_over d _ _ _ T S n _ _ L _ h _ o _ _ q f g m c.joining-e.ensures c.signals_of-s.ensures _ c.of_transition-exit.ensures
+    c.if-exit.false c.of_transition.ensures c.sets_by-size.ensures R _ _ c.if-size-gt1024.true
 
 pub returns : goal.returns
 returns c = λ d n s q T S L h o f g m R.
     bear_some d _ _ _ T S n _ _ L _ h _ o _ _ q f g m c.joining-e.ensures c.signals_of-s.ensures _ c.of_transition-exit.ensures
-    c.if-exit.false c.sources-2-1.ensures c.sets_by-arg-3-1.ensures R c.sets_by-size.false c.start_off-off.ensures c.bear_each.ensures
+    c.if-exit.false c.of_transition.ensures c.sets_by-size.ensures R c.if-size-gt1024.false c.start_off-off.ensures c.bear_each.ensures

@@ -12,7 +12,7 @@ pub loop-k-init : goal.loop-k-init
 loop-k-init c = λ d p q l xs B. walk_none _ xs _ _
 
 pub loop-k-preserved : goal.loop-k-preserved
-loop-k-preserved c = λ d p q l xs B. set_more d p q l xs _ _ _ _ _ _ _ B _ _ _ _ (c.loop-k-test.invariant d p q l xs B) c.way_told-1.true refl c.exit_tested-by.ensures refl c.bearing_head-h.ensures c.push-n.ensures
+loop-k-preserved c = λ d p q l xs B. set_more d p q l xs _ _ _ _ _ _ _ B _ _ _ _ (c.loop-k.invariant d p q l xs B) c.loop-k-test.true refl c.exit_tested-by.ensures refl c.bearing_head-h.ensures c.push-n.ensures
 
 pub returns : goal.returns
 returns c = λ d p q l xs B. set_all d p q l xs _ _ _ _ _ _ _ B _ (c.loop-k.invariant d p q l xs B) c.loop-k-test.false

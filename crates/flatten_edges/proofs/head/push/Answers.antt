@@ -12,7 +12,7 @@ pub loop-k-init : goal.loop-k-init
 loop-k-init c = (omega arith, λ i. copied_none _ _ _)
 
 pub loop-k-preserved : goal.loop-k-preserved
-loop-k-preserved c = (omega arith, λ i. copied_more _ _ _ _ _ _ (c.loop-k-test.invariant.1 i) (omega (arith, ap length c.loop-k.ensures, length_head c.args.h)) (omega arith) refl)
+loop-k-preserved c = (omega arith, λ i. copied_more _ _ _ _ _ _ (c.loop-k.invariant.1 i) (omega (arith, ap length c.bytes_of-bytes.ensures, length_head c.args.h)) (omega arith) refl)
 
 pub returns : goal.returns
 returns c = λ e h. adds_one _ _ _ _ _ _ e c.bytes_of-bytes.ensures c.if-count-ge1024.false c.loop-k-test.false c.loop-k.invariant.0 c.loop-k.invariant.1 h

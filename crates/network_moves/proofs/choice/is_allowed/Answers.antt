@@ -14,5 +14,5 @@ pub returns-in-Allowed : goal.returns-in-Allowed
 returns-in-Allowed c = λ n L h l. allowed_as L c.args.c c.args.list.now c.members_of-members.result (c.members_of-members.ensures n L h l) Case.Allowed c.case_of-case.ensures c.in-Allowed.is
 
 pub returns-in-Broadcast : goal.returns-in-Broadcast
-returns-in-Broadcast c = λ n L h l. let e = c.if-count-gt16.ensures n L h l in
-    c.none_fits.ensures n _ L (owners_part L c.before.args.c c.before.args.list.now c.if-count-gt16.result e c.members_of-members.ensures) ∙ allowed_as L c.before.args.c c.before.args.list.now c.if-count-gt16.result e (Case.Broadcast _) c.owners_of-owners.ensures c.in-Broadcast.given.1
+returns-in-Broadcast c = λ n L h l. let e = c.members_of-members.ensures n L h l in
+    c.none_fits.ensures n _ L (owners_part L c.before.args.c c.before.args.list.now c.members_of-members.result e c.owners_of-owners.ensures) ∙ allowed_as L c.before.args.c c.before.args.list.now c.members_of-members.result e (Case.Broadcast _) c.case_of-case.ensures c.in-Broadcast.is

@@ -1,0 +1,17 @@
+use mathlib.Core.Path.{◌≡◌}
+use mathlib.Core.Bool.{true}
+use mathlib.Core.List.{map}
+use Prim.Native.Nat.{◌-◌}
+use lib.ListN.{length, take}
+use Rattle.steps.specs.Moves.{known}
+use Rattle.chart_records.specs.Chart.{Chart, transition_at}
+use Rattle.chart_records.specs.Laid.{Laid}
+use Rattle.chart_moves.specs.Active.{Moved}
+use Rattle.chart_records.specs.declared.header.Counts.{Counts}
+use Rattle.chart_steps.proofs.taken.moves_of.Given as goal
+
+abbrev pub invariant-loop-i : goal.invariant-loop-i
+invariant-loop-i l = (c : Chart) (n : Counts) → Laid l.rest n l.offsets c → known n.transitions l.list ≡ true → Moved (map (transition_at c) (take l.i l.list)) l.moves
+
+abbrev pub decreases-loop-i : goal.decreases-loop-i
+decreases-loop-i l = length l.list - l.i
