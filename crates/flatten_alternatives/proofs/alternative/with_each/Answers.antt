@@ -1,4 +1,3 @@
-use Prim.Native.Nat.{◌-◌}
 use native.Mathlib.Omega.{arith}
 use Rattle.flatten_alternatives.proofs.Keeping.{each_over, each_next, each_last}
 use Rattle.flatten_alternatives.proofs.alternative.with_each.Goals as goal

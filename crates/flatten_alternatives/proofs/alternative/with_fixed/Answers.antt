@@ -1,4 +1,3 @@
-use Rattle.lists.specs.Lists.{has}
 use Rattle.flatten_alternatives.proofs.Keeping.{kept_if, kept_unless}
 use Rattle.flatten_alternatives.proofs.alternative.with_fixed.Goals as goal
 
