@@ -13,7 +13,7 @@ use Rattle.network_records.proofs.edge.edge_at.Goals.{In-Part}
 
 -- the record's bytes are bytes of the file
 fits : (c : In-Part) → (c.in-Part.from ≤ c.in-Part.to) × (c.in-Part.to ≤ length c.args.rest.now)
-fits k = frame_fits _ k.before.before.before.read-long-frame.ensures.1 k.before.p.given.1
+fits c = frame_fits _ c.read_long_frame-p.ensures.within c.in-Part.is
 
 pub returns-in_default : goal.returns-in_default
 returns-in_default c = λ g. rw (c.frame_fault.ensures ∙ ap frame_fault c.in_default.is)
