@@ -63,10 +63,8 @@ fn read_on(out: &mut impl Write, c: Case, b: u8) -> io::Result<Case> {
 
 fn answer_all(out: &mut impl Write, s: &[u8]) -> io::Result<()> {
     let mut c = Case::new();
-    let mut i = 0;
-    while i < s.len() {
-        c = read_on(out, c, s[i])?;
-        i += 1;
+    for b in s {
+        c = read_on(out, c, *b)?;
     }
     Ok(())
 }

@@ -111,14 +111,12 @@ fn read_on(
 // uses up.
 fn answer_all(source: &mut impl Read, out: &mut impl Write, bytes: &mut [u8]) -> io::Result<()> {
     let mut kept = 0;
-    let mut rounds = u64::MAX;
-    while rounds > 0 {
+    for _ in 0..u64::MAX {
         let r = read_on(source, out, bytes, kept)?;
         let Round::Next(left) = r else {
             return Ok(());
         };
         kept = left;
-        rounds -= 1;
     }
     Ok(())
 }

@@ -54,15 +54,13 @@ fn take_calls(out: &mut impl Write, file: &[u8], network: &[u8], s: &[u8]) -> io
     show_start(out, r)?;
     let count = input::short(s, 0);
     let mut at = 2;
-    let mut i = 0;
-    while i < count {
+    for _ in 0..count {
         let c = calls::read_call(s, at);
         let CallRead::Value(call, next) = c else {
             return Ok(());
         };
         r = take_call(out, file, network, r, s, call)?;
         at = next;
-        i += 1;
     }
     Ok(())
 }

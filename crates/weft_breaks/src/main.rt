@@ -91,8 +91,7 @@ fn count(
     requires { (1 ≤ window) × (length ring.old ≡ 65536) }
 {
     let mut state = input::start();
-    let mut rounds = u64::MAX;
-    while rounds > 0 {
+    for _ in 0..u64::MAX {
         let got = source.read(bytes);
         let Ok(n) = got else {
             return show_unread(out);
@@ -105,7 +104,6 @@ fn count(
             return show(out, r, window);
         };
         state = next;
-        rounds -= 1;
     }
     Ok(())
 }
