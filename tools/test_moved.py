@@ -98,6 +98,19 @@ class Invented(unittest.TestCase):
                    changed=['f'])
         self.check('proof', {'crates/far_off/proofs/m/g/Proof.antt': 'returns c = code.calls-far-off·m·h c\n'},
                    {'crates/near/proofs/m/g/Proof.antt': 'returns c = code.calls-near·m·h c\n'}, moved=['g far_off>near'])
+        # today's paths, also beside those of the older Rattle
+        new = 'f : ℕ\nf = Rattle.near.specs.Lists.size a\n'
+        for one in ('f : ℕ\nf = Rattle·far_off·specs.specs.Lists.size a\n', new.replace('near', 'far_off')):
+            self.check('definition', {'crates/near/specs/X.antt': one, 'crates/far_off/specs/Y.antt': ''},
+                       {'crates/near/specs/X.antt': new, 'crates/far_off/specs/Y.antt': ''}, same=['f'])
+        self.check('definition', {'crates/near/specs/X.antt': new}, {'crates/near/specs/X.antt': new.replace('.near', '.std')}, changed=['f'])
+
+    def test_proofs_of_both_forms(self):
+        old = {'crates/a/proofs/m/f/Proof.antt': 'returns c = g c\n', 'crates/a/proofs/m/h/Proof.antt': 'returns c = k c\n'}
+        new = {'crates/a/proofs/m/f/Answers.antt': 'returns c = g c\n', 'crates/a/proofs/m/f/Invariants.antt': 'invariant-loop-i l = p l\n',
+               'crates/a/proofs/m/h/Answers.antt': 'returns c = q c\n'}
+        self.check('proof', old, new, moved=['f'], changed=['h'], new=['f/Invariants'])
+        self.check('proof', new, new, same=['f', 'f/Invariants', 'h'])
 
     def test_operators_records_and_data(self):
         old = ('infixl 20 _>>=_\npub _>>=_ : A → B\n_>>=_ (done a) k = k a\n\n'
@@ -141,6 +154,10 @@ class Invented(unittest.TestCase):
         self.check('proof', {'crates/a/proofs/m/f/Proof.antt': same, 'crates/a/proofs/m/g/Proof.antt': same},
                    {'crates/b/proofs/m/g/Proof.antt': same, 'crates/b/proofs/k/h/Proof.antt': same},
                    moved=['g a>b'], gone=['f'], new=['h'])
+
+    def test_the_type_of_an_impl(self):
+        text = 'impl<\'a> T<\'a> {\n    fn a() {}\n}\n\nimpl fmt::Display for U {\n    fn b() {}\n}\n\nimpl V {\n    fn c() {}\n}\n'
+        self.assertEqual([i.name for i in moved.in_file('crates/a/src/m.rt', text)], ['T::a', 'U::b', 'V::c'])
 
     def test_promises(self):
         old = ('ghost use Rattle·a.specs.X.{f};\n// a function\npub fn f(x: u8, t: [u8; 4]) -> u8\n    ensures is { λ r. ⌜ r ≡ g {n = 1} x ⌝ }\n'
@@ -193,7 +210,7 @@ def code_lines(files, folder):
     """How often each line of code stands in the .antt files of a folder of the crates; read without tools/moved's reader."""
     lines = collections.Counter()
     for path, text in files.items():
-        if path.split('/')[2] == folder and path.endswith('.antt') and not path.endswith('/Proof.antt'):
+        if path.split('/')[2] == folder and path.endswith('.antt') and not moved.PROOF.search(path):
             for line in text.split('\n'):
                 line = re.sub(r'(^|\s)--(\s.*)?$', '', line).rstrip()
                 if line and not re.match(r'(pub )?(use|mod) ', line):
@@ -224,7 +241,7 @@ class History(unittest.TestCase):
             heads = sum(len(re.findall(r'^\s*(?:pub )?(?:extern "C" )?fn ', text, re.M)) for text in rt)
             found = collections.Counter(pair[side].kind for pair in pairs if pair[side])
             self.assertEqual(found['promise'], heads)
-            self.assertEqual(found['proof'], sum(path.endswith('/Proof.antt') for path in files))
+            self.assertEqual(found['proof'], sum(bool(moved.PROOF.search(path)) for path in files))
             self.assertEqual(found['edit'], sum(path.endswith('.edit') for path in files))
         return before, after, pairs
 

@@ -2,45 +2,70 @@
 """Tests of tools/seconds on an invented log, in the words that rt prints."""
 import os
 import subprocess
+import sys
 import tempfile
+import time
 import unittest
 
 SECONDS = os.path.join(os.path.dirname(os.path.abspath(__file__)), 'seconds')
 
-LOG = """crates/base/proofs/X.antt:1:2: note: large solution: rt: base proved (999 s)
+LOG = """crates/base/proofs/X.antt:1:2: note: large solution: rt: base proved
 fn base::f: proved
 logic=proved functions=119 sum=064d
-rt: base proved (136 s)
-rt: two_words proved (unchanged since it was last proved)
-rt: bad NOT PROVED (exit 1, 12 s)
-rt: above NOT PROVED: its dependency bad is not proved
-rt: program proved (7 s)
-rt: broken proved (3 s)
-rt: must-fail base/one: refused, as it must be (first at src/field.rt:12:5; 130 s)
-rt: must-fail base/two: refused, as it must be (4 s)
-rt: must-fail two_words/kept: NOT REFUSED: the crate is still proved with this edit (50 s)
-rt: must-fail two_words/fine: refused, as it must be (first at proofs/m/f/Proof.antt:3:1; 2 s)
-rt: must-fail program/wrong: BAD EDIT: an 'old:' text is not in src/main.rt
-rt: program ran as nobody, and wrote what its file 'stdout' has (2 s)
-rt: broken proved, and its run FAILED (1 s)
-rt: FAILED: bad above two_words/kept program/wrong broken
+rt: base proved
+rt: base: trying its must-fail edits (2)
+rt: two_words is kept: an earlier run on this machine proved the same files over the same libraries
+rt: bad NOT PROVED
+rt: above NOT PROVED: its library bad failed
+rt: half: its tests are NOT PROVED
+rt: half proved
+rt: program: its tests are proved
+rt: program proved
+rt: broken proved
+rt: must-fail base/one.edit: refused, as it must be: note: src/field.rt:12:5: it is not proved that what the function ensures holds
+rt: must-fail base/two.edit: refused, as it must be (only by a limit of the prover, which gave no verdict): proofs/X.antt:1:2
+rt: two_words: 2 of its 2 must-fail edits were tried by an earlier run on this machine, and nothing that they stand on has changed
+rt: must-fail two_words/fine.edit: refused, as it must be
+rt: must-fail two_words/other.edit: refused, as it must be: proofs/m/f/Answers.antt:3:1: error
+rt: part: 1 of its 2 must-fail edits were tried by an earlier run on this machine, and nothing that they stand on has changed
+rt: must-fail part/old.edit: refused, as it must be
+rt: must-fail part/new.edit: refused, as it must be
+rt: must-fail broken/kept.edit: NOT REFUSED: the crate is still proved with this edit
+rt: must-fail program/wrong.edit: BAD EDIT: an 'old:' text is in src/main.rt 0 times, and not once
+rt: program ran, and wrote what its file stdout has
+rt: program ran (built by Rattle's own compiler), and wrote what its file stdout has
+rt: broken: what the program wrote, out/stdout, is not what its file stdout has: they differ first at byte 1, line 1
+rt: FAILED: bad above half broken/kept.edit broken (run)
+"""
+
+SEEN = """above\tproof\t1.0
+base\tedit_seconds\t133.8
+base\tproof\t136.4
+broken\tproof\t3.2
+half\tproof\t9.0
+part\tedit_seconds\t7.0
+program\tproof\t7.0
+program\trun\t2.2
 """
 
 TABLE = """crate\tproof\tedits\tedit_seconds\trun
 above\tfailed\t-\t-\t-
 bad\tfailed\t-\t-\t-
 base\t136\t2\t134\t-
-broken\t3\t-\t-\tfailed
+broken\t3\t1\tfailed\tfailed
+half\tfailed\t-\t-\t-
+part\t-\t2\t7\t-
 program\t7\t1\tfailed\t2
-two_words\tunchanged\t2\tfailed\t-
-total\t146\t5\t134\t2
+two_words\tkept\t2\tkept\t-
+total\t146\t8\t141\t2
 clock\t200\t-\t-\t-
 """
 
 # nine crates have edits; of two with as many seconds the first by name comes first
-MANY = [('low', 1), ('b', 30), ('a', 30), ('many', 20), ('many', 25), ('many', 5), ('four', 4), ('five', 5), ('a_longer_name', 200),
-        ('six', 6), ('seven', 7)]
-MANY = ''.join(f'rt: must-fail {crate}/x: refused, as it must be (first at src/lib.rt:1:1; {seconds} s)\n' for crate, seconds in MANY)
+MANY = [('low', 1, 1), ('b', 1, 30), ('a', 1, 30), ('many', 3, 50), ('four', 1, 4), ('five', 1, 5), ('a_longer_name', 1, 200),
+        ('six', 1, 6), ('seven', 1, 7)]
+MANY_SEEN = ''.join(f'{crate}\tedit_seconds\t{seconds}\n' for crate, _, seconds in MANY)
+MANY = ''.join(f'rt: must-fail {crate}/x{i}.edit: refused, as it must be: src/lib.rt:1:1\n' for crate, edits, _ in MANY for i in range(edits))
 
 PRINTED = """must-fail edits          edits  seconds   each
 a_longer_name                1      200  200.0
@@ -77,32 +102,60 @@ class Seconds(unittest.TestCase):
             return file.read()
 
     def test_table(self):
-        self.assertEqual(self.written(LOG, '200'), TABLE)
+        self.assertEqual(self.written(LOG, '200', '--seen', self.file('seen', SEEN)), TABLE)
 
     def test_without_the_clock(self):
-        self.assertEqual(self.written(LOG), TABLE.replace('clock\t200\t-\t-\t-\n', ''))
+        self.assertEqual(self.written(LOG, '--seen', self.file('seen', SEEN)), TABLE.replace('clock\t200\t-\t-\t-\n', ''))
 
-    def printed(self, log, *more):
-        run = self.run_tool(self.file('log', log), *more, '--to', os.path.join(self.room.name, 'seconds.tsv'))
+    def test_where_nothing_was_seen(self):
+        lines = self.written(LOG).split('\n')
+        self.assertEqual(lines[3:5], ['base\tdone\t2\tdone\t-', 'broken\tdone\t1\tfailed\tfailed'])
+        self.assertEqual(lines[-2], 'total\t0\t8\t0\t0')
+
+    def printed(self, log, seen, *more):
+        run = self.run_tool(self.file('log', log), *more, '--seen', self.file('seen', seen), '--to', os.path.join(self.room.name, 'seconds.tsv'))
         self.assertEqual((run.returncode, run.stderr), (0, ''))
         return run.stdout
 
     def test_the_crates_whose_edits_cost_most(self):
-        self.assertEqual(self.printed(MANY), PRINTED)
+        self.assertEqual(self.printed(MANY, MANY_SEEN), PRINTED)
 
     def test_a_crate_whose_edit_failed_has_no_seconds(self):
-        self.assertEqual([line.split() for line in self.printed(LOG).splitlines()[1:]],
-                         [['base', '2', '134', '67.0'], ['all', '1', 'crates', 'with', 'edits', '2', '134', '67.0']])
+        self.assertEqual([line.split() for line in self.printed(LOG, SEEN).splitlines()[1:]],
+                         [['base', '2', '134', '67.0'], ['part', '2', '7', '3.5'], ['all', '2', 'crates', 'with', 'edits', '4', '141', '35.2']])
 
     def test_the_clock_beside_the_budget(self):
         for clock, took, verdict in ((1500, '25:00', '0:00 left'), (1501, '25:01', '0:01 over it'),
                                      (2285, '38:05', '13:05 over it'), (59, '0:59', '24:01 left')):
             said = f'the run took {took} minutes by the clock; the budget is 25:00, {verdict}\n'
-            self.assertEqual(self.printed(MANY, str(clock)), PRINTED + said)
-            self.assertEqual(self.printed('rt: base proved (136 s)\n', str(clock)), said)
+            self.assertEqual(self.printed(MANY, MANY_SEEN, str(clock)), PRINTED + said)
+            self.assertEqual(self.printed('rt: base proved\n', '', str(clock)), said)
 
-    def test_a_program_that_runs_as_its_own_user(self):
-        self.assertEqual(self.written("rt: p proved (1 s)\nrt: p ran, and wrote what its file 'stdout' has (5 s)\n").split('\n')[1], 'p\t1\t-\t-\t5')
+    def test_what_runs_is_seen(self):
+        """A process as rt starts one, by its words and its folder: in the crate's, on a copy, and of another kind."""
+        checker = os.path.join(self.room.name, 'rattle')
+        os.symlink(os.path.realpath(sys.executable), checker)
+        seen, wait = os.path.join(self.room.name, 'seen'), 'import time; time.sleep(9)'
+        started = []
+        for crate, folder in (('low', 'crates/low'), ('low', 'copy_1'), ('low', 'copy_2'), ('two_words', 'crates/two_words'), (None, 'other')):
+            folder = os.path.join(self.room.name, folder)
+            os.makedirs(folder)
+            words = [checker, '-c', wait] + (['--crate-name', crate] if crate else [])
+            started.append(subprocess.Popen(words, cwd=folder))
+        started.append(subprocess.Popen([SECONDS, '--watch', str(os.getpid()), seen]))
+        try:
+            for _ in range(100):
+                time.sleep(0.2)
+                if os.path.exists(seen):
+                    break
+        finally:
+            for one in started:
+                one.kill()
+                one.wait()
+        with open(seen, encoding='utf-8') as file:
+            found = {(crate, column): float(count) for crate, column, count in map(str.split, file)}
+        self.assertEqual(set(found), {('low', 'proof'), ('low', 'edit_seconds'), ('two_words', 'proof')})
+        self.assertAlmostEqual(found['low', 'edit_seconds'], 2 * found['low', 'proof'], delta=0.3)
 
     def test_side_by_side(self):
         old = self.file('old.tsv', 'crate\tproof\tedits\tedit_seconds\trun\na\t100\t2\t40\t-\ngone\t5\t-\t-\t1\ntotal\t105\t2\t40\t1\n')
@@ -118,7 +171,7 @@ class Seconds(unittest.TestCase):
 
     def test_faults(self):
         log, table = self.file('log', LOG), self.file('t.tsv', TABLE)
-        for words in ((), (log, 'x'), ('--compare', table), ('--compare', log, table), (self.file('empty', ''),), ('/no/such',), (log, '--compare', table, table)):
+        for words in ((), (log, 'x'), (log, '--seen', '/no/such'), (log, '--watch', '1', 'x'), ('--compare', table), ('--compare', log, table), (self.file('empty', ''),), ('/no/such',), (log, '--compare', table, table)):
             run = self.run_tool(*words)
             self.assertEqual((words, run.returncode), (words, 2))
             self.assertIn('seconds', run.stderr)

@@ -60,8 +60,8 @@ fn over(line: usize, window: u32) -> String {
 
 /// Where `rt` puts the program.
 fn program() -> PathBuf {
-    let path = Path::new(env!("CARGO_MANIFEST_DIR")).join("../target/bin/weft_breaks");
-    assert!(path.is_file(), "target/bin/weft_breaks is missing: run `rt check weft_breaks`");
+    let path = Path::new(env!("CARGO_MANIFEST_DIR")).join("../crates/weft_breaks/out/weft_breaks");
+    assert!(path.is_file(), "crates/weft_breaks/out/weft_breaks is missing: run `rt run` in crates/weft_breaks");
     path
 }
 

@@ -1,7 +1,7 @@
 /*
  * Charts and networks: check, flatten, run both machines, and tell how long they may wait. Weft breaks: count them in a window.
  *
- * Link with liblibrary.a (x86-64 Linux), which `rt staticlib library` writes to target/staticlib. It keeps nothing between
+ * Link with liblibrary.a (x86-64 Linux), which `rt lib` in crates/library writes to its out/. It keeps nothing between
  * calls, allocates nothing, and calls nothing back. A program that only runs networks can link libnetwork_in_place.a
  * instead (figrummy_network.h of the crate `network_in_place`), which has no chart in it.
  *

@@ -1,7 +1,7 @@
 /*
  * The network machine, on a configuration that the caller keeps.
  *
- * Link with libnetwork_in_place.a (x86-64 Linux), which `rt staticlib network_in_place` writes to target/staticlib. It
+ * Link with libnetwork_in_place.a (x86-64 Linux), which `rt lib` in crates/network_in_place writes to its out/. It
  * needs no other library, keeps nothing between calls, allocates nothing, and calls nothing back.
  *
  * Networks have versions 1 and 2, told by the first byte of the file; version 2 has advances. Every function takes both.

@@ -1,7 +1,6 @@
 // The board keeps one configuration and moves it on in place. Each call answers 0, or the number of the refusal, and then
 // leaves what it was lent as it was. The names differ from those of the library, since a program may link both archives, and two
-// that are linked together cannot both define a name. Each function calls the one by value and stores its result; what the walks
-// share is in proofs/InPlace.
+// that are linked together cannot both define a name. Each function calls the one by value and stores its result.
 ghost use Rattle.std.specs.Prelude.{◌≡◌};
 ghost use Rattle.clocks.specs.Longest.{Tells};
 ghost use Rattle.network_moves.specs.Machine.{start_of, step_of, wait_of, longest_of};

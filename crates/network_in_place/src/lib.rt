@@ -1,5 +1,5 @@
-// The network machine on a configuration that a board keeps, as C functions. It is a crate of its own since its walks by hand
-// take long to prove, and each must-fail edit proves its whole crate.
+// The network machine on a configuration that a board keeps, as C functions. It is an archive of its own, so that a board that
+// only runs networks links nothing else.
 #![tactic(auto)]
 
 pub mod in_place;

@@ -1,9 +1,0 @@
-use borrow.Author.Rules.{rules}
-use Rattle.library.proofs.networks.figrummy_step_network.Statement.{statement}
-use Rattle.library.proofs.networks.figrummy_step_network.Tie as tie
-
-returns : tie.Need-returns
-returns c = c.store.ensures _ _ c.before.before.before.before.before.step.ensures
-
-pub figrummy-step-network-spec : {M : Type 1} → statement M
-figrummy-step-network-spec = tie.close (tie.spec (λ c κs. search rules) (λ c κs. search rules) returns)
