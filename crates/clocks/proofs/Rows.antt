@@ -14,7 +14,7 @@ use lib.IntN.{pos}
 use lib.ListN.{length, get_or, drop, replicate, length-drop}
 use lib.Seq.{get_or-drop}
 use Rattle.lists.specs.Lists.{has, padded, all}
-use Rattle.reading.specs.Reading.{Fault, got, fault, Reader, yield, byte4, such, many, end, skipped}
+use Rattle.reading.specs.Reading.{Fault, got, fault, Reader, yield, byte4, such, many, skipped}
 use Rattle.clocks.specs.Clocks.{is_bound, clock_limit, no_bound, free, join, keeps, row, reset_from, reset, in_limit, zero_past, later, zeros_past, is_zero}
 use Rattle.lists.proofs.Bools.{both}
 use Rattle.lists.proofs.Lists.{all_at, get_d_mem, mem_get_d, all_past, zeros_at}

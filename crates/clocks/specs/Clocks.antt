@@ -1,5 +1,5 @@
 -- Clocks and bounds. A row has a bound for each of eight clocks; 2 ^ 32 - 1 is no bound.
-use Rattle.std.specs.Prelude.{ℕ, zero, suc, ◌+◌, ◌-◌, ◌^◌, min, Bool, true, false, cond, ◌&&◌, ◌||◌, leb, eqb, get_or, replicate, drop, ℤ, pos, negsuc}
+use Rattle.std.specs.Prelude.{ℕ, zero, suc, ◌+◌, ◌-◌, min, Bool, true, false, cond, ◌&&◌, ◌||◌, leb, eqb, get_or, replicate, drop, ℤ, pos, negsuc}
 use mathlib.Core.List.{List, [], ◌∷◌, ◌++◌, zip_with}
 use Rattle.lists.specs.Lists.{has, all, below}
 use Rattle.reading.specs.Reading.{Reader, byte4, such, many, ◌>>=◌, yield}

@@ -1,3 +1,2 @@
 // Flattening as the paper fixes it: definitions and their laws alone, no function.
 #![tactic(auto)]
-

@@ -10,8 +10,7 @@ returns-then-not-climbs_to c = ordered_no c.args.ticks.now c.first_best-best.res
 
 pub pass_on-requires : goal.pass_on-requires
 pass_on-requires c =
-    let s = first_some _ _ _ c.first_best-best.ensures c.reached.ensures.0 in
-    (
+    let s = first_some _ _ _ c.first_best-best.ensures c.reached.ensures.0 in (
       omega (arith, s.1, c.reached.ensures.1.1, c.reached.ensures.1.2),
       (_, first_sought _ _ _ _ c.first_best-best.ensures c.requires.1 c.reached.ensures.0 (ordered_yes c.args.ticks.now _ c.climbs_to.result c.climbs_to.ensures (c.if-not-climbs_to.false))),
     )

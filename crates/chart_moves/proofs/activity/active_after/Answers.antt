@@ -9,7 +9,7 @@ use borrow.Author.Rules.{rules}
 use Rattle.chart_moves.proofs.activity.active_after.Goals as goal
 
 pub slice_bounds-left_below-end : goal.slice_bounds-left_below-end
-slice_bounds-left_below-end c = let e : length c.before.args.moves.sources ≡ 16 = search rules in omega (arith, e, c.struct_known-1.ensures)
+slice_bounds-left_below-end c = let e : length c.args.moves.sources ≡ 16 = search rules in omega (arith, e, c.struct_known-1.ensures)
 
 pub returns : goal.returns
 returns c = λ d σ ts T r5 r8 M a.

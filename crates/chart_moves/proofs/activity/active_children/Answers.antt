@@ -15,17 +15,17 @@ pub loop-s-preserved : goal.loop-s-preserved
 loop-s-preserved c =
     elim c.if-is_active_child.branch [
       | then-is_active_child w ↦ (
-      omega (arith, w.count-is, c.loop-s.invariant.0),
-      λ d σ R a e.
-          let h : c.loop-s.s < length d.states = omega (arith, e, c.loop-s-test.true) in
-          counted_next _ (below_next refl _ h) _ (c.loop-s.invariant.1 d σ R a e) (active_child_lem d σ _ _ R a _ c.loop-s.s (omega (arith, c.loop-s.invariant.0)) h c.is_active_child.ensures ∙ w.if-is_active_child.true) w.count-is,
-    )
+        omega (arith, w.count-is, c.loop-s.invariant.0),
+        λ d σ R a e.
+            let h : c.loop-s.s < length d.states = omega (arith, e, c.loop-s-test.true) in
+            counted_next _ (below_next refl _ h) _ (c.loop-s.invariant.1 d σ R a e) (active_child_lem d σ _ _ R a _ c.loop-s.s (omega (arith, c.loop-s.invariant.0)) h c.is_active_child.ensures ∙ w.if-is_active_child.true) w.count-is,
+      )
       | else-is_active_child w ↦ (
-      omega (arith, w.count-is, c.loop-s.invariant.0),
-      λ d σ R a e.
-          let h : c.loop-s.s < length d.states = omega (arith, e, c.loop-s-test.true) in
-          counted_left _ (below_next refl _ h) _ (c.loop-s.invariant.1 d σ R a e) (active_child_lem d σ _ _ R a _ c.loop-s.s (omega (arith, c.loop-s.invariant.0)) h c.is_active_child.ensures ∙ w.if-is_active_child.false) w.count-is,
-    )
+        omega (arith, w.count-is, c.loop-s.invariant.0),
+        λ d σ R a e.
+            let h : c.loop-s.s < length d.states = omega (arith, e, c.loop-s-test.true) in
+            counted_left _ (below_next refl _ h) _ (c.loop-s.invariant.1 d σ R a e) (active_child_lem d σ _ _ R a _ c.loop-s.s (omega (arith, c.loop-s.invariant.0)) h c.is_active_child.ensures ∙ w.if-is_active_child.false) w.count-is,
+      )
     ]
 
 pub returns : goal.returns

@@ -9,7 +9,7 @@ use mathlib.Core.Path.{◌≡◌}
 use Rattle.chart_moves.proofs.activity.all_placed.Given as goal
 
 abbrev pub invariant-loop-s : goal.invariant-loop-s
-invariant-loop-s l = (c : Chart) (σ : Configuration) → Shown c σ l.parents l.kinds l.active → l.states ≡ length c.states → all (λ l.s. linked c σ s' && single c σ s') (below l.states) ≡ all (λ l.s. linked c σ s' && single c σ s') (drop l.s (below l.states))
+invariant-loop-s l = (c : Chart) (σ : Configuration) → Shown c σ l.parents l.kinds l.active → l.states ≡ length c.states → all (λ s'. linked c σ s' && single c σ s') (below l.states) ≡ all (λ s'. linked c σ s' && single c σ s') (drop l.s (below l.states))
 
 abbrev pub decreases-loop-s : goal.decreases-loop-s
 decreases-loop-s l = l.states - l.s

@@ -9,7 +9,7 @@ use mathlib.Core.Path.{◌≡◌}
 use Rattle.chart_moves.proofs.activity.left_below.Given as goal
 
 abbrev pub invariant-loop-s : goal.invariant-loop-s
-invariant-loop-s l = (c : Chart) → Rooted c l.parents → l.states ≡ length c.states → Filled 48 (passing 48 c (λ l.s. get_or l.active s' false && below_none c l.sources s')) l.out l.s
+invariant-loop-s l = (c : Chart) → Rooted c l.parents → l.states ≡ length c.states → Filled 48 (passing 48 c (λ s'. get_or l.active s' false && below_none c l.sources s')) l.out l.s
 
 abbrev pub decreases-loop-s : goal.decreases-loop-s
 decreases-loop-s l = 48 - l.s

@@ -19,37 +19,34 @@ loop-s-init c = (
 )
 
 pub loop-s-preserved-then-above-s : goal.loop-s-preserved-then-above-s
-loop-s-preserved-then-above-s c =
-    (
-      length-set (set c.loop-s.rows (c.loop-s.s - 1) c.completing.result) _ _ ∙ length-set c.loop-s.rows _ _ ∙ c.loop-s.invariant.0,
-      omega (arith, c.loop-s.invariant.1),
-      c.loop-s.invariant.2,
-      λ d σ T S X e.
-          passed_child d σ T _ _ _ S c.loop-s.rows c.loop-s.s (c.loop-s.s - 1) (c.loop-s.invariant.3 d σ T S X e) (omega (arith, c.loop-s-test.true)) (omega (arith, e, c.loop-s.invariant.1, c.loop-s-test.true)) (omega (arith, c.loop-s.invariant.0, c.loop-s.invariant.1, c.loop-s.invariant.2, c.loop-s-test.true))
-          c.completing.ensures c.args.t.exits X c.if-active-s.true c.byte_at-above.ensures c.unbarred_by-unbarred.ensures c.if-above-s.true,
-    )
+loop-s-preserved-then-above-s c = (
+  length-set (set c.loop-s.rows (c.loop-s.s - 1) c.completing.result) _ _ ∙ length-set c.loop-s.rows _ _ ∙ c.loop-s.invariant.0,
+  omega (arith, c.loop-s.invariant.1),
+  c.loop-s.invariant.2,
+  λ d σ T S X e.
+      passed_child d σ T _ _ _ S c.loop-s.rows c.loop-s.s (c.loop-s.s - 1) (c.loop-s.invariant.3 d σ T S X e) (omega (arith, c.loop-s-test.true)) (omega (arith, e, c.loop-s.invariant.1, c.loop-s-test.true)) (omega (arith, c.loop-s.invariant.0, c.loop-s.invariant.1, c.loop-s.invariant.2, c.loop-s-test.true))
+      c.completing.ensures c.args.t.exits X c.if-active-s.true c.byte_at-above.ensures c.unbarred_by-unbarred.ensures c.if-above-s.true,
+)
 
 pub loop-s-preserved-else-above-s : goal.loop-s-preserved-else-above-s
-loop-s-preserved-else-above-s c =
-    (
-      length-set c.loop-s.rows _ _ ∙ c.loop-s.invariant.0,
-      omega (arith, c.loop-s.invariant.1),
-      c.loop-s.invariant.2,
-      λ d σ T S X e.
-          passed_root d σ T _ _ _ S c.loop-s.rows c.loop-s.s (c.loop-s.s - 1) (c.loop-s.invariant.3 d σ T S X e) (omega (arith, c.loop-s-test.true)) (omega (arith, e, c.loop-s.invariant.1, c.loop-s-test.true)) (omega (arith, c.loop-s.invariant.0, c.loop-s.invariant.1, c.loop-s.invariant.2, c.loop-s-test.true))
-          c.completing.ensures c.args.t.exits X c.if-active-s.true c.byte_at-above.ensures c.unbarred_by-unbarred.ensures c.if-above-s.false,
-    )
+loop-s-preserved-else-above-s c = (
+  length-set c.loop-s.rows _ _ ∙ c.loop-s.invariant.0,
+  omega (arith, c.loop-s.invariant.1),
+  c.loop-s.invariant.2,
+  λ d σ T S X e.
+      passed_root d σ T _ _ _ S c.loop-s.rows c.loop-s.s (c.loop-s.s - 1) (c.loop-s.invariant.3 d σ T S X e) (omega (arith, c.loop-s-test.true)) (omega (arith, e, c.loop-s.invariant.1, c.loop-s-test.true)) (omega (arith, c.loop-s.invariant.0, c.loop-s.invariant.1, c.loop-s.invariant.2, c.loop-s-test.true))
+      c.completing.ensures c.args.t.exits X c.if-active-s.true c.byte_at-above.ensures c.unbarred_by-unbarred.ensures c.if-above-s.false,
+)
 
 pub loop-s-preserved : goal.loop-s-preserved
-loop-s-preserved c =
-    (
-      length-set c.loop-s.rows _ _ ∙ c.loop-s.invariant.0,
-      omega (arith, c.loop-s.invariant.1),
-      c.loop-s.invariant.2,
-      λ d σ T S X e.
-          passed_idle d σ T _ _ _ S c.loop-s.rows c.loop-s.s (c.loop-s.s - 1) (c.loop-s.invariant.3 d σ T S X e) (omega (arith, c.loop-s-test.true)) (omega (arith, e, c.loop-s.invariant.1, c.loop-s-test.true)) (omega (arith, c.loop-s.invariant.0, c.loop-s.invariant.1, c.loop-s.invariant.2, c.loop-s-test.true))
-          c.completing.ensures c.if-active-s.false,
-    )
+loop-s-preserved c = (
+  length-set c.loop-s.rows _ _ ∙ c.loop-s.invariant.0,
+  omega (arith, c.loop-s.invariant.1),
+  c.loop-s.invariant.2,
+  λ d σ T S X e.
+      passed_idle d σ T _ _ _ S c.loop-s.rows c.loop-s.s (c.loop-s.s - 1) (c.loop-s.invariant.3 d σ T S X e) (omega (arith, c.loop-s-test.true)) (omega (arith, e, c.loop-s.invariant.1, c.loop-s-test.true)) (omega (arith, c.loop-s.invariant.0, c.loop-s.invariant.1, c.loop-s.invariant.2, c.loop-s-test.true))
+      c.completing.ensures c.if-active-s.false,
+)
 
 pub returns : goal.returns
 returns c = λ d σ T r a q.

@@ -3,7 +3,7 @@ use Rattle.chart_records.proofs.header.counts_at.Goals as goal
 
 pub returns : goal.returns
 unfolding counts_at
-returns c = 
+returns c =
     rw (
       c.byte_at.ensures,
       c.byte_at-2.ensures,

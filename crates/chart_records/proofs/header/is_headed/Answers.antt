@@ -13,7 +13,7 @@ returns-then-file-gt65536 c = rw (le-leb 11 _ c.if-file-lt11.false, lt-leb _ 655
 
 pub returns-then-not-is_version : goal.returns-then-not-is_version
 unfolding headed
-returns-then-not-is_version c = 
+returns-then-not-is_version c =
     rw (
       le-leb 11 _ c.if-file-lt11.false,
       le-leb _ 65536 c.if-file-gt65536.false,
@@ -22,7 +22,7 @@ returns-then-not-is_version c =
 
 pub returns : goal.returns
 unfolding headed
-returns c = 
+returns c =
     rw (
       le-leb 11 _ c.if-file-lt11.false,
       le-leb _ 65536 c.if-file-gt65536.false,

@@ -6,11 +6,11 @@ use Rattle.chart_records.proofs.header.read_header.Goals as goal
 
 pub returns-then-not-is_headed-clause-means : goal.returns-then-not-is_headed-clause-means
 unfolding counts_of unless
-returns-then-not-is_headed-clause-means c =  rw (sym c.is_headed.ensures ∙ c.if-not-is_headed.true)
+returns-then-not-is_headed-clause-means c = rw (sym c.is_headed.ensures ∙ c.if-not-is_headed.true)
 
 pub returns-then-not-in_range-clause-means : goal.returns-then-not-in_range-clause-means
 unfolding counts_of unless
-returns-then-not-in_range-clause-means c =  rw (sym c.is_headed.ensures ∙ c.if-not-is_headed.false, ← c.counts_at-counts.ensures, sym c.in_range.ensures ∙ c.if-not-in_range.true)
+returns-then-not-in_range-clause-means c = rw (sym c.is_headed.ensures ∙ c.if-not-is_headed.false, ← c.counts_at-counts.ensures, sym c.in_range.ensures ∙ c.if-not-in_range.true)
 
 pub returns-clause-means : goal.returns-clause-means
 unfolding counts_of unless

@@ -26,7 +26,7 @@ returns-in_default-i c = rw (c.short_fault.ensures ∙ ap short_fault c.in_defau
 
 pub returns-in_default-o : goal.returns-in_default-o
 unfolding state skipped
-returns-in_default-o c = 
+returns-in_default-o c =
     rw (c.byte_fault-in_default-o.ensures ∙ ap byte_fault c.in_default-o.is)
     (sym (mapped_fault _ (bind_got _ _ _ (answered (byte_of _) c.read_byte-p.ensures.means c.in-Value.is)
     ∙ bind_got _ _ _ (answered (byte_of _) c.read_byte_below-k.ensures c.in-Value-k.is)
@@ -35,7 +35,7 @@ returns-in_default-o c =
 
 pub returns : goal.returns
 unfolding state skipped
-returns c = 
+returns c =
     c.read_bounds.ensures ∙ sym (ap skipped (bind_got _ _ _ (answered (byte_of _) c.read_byte-p.ensures.means c.in-Value.is)
     ∙ bind_got _ _ _ (answered (byte_of _) c.read_byte_below-k.ensures c.in-Value-k.is)
     ∙ bind_got _ _ _ (answered (short_of _) c.read_long_marks-i.ensures c.in-Value-i.is)

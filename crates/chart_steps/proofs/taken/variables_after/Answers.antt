@@ -29,6 +29,9 @@ loop-i-preserved c = λ k L h.
 pub returns : goal.returns
 unfolding all_stay variables_after all assign concat
 returns c =
-    let none = drop_of_length-le _ c.loop-i-test.false in record { within = λ k L h. sym ((c.loop-i.invariant k L h).0
-          ∙ ap (λ (xs : List ℕ). c.loop-i.within && all (stays c.args.old) (concat (λ c.loop-i. c.loop-i.body.updates) (map (λ m. (transition_at k m).label) xs))) none ∙ and-true c.loop-i.within); values = λ k L h. sym ((c.loop-i.invariant k L h).1
-          ∙ ap (λ (xs : List ℕ). assign c.args.old (concat (λ c.loop-i. c.loop-i.body.updates) (map (λ m. (transition_at k m).label) xs)) c.loop-i.values) none) }
+    let none = drop_of_length-le _ c.loop-i-test.false in record {
+      within = λ k L h. sym ((c.loop-i.invariant k L h).0
+          ∙ ap (λ (xs : List ℕ). c.loop-i.within && all (stays c.args.old) (concat (λ l'. l'.body.updates) (map (λ m. (transition_at k m).label) xs))) none ∙ and-true c.loop-i.within);
+      values = λ k L h. sym ((c.loop-i.invariant k L h).1
+          ∙ ap (λ (xs : List ℕ). assign c.args.old (concat (λ l'. l'.body.updates) (map (λ m. (transition_at k m).label) xs)) c.loop-i.values) none);
+    }

@@ -1,6 +1,5 @@
 use native.Mathlib.Omega.{arith}
 use mathlib.Core.Path.{sym}
-use Prim.Native.Nat.{◌-◌}
 use Rattle.clocks.proofs.Clocks.{limit_by, limit_not}
 use Rattle.clocks.proofs.clock.in_limit.Goals as goal
 

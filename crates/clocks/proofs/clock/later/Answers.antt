@@ -1,7 +1,7 @@
 use native.Mathlib.Omega.{arith}
 use borrow.Author.Rules.{rules}
 use mathlib.Core.Path.{◌≡◌, refl, sym, ◌∙◌}
-use Prim.Native.Nat.{◌+◌, ◌-◌, ◌≤◌, min}
+use Prim.Native.Nat.{◌+◌, ◌≤◌, min}
 use borrow.Author.Count.{below_none, below_more}
 use borrow.Author.Tests.{leb-true, leb-false}
 use lib.ListN.{get_or}
@@ -19,9 +19,9 @@ unfolding later
 loop-i-init c = (search rules, omega arith, below_none _, refl)
 
 pub returns-then-not-fits-clause-within : goal.returns-then-not-fits-clause-within
-returns-then-not-fits-clause-within c = 
+returns-then-not-fits-clause-within c =
     sym (limit_later_not _ _ _ c.loop-i.i (omega arith) (omega arith)
-          (leb-false _ clock_limit (sym c.fits.ensures ∙ c.if-not-fits.true)))
+    (leb-false _ clock_limit (sym c.fits.ensures ∙ c.if-not-fits.true)))
 
 pub loop-i-preserved : goal.loop-i-preserved
 loop-i-preserved c = (c.loop-i.invariant.0, omega arith, below_more _ _ c.loop-i.invariant.2 (small c), rw c.loop-i.invariant.3 (later_more _ _ _ (omega arith)))

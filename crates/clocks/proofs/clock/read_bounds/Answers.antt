@@ -1,5 +1,4 @@
 use mathlib.Core.Path.{sym, ap, ◌∙◌}
-use Prim.Native.Nat.{◌-◌}
 use Rattle.reading.specs.Reading.{skipped}
 use Rattle.reading.specs.Places.{word_of, word_fault}
 use Rattle.reading.proofs.Places.{answered}
@@ -13,7 +12,7 @@ loop-i-init c = skipping_none _ _ _
 
 pub returns-in_default : goal.returns-in_default
 unfolding skipped
-returns-in_default c = 
+returns-in_default c =
     rw (c.word_fault.ensures ∙ ap word_fault c.in_default.is) (sym (skipped_row _ _
     ∙ skipping_stop _ _ _ c.loop-i.invariant c.loop-i-test.true
     (mapped_fault _ (answered (word_of _) c.read_bound-w.ensures c.in_default.is))))

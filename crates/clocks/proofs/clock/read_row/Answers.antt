@@ -2,7 +2,6 @@ use Rattle.reading.proofs.Places.{answered}
 use mathlib.Core.List.{[]}
 use mathlib.Core.Path.{refl, sym, ap, ◌∙◌}
 use native.Mathlib.Omega.{arith}
-use Prim.Native.Nat.{◌-◌}
 use Rattle.lists.specs.Lists.{padded}
 use Rattle.clocks.specs.Clocks.{no_bound}
 use Rattle.reading.specs.Places.{word_of, word_fault}
@@ -16,7 +15,7 @@ unfolding padded
 loop-i-init c = ([], going_none _ _ _, refl)
 
 pub returns-in_default : goal.returns-in_default
-returns-in_default c = 
+returns-in_default c =
     let fails = answered (word_of _) c.read_bound-w.ensures c.in_default.is in
     rw (
       ← c.least-count.ensures,
@@ -26,9 +25,8 @@ returns-in_default c =
     (sym (row_fault _ _ (going_stop _ _ _ c.loop-i.invariant.1 c.loop-i-test.true fails)))
 
 pub loop-i-preserved : goal.loop-i-preserved
-loop-i-preserved c = 
-    let read-w = answered (word_of _) c.read_bound-w.ensures c.in-Value.is in
-    (
+loop-i-preserved c =
+    let read-w = answered (word_of _) c.read_bound-w.ensures c.in-Value.is in (
       _,
       going_more _ _ _ c.loop-i.invariant.1 c.loop-i-test.true read-w,
       rw c.loop-i.invariant.2 (padded_more 8 no_bound c.loop-i.invariant.0 _ c.loop-i.invariant.1.count (omega arith)),

@@ -2,7 +2,6 @@ use mathlib.Core.Path.{sym}
 use borrow.Author.Tests.{eq-eqb, ne_eqb}
 use Rattle.clocks.specs.Clocks.{zero_past}
 use Rattle.lists.proofs.Loops.{passed_more, passed_not, passed_all}
-use Prim.Native.Nat.{◌-◌}
 use Rattle.clocks.proofs.clock.zero_past.Goals as goal
 
 pub returns-then-clocks-i-ne0 : goal.returns-then-clocks-i-ne0

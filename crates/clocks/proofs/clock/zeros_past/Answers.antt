@@ -1,5 +1,4 @@
 use mathlib.Core.Path.{sym, ◌∙◌}
-use Prim.Native.Nat.{◌-◌}
 use borrow.Author.Tests.{eq-eqb, ne_eqb}
 use lib.IntN.{pos}
 use Rattle.clocks.specs.Clocks.{zeros_past}
@@ -9,12 +8,12 @@ use Rattle.clocks.proofs.clock.zeros_past.Goals as goal
 
 pub returns-then-values-i-ne0 : goal.returns-then-values-i-ne0
 unfolding zeros_past
-returns-then-values-i-ne0 c = 
+returns-then-values-i-ne0 c =
     sym (passed_not _ 16 _ _ _ c.loop-i.invariant (pos 0) c.loop-i-test.true
     (sym (zero_bits _ (record { sfits = c.t9-1.given })) ∙ ne_eqb _ 0 c.if-values-i-ne0.true))
 
 pub loop-i-preserved : goal.loop-i-preserved
-loop-i-preserved c = 
+loop-i-preserved c =
     passed_more _ 16 _ _ _ c.loop-i.invariant (pos 0) c.loop-i-test.true
     (sym (zero_bits _ (record { sfits = c.t9-1.given })) ∙ eq-eqb _ 0 c.if-values-i-ne0.false)
 

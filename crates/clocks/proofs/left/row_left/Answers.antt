@@ -1,7 +1,7 @@
 use native.Mathlib.Omega.{arith}
 use borrow.Author.Rules.{rules}
 use mathlib.Core.Path.{◌≡◌, refl, ap₂, ◌∙◌}
-use Prim.Native.Nat.{◌-◌, min}
+use Prim.Native.Nat.{min}
 use Rattle.clocks.specs.Clocks.{fewest, row_left}
 use Rattle.clocks.proofs.Ticks.{row_left_more, row_left_min}
 use Rattle.clocks.proofs.left.row_left.Goals as goal

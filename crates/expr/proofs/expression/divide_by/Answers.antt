@@ -15,9 +15,9 @@ taken : (c : In-Value) → divisor c.args.s.now
 taken c = answered (word_of _) c.read_divisor-w.ensures.means c.in-Value.is
 
 pub returns-in_default-clause-means : goal.returns-in_default-clause-means
-returns-in_default-clause-means c = 
+returns-in_default-clause-means c =
     let fails = answered (word_of _) c.read_divisor-w.ensures.means c.in_default.is in handed_on word_fault c.word_fault.ensures c.in_default.is (mapped_fault _ fails)
 
 pub returns-clause-means : goal.returns-clause-means
-returns-clause-means c = 
+returns-clause-means c =
     rw (c.divide.ensures ∙ cond_yes _ _ (divisor_in _ (taken (goal.at.returns-clause-means c).In-Value))) (sym (mapped_got _ (taken (goal.at.returns-clause-means c).In-Value)))

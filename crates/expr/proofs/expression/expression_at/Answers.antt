@@ -12,12 +12,12 @@ unfolding skipped
 returns-then-s-at c = sym (read_empty _ _ _ _ (length_onward _ _ ∙ omega arith))
 
 pub returns-in_default : goal.returns-in_default
-returns-in_default c = 
+returns-in_default c =
     let fails = answered (reached _ tt) c.read_expression-q.ensures.means c.in_default.is in
     ap (reached _ tt) c.in_default.is
     ∙ sym (part_fault (λ b. skipped (expression c.args.variables 8 b)) c.args.s.now c.args.at fails)
 
 pub returns : goal.returns
-returns c = 
+returns c =
     let read-q = answered (reached _ tt) c.read_expression-q.ensures.means c.in-At.is in
     sym (part_got (λ b. skipped (expression c.args.variables 8 b)) c.args.s.now c.args.at _ read-q)

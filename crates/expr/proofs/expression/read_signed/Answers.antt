@@ -15,11 +15,11 @@ number x = Va.Number (signed x)
 
 pub returns-in_default-clause-means : goal.returns-in_default-clause-means
 unfolding mapped
-returns-in_default-clause-means c = 
+returns-in_default-clause-means c =
     let fails = answered (word_of _) c.read_word-w.ensures.means c.in_default.is in handed_on word_fault c.word_fault.ensures c.in_default.is (ap (mapped number) fails)
 
 pub returns-clause-means : goal.returns-clause-means
 unfolding mapped
-returns-clause-means c = 
+returns-clause-means c =
     rw (read_back c.signed.result c.signed.type_inv, c.signed.ensures)
-          (sym (ap (mapped number) (answered (word_of _) c.read_word-w.ensures.means c.in-Value.is)))
+    (sym (ap (mapped number) (answered (word_of _) c.read_word-w.ensures.means c.in-Value.is)))

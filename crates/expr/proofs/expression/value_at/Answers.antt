@@ -11,12 +11,12 @@ pub returns-then-s-at : goal.returns-then-s-at
 returns-then-s-at c = sym (read_empty _ _ _ _ (length_onward _ _ ∙ omega arith))
 
 pub returns-in_default : goal.returns-in_default
-returns-in_default c = 
+returns-in_default c =
     let fails = answered (value_of _) c.evaluate-v.ensures.means c.in_default.is in
     ap (value_of _) c.in_default.is
     ∙ sym (part_fault (λ b. mapped (value c.args.values.now) (expression c.args.variables 8 b)) c.args.s.now c.args.at fails)
 
 pub returns : goal.returns
-returns c = 
+returns c =
     let read-v = answered (value_of _) c.evaluate-v.ensures.means c.in-Value.is in
     sym (part_got (λ b. mapped (value c.args.values.now) (expression c.args.variables 8 b)) c.args.s.now c.args.at _ read-v)

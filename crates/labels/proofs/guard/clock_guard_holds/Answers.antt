@@ -9,7 +9,7 @@ use Rattle.labels.proofs.guard.clock_guard_holds.Goals as goal
 
 pub returns-in_default : goal.returns-in_default
 unfolding clock_guard clock yield holds
-returns-in_default c = 
+returns-in_default c =
     let fails = answered (byte_of _) c.read_byte_below-c.ensures c.in_default.is in
     λ vars.
     handed_on byte_fault c.byte_fault.ensures c.in_default.is
@@ -17,7 +17,7 @@ returns-in_default c =
 
 pub returns-in_default-k : goal.returns-in_default-k
 unfolding clock_guard clock yield holds
-returns-in_default-k c = 
+returns-in_default-k c =
     let read-c = answered (byte_of _) c.read_byte_below-c.ensures c.in-Value.is in
     let fails = answered (byte_of _) c.read_byte_below-k.ensures c.in_default-k.is in
     λ vars.
@@ -26,7 +26,7 @@ returns-in_default-k c =
 
 pub returns-in_default-w : goal.returns-in_default-w
 unfolding clock_guard clock yield holds
-returns-in_default-w c = 
+returns-in_default-w c =
     let read-c = answered (byte_of _) c.read_byte_below-c.ensures c.in-Value.is in
     let read-k = answered (byte_of _) c.read_byte_below-k.ensures c.in-Value-k.is in
     let fails = answered (word_of _) c.read_ticks-w.ensures c.in_default-w.is in
@@ -36,7 +36,7 @@ returns-in_default-w c =
 
 pub returns : goal.returns
 unfolding clock_guard clock yield holds
-returns c = 
+returns c =
     let read-c = answered (byte_of _) c.read_byte_below-c.ensures c.in-Value.is in
     let read-k = answered (byte_of _) c.read_byte_below-k.ensures c.in-Value-k.is in
     let read-w = answered (word_of _) c.read_ticks-w.ensures c.in-Value-w.is in

@@ -10,14 +10,14 @@ use Rattle.labels.proofs.guard.data_guard_holds.Goals as goal
 
 pub returns-in_default : goal.returns-in_default
 unfolding data_guard yield holds
-returns-in_default c = 
+returns-in_default c =
     let fails = answered (byte_of _) c.read_byte_below-k.ensures c.in_default.is in
     λ times.
     handed_on byte_fault c.byte_fault.ensures c.in_default.is (mapped_fault _ (bind_fault _ _ _ (relation_fault _ fails)))
 
 pub returns-in_default-v : goal.returns-in_default-v
 unfolding data_guard yield holds
-returns-in_default-v c = 
+returns-in_default-v c =
     let read-k = answered (byte_of _) c.read_byte_below-k.ensures c.in-Value.is in
     let fails = answered (value_of _) c.value_at-v.ensures c.in_default-v.is in
     λ times.
@@ -26,7 +26,7 @@ returns-in_default-v c =
 
 pub returns-in_default-w : goal.returns-in_default-w
 unfolding data_guard yield holds
-returns-in_default-w c = 
+returns-in_default-w c =
     let read-k = answered (byte_of _) c.read_byte_below-k.ensures c.in-Value.is in
     let read-v = answered (value_of _) c.value_at-v.ensures c.in-Value-v.is in
     let fails = answered (value_of _) c.value_at-w.ensures c.in_default-w.is in
@@ -38,7 +38,7 @@ returns-in_default-w c =
 
 pub returns : goal.returns
 unfolding data_guard yield holds
-returns c = 
+returns c =
     let read-k = answered (byte_of _) c.read_byte_below-k.ensures c.in-Value.is in
     let read-v = answered (value_of _) c.value_at-v.ensures c.in-Value-v.is in
     let read-w = answered (value_of _) c.value_at-w.ensures c.in-Value-w.is in

@@ -8,22 +8,22 @@ use Rattle.labels.proofs.Guards.{guard_data, guard_clock, guard_difference, guar
 use Rattle.labels.proofs.guard.guard_holds.Goals as goal
 
 pub returns-in_default : goal.returns-in_default
-returns-in_default c = 
+returns-in_default c =
     let fails = answered (byte_of _) c.read_byte_below-b.ensures c.in_default.is in
     handed_on byte_fault c.byte_fault.ensures c.in_default.is (mapped_fault _ (guard_fault _ _ _ fails))
 
 pub returns-in-0 : goal.returns-in-0
-returns-in-0 c = 
+returns-in-0 c =
     let read-b = answered (byte_of _) c.read_byte_below-b.ensures c.in-Value.is in
     c.data_guard_holds.ensures _ ∙ sym (ap (mapped (holds _ _)) (guard_data _ _ _ read-b c.in-0.is))
 
 pub returns-in-1 : goal.returns-in-1
-returns-in-1 c = 
+returns-in-1 c =
     let read-b = answered (byte_of _) c.read_byte_below-b.ensures c.in-Value.is in
     c.clock_guard_holds.ensures _ ∙ sym (ap (mapped (holds _ _)) (guard_clock _ _ _ read-b c.in-1.is))
 
 pub returns-in_default-kind : goal.returns-in_default-kind
-returns-in_default-kind c = 
+returns-in_default-kind c =
     let read-b = answered (byte_of _) c.read_byte_below-b.ensures c.in-Value.is in
     c.difference_guard_holds.ensures _
     ∙ sym (ap (mapped (holds _ _))

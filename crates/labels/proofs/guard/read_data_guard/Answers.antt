@@ -10,13 +10,13 @@ use Rattle.labels.proofs.guard.read_data_guard.Goals as goal
 
 pub returns-in_default : goal.returns-in_default
 unfolding data_guard skipped yield
-returns-in_default c = 
+returns-in_default c =
     let fails = answered (byte_of _) c.read_byte_below-k.ensures c.in_default.is in
     handed_on byte_fault c.byte_fault.ensures c.in_default.is (mapped_fault _ (bind_fault _ _ _ (relation_fault _ fails)))
 
 pub returns-in_default-a : goal.returns-in_default-a
 unfolding data_guard skipped yield
-returns-in_default-a c = 
+returns-in_default-a c =
     let read-k = answered (byte_of _) c.read_byte_below-k.ensures c.in-Value.is in
     let fails = answered (reached _ tt) c.expression_at-a.ensures c.in_default-a.is in
     ap (reached _ tt) c.in_default-a.is
@@ -24,7 +24,7 @@ returns-in_default-a c =
 
 pub returns : goal.returns
 unfolding data_guard skipped yield
-returns c = 
+returns c =
     let read-k = answered (byte_of _) c.read_byte_below-k.ensures c.in-Value.is in
     let read_a = answered (reached _ tt) c.expression_at-a.ensures c.in-At.is in
     c.expression_at.ensures

@@ -1,7 +1,5 @@
 use mathlib.Core.Path.{refl, sym, ap, ◌∙◌}
-use mathlib.Core.Bool.{true}
 use mathlib.Core.List.{[]}
-use Prim.Native.Nat.{◌-◌}
 use Rattle.lists.proofs.Bools.{both}
 use Rattle.lists.specs.Lists.{all}
 use Rattle.labels.specs.Guard.{holds}
@@ -17,7 +15,7 @@ unfolding all
 loop-i-init c = ([], going_none _ _ _, refl)
 
 pub returns-in_default : goal.returns-in_default
-returns-in_default c = 
+returns-in_default c =
     let fails = answered (test_of _) c.guard_holds-h.ensures c.in_default.is in
     λ gs t e.
     no_answer (sym (going_stop _ _ _ c.loop-i.invariant.1 c.loop-i-test.true
@@ -25,7 +23,7 @@ returns-in_default c =
     ∙ e)
 
 pub returns-then-not-holds : goal.returns-then-not-holds
-returns-then-not-holds c = 
+returns-then-not-holds c =
     let read-h = answered (test_of _) c.guard_holds-h.ensures c.in-Value.is in
     λ gs t e.
     let m = mapped_at _ _ read-h in
@@ -33,10 +31,9 @@ returns-then-not-holds c =
     (m.2 ∙ c.if-not-holds.true))
 
 pub loop-i-preserved : goal.loop-i-preserved
-loop-i-preserved c = 
+loop-i-preserved c =
     let read-h = answered (test_of _) c.guard_holds-h.ensures c.in-Value.is in
-    let m = mapped_at _ _ read-h in
-    (
+    let m = mapped_at _ _ read-h in (
       _,
       going_more _ _ _ c.loop-i.invariant.1 c.loop-i-test.true m.1,
       all_more _ c.loop-i.invariant.0 m.0 ∙ both c.loop-i.invariant.2 (m.2 ∙ c.if-not-holds.false),

@@ -10,13 +10,13 @@ use Rattle.labels.proofs.label.assigned.Goals as goal
 
 pub returns-in_default : goal.returns-in_default
 unfolding body skipped
-returns-in_default c = 
+returns-in_default c =
     let fails = bind_fault _ _ _ (answered (byte_of _) c.read_byte-g.ensures.means c.in_default.is) in
     record { within = λ b t e. no_answer (sym fails ∙ e); values = λ b t e. no_answer (sym fails ∙ e) }
 
 pub returns-in_default-a : goal.returns-in_default-a
 unfolding body skipped
-returns-in_default-a c = 
+returns-in_default-a c =
     let read-g = answered (byte_of _) c.read_byte-g.ensures.means c.in-Value.is in
     let fails = answered (byte_of _) c.read_byte-a.ensures.means c.in_default-a.is in
     let none = bind_got _ _ _ read-g ∙ bind_fault _ _ _ fails in
@@ -24,14 +24,14 @@ returns-in_default-a c =
 
 pub returns-in_default-q : goal.returns-in_default-q
 unfolding body skipped
-returns-in_default-q c = 
+returns-in_default-q c =
     let read-g = answered (byte_of _) c.read_byte-g.ensures.means c.in-Value.is in
     let read_a = answered (byte_of _) c.read_byte-a.ensures.means c.in-Value-a.is in
     let fails = answered (reached _ tt) c.read_guards-q.ensures c.in_default-q.is in record { within = λ b t e. let w = body_parts _ _ e read-g read_a in no_answer (sym (fault_at _ _ fails) ∙ w.1); values = λ b t e. let w = body_parts _ _ e read-g read_a in no_answer (sym (fault_at _ _ fails) ∙ w.1) }
 
 pub returns : goal.returns
 unfolding body skipped update
-returns c = 
+returns c =
     let read-g = answered (byte_of _) c.read_byte-g.ensures.means c.in-Value.is in
     let read_a = answered (byte_of _) c.read_byte-a.ensures.means c.in-Value-a.is in
     let read-q = answered (reached _ tt) c.read_guards-q.ensures c.in-At.is in

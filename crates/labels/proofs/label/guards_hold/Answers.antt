@@ -12,14 +12,14 @@ returns-in_default c = λ w b t e. no_answer (sym (bind_fault _ _ _ (answered (b
 
 pub returns-in_default-a : goal.returns-in_default-a
 unfolding body
-returns-in_default-a c = 
+returns-in_default-a c =
     let read-g = answered (byte_of _) c.read_byte-g.ensures.means c.in-Value.is in
     let fails = answered (byte_of _) c.read_byte-a.ensures.means c.in_default-a.is in
     λ w b t e. no_answer (sym (bind_got _ _ _ read-g ∙ bind_fault _ _ _ fails) ∙ e)
 
 pub returns : goal.returns
 unfolding body
-returns c = 
+returns c =
     let read-g = answered (byte_of _) c.read_byte-g.ensures.means c.in-Value.is in
     let read_a = answered (byte_of _) c.read_byte-a.ensures.means c.in-Value-a.is in
     λ w b t e. let k = body_parts _ _ e read-g read_a in c.all_hold.ensures _ _ k.1

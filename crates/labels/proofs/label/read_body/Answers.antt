@@ -11,13 +11,13 @@ use Rattle.labels.proofs.label.read_body.Goals as goal
 
 pub returns-in_default : goal.returns-in_default
 unfolding body yield skipped update
-returns-in_default c = 
+returns-in_default c =
     let fails = answered (byte_of _) c.read_byte-g.ensures.means c.in_default.is in
     handed_on byte_fault c.byte_fault.ensures c.in_default.is (mapped_fault _ (bind_fault _ _ _ fails))
 
 pub returns-in_default-a : goal.returns-in_default-a
 unfolding body yield skipped update
-returns-in_default-a c = 
+returns-in_default-a c =
     let read-g = answered (byte_of _) c.read_byte-g.ensures.means c.in-Value.is in
     let fails = answered (byte_of _) c.read_byte-a.ensures.means c.in_default-a.is in
     handed_on byte_fault c.byte_fault-in_default-a.ensures c.in_default-a.is
@@ -25,7 +25,7 @@ returns-in_default-a c =
 
 pub returns-in_default-q : goal.returns-in_default-q
 unfolding body yield skipped update
-returns-in_default-q c = 
+returns-in_default-q c =
     let read-g = answered (byte_of _) c.read_byte-g.ensures.means c.in-Value.is in
     let read_a = answered (byte_of _) c.read_byte-a.ensures.means c.in-Value-a.is in
     let fails = answered (reached _ tt) c.read_guards-q.ensures c.in_default-q.is in
@@ -34,7 +34,7 @@ returns-in_default-q c =
 
 pub returns-in_default-u : goal.returns-in_default-u
 unfolding body yield skipped update
-returns-in_default-u c = 
+returns-in_default-u c =
     let read-g = answered (byte_of _) c.read_byte-g.ensures.means c.in-Value.is in
     let read_a = answered (byte_of _) c.read_byte-a.ensures.means c.in-Value-a.is in
     let read-q = answered (reached _ tt) c.read_guards-q.ensures c.in-At.is in
@@ -47,7 +47,7 @@ returns-in_default-u c =
 
 pub returns : goal.returns
 unfolding body yield skipped update
-returns c = 
+returns c =
     let read-g = answered (byte_of _) c.read_byte-g.ensures.means c.in-Value.is in
     let read_a = answered (byte_of _) c.read_byte-a.ensures.means c.in-Value-a.is in
     let read-q = answered (reached _ tt) c.read_guards-q.ensures c.in-At.is in

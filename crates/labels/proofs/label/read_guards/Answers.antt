@@ -1,6 +1,5 @@
 use mathlib.Core.Path.{sym, ap, ◌∙◌}
 use mathlib.Core.List.{[]}
-use Prim.Native.Nat.{◌-◌}
 use Rattle.reading.specs.Reading.{skipped}
 use Rattle.reading.specs.Places.{reached}
 use Rattle.reading.proofs.Places.{answered}
@@ -13,7 +12,7 @@ loop-i-init c = ([], going_none _ _ _)
 
 pub returns-in_default : goal.returns-in_default
 unfolding skipped
-returns-in_default c = 
+returns-in_default c =
     let fails = answered (reached _ tt) c.read_guard-q.ensures c.in_default.is in
     ap (reached _ tt) c.in_default.is
     ∙ sym (mapped_fault _ (going_stop _ _ _ c.loop-i.invariant.1 c.loop-i-test.true
@@ -21,7 +20,7 @@ returns-in_default c =
 
 pub loop-i-preserved : goal.loop-i-preserved
 unfolding skipped
-loop-i-preserved c = 
+loop-i-preserved c =
     let read-q = answered (reached _ tt) c.read_guard-q.ensures c.in-At.is in (
       _,
       going_more _ _ _ c.loop-i.invariant.1 c.loop-i-test.true

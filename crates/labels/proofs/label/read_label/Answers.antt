@@ -8,13 +8,13 @@ use Rattle.labels.proofs.label.read_label.Goals as goal
 
 pub returns-in_default : goal.returns-in_default
 unfolding label heading assigns_once yield
-returns-in_default c = 
+returns-in_default c =
     let fails = answered (byte_of _) c.read_byte_below-a.ensures c.in_default.is in
     handed_on byte_fault c.byte_fault.ensures c.in_default.is (mapped_fault _ (bind_fault _ _ _ fails))
 
 pub returns-in_default-b : goal.returns-in_default-b
 unfolding label heading assigns_once yield
-returns-in_default-b c = 
+returns-in_default-b c =
     let read_a = answered (byte_of _) c.read_byte_below-a.ensures c.in-Value.is in
     let fails = answered (byte_of _) c.read_channel-b.ensures c.in_default-b.is in
     handed_on byte_fault c.byte_fault-in_default-b.ensures c.in_default-b.is
@@ -22,7 +22,7 @@ returns-in_default-b c =
 
 pub returns-in_default-m : goal.returns-in_default-m
 unfolding label heading assigns_once yield
-returns-in_default-m c = 
+returns-in_default-m c =
     let read_a = answered (byte_of _) c.read_byte_below-a.ensures c.in-Value.is in
     let read-b = answered (byte_of _) c.read_channel-b.ensures c.in-Value-b.is in
     let fails = answered (byte_of _) c.read_marks-m.ensures c.in_default-m.is in
@@ -31,7 +31,7 @@ returns-in_default-m c =
 
 pub returns-in_default-u : goal.returns-in_default-u
 unfolding label heading assigns_once yield
-returns-in_default-u c = 
+returns-in_default-u c =
     let read_a = answered (byte_of _) c.read_byte_below-a.ensures c.in-Value.is in
     let read-b = answered (byte_of _) c.read_channel-b.ensures c.in-Value-b.is in
     let read-m = answered (byte_of _) c.read_marks-m.ensures c.in-Value-m.is in
@@ -41,7 +41,7 @@ returns-in_default-u c =
 
 pub returns : goal.returns
 unfolding label heading assigns_once yield
-returns c = 
+returns c =
     let read_a = answered (byte_of _) c.read_byte_below-a.ensures c.in-Value.is in
     let read-b = answered (byte_of _) c.read_channel-b.ensures c.in-Value-b.is in
     let read-m = answered (byte_of _) c.read_marks-m.ensures c.in-Value-m.is in

@@ -1,6 +1,5 @@
 use mathlib.Core.Path.{sym}
 use mathlib.Core.List.{[]}
-use Prim.Native.Nat.{◌-◌}
 use Rattle.lists.specs.Lists.{concat}
 use Rattle.updates.specs.Update.{targets}
 use Rattle.updates.specs.Forms.{form_read, form_fault}

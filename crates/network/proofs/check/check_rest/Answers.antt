@@ -24,11 +24,11 @@ returns-then-to-rest c = let ls = answered (reached _ tt) c.read_locations-l.ens
 pub returns-then-not-keeps_rules : goal.returns-then-not-keeps_rules
 returns-then-not-keeps_rules c = let ls = answered (reached _ tt) c.read_locations-l.ensures c.in-At.is in
     let es = answered (reached _ c.read_edges-e.result.once) c.read_edges-e.ensures.means c.in-At-q.is in
-    λ f. rules_broken c.before.args.counts c.before.args.rest.now _ ls _ _ es c.if-to-rest.false c.before.requires.0 _
+    λ f. rules_broken c.args.counts c.args.rest.now _ ls _ _ es c.if-to-rest.false c.requires.0 _
     (c.read_edges-e.ensures.placed f) _ c.keeps_rules.ensures (c.if-not-keeps_rules.true)
 
 pub returns : goal.returns
 returns c = let ls = answered (reached _ tt) c.read_locations-l.ensures c.in-At.is in
     let es = answered (reached _ c.read_edges-e.result.once) c.read_edges-e.ensures.means c.in-At-q.is in
-    λ f. rules_kept c.before.args.counts c.before.args.rest.now _ ls _ _ es c.if-to-rest.false c.before.requires.0 _
+    λ f. rules_kept c.args.counts c.args.rest.now _ ls _ _ es c.if-to-rest.false c.requires.0 _
     (c.read_edges-e.ensures.placed f) _ c.keeps_rules.ensures (c.if-not-keeps_rules.false)

@@ -29,5 +29,8 @@ loop-i-preserved c = λ n L h.
 pub returns : goal.returns
 unfolding all_stay all concat
 returns c =
-    let none = drop_of_length-le _ c.loop-i-test.false in record { within = λ n L h. sym ((c.loop-i.invariant n L h).0
-          ∙ ap (λ (ms : List ℕ). c.loop-i.after.within && all (stays c.args.c.variables) (concat (λ c.loop-i. c.loop-i.body.updates) (map (λ m. (edge_at n m).label) ms))) none ∙ and-true c.loop-i.after.within); configuration = λ n L h. sym (taken_all_lem n _ _ _ refl ∙ (c.loop-i.invariant n L h).1 ∙ taken_none n _ c.loop-i.after.configuration (edge_at n) none) }
+    let none = drop_of_length-le _ c.loop-i-test.false in record {
+      within = λ n L h. sym ((c.loop-i.invariant n L h).0
+          ∙ ap (λ (ms : List ℕ). c.loop-i.after.within && all (stays c.args.c.variables) (concat (λ l'. l'.body.updates) (map (λ m. (edge_at n m).label) ms))) none ∙ and-true c.loop-i.after.within);
+      configuration = λ n L h. sym (taken_all_lem n _ _ _ refl ∙ (c.loop-i.invariant n L h).1 ∙ taken_none n _ c.loop-i.after.configuration (edge_at n) none);
+    }

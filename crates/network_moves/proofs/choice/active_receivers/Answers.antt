@@ -23,11 +23,11 @@ returns-then-i-ge1024 c = λ n L. absurd (omega (arith, few_edges c.args.counts 
 
 pub loop-m-preserved : goal.loop-m-preserved
 loop-m-preserved c = (
-      length-set c.loop-m.receivers _ _ ∙ c.loop-m.invariant.0,
-      omega (arith, c.loop-m-test.true),
-      λ n L. front_more (map (receiver_at n c.args.c c.args.channel) (below c.args.counts.edges)) c.loop-m.receivers c.loop-m.m 0 _ (c.loop-m.invariant.2 n L) (omega (arith, c.loop-m.invariant.0, c.if-i-ge1024.false)) (omega (arith, long n c.args.c c.args.channel c.args.counts.edges))
-          (c.active_receiver.ensures n L c.loop-m-test.true ∙ sym (get_d_mapped (receiver_at n c.args.c c.args.channel) c.args.counts.edges c.loop-m.m 0 c.loop-m-test.true)),
-    )
+  length-set c.loop-m.receivers _ _ ∙ c.loop-m.invariant.0,
+  omega (arith, c.loop-m-test.true),
+  λ n L. front_more (map (receiver_at n c.args.c c.args.channel) (below c.args.counts.edges)) c.loop-m.receivers c.loop-m.m 0 _ (c.loop-m.invariant.2 n L) (omega (arith, c.loop-m.invariant.0, c.if-i-ge1024.false)) (omega (arith, long n c.args.c c.args.channel c.args.counts.edges))
+      (c.active_receiver.ensures n L c.loop-m-test.true ∙ sym (get_d_mapped (receiver_at n c.args.c c.args.channel) c.args.counts.edges c.loop-m.m 0 c.loop-m-test.true)),
+)
 
 pub returns : goal.returns
 returns c = λ n L. front_all (map (receiver_at n c.args.c c.args.channel) (below c.args.counts.edges)) _ _ _ (c.loop-m.invariant.2 n L) (long n c.args.c c.args.channel c.args.counts.edges) c.loop-m.invariant.1 c.loop-m-test.false

@@ -15,4 +15,4 @@ returns-in-Allowed c = λ n L h l. allowed_as L c.args.c c.args.list.now c.membe
 
 pub returns-in-Broadcast : goal.returns-in-Broadcast
 returns-in-Broadcast c = λ n L h l. let e = c.members_of-members.ensures n L h l in
-    c.none_fits.ensures n _ L (owners_part L c.before.args.c c.before.args.list.now c.members_of-members.result e c.owners_of-owners.ensures) ∙ allowed_as L c.before.args.c c.before.args.list.now c.members_of-members.result e (Case.Broadcast _) c.case_of-case.ensures c.in-Broadcast.is
+    c.none_fits.ensures n _ L (owners_part L c.args.c c.args.list.now c.members_of-members.result e c.owners_of-owners.ensures) ∙ allowed_as L c.args.c c.args.list.now c.members_of-members.result e (Case.Broadcast _) c.case_of-case.ensures c.in-Broadcast.is

@@ -17,11 +17,11 @@ returns-then-i-ge16 c = λ n L h l. absurd (omega arith)
 
 pub loop-i-preserved : goal.loop-i-preserved
 loop-i-preserved c = (
-      length-set c.loop-i.members _ _ ∙ c.loop-i.invariant.0,
-      omega (arith, c.loop-i-test.true),
-      λ n L h. front_more (map (member (label_at n) (owner_at n)) c.args.list.now) c.loop-i.members c.loop-i.i _ _ (c.loop-i.invariant.2 n L h) (omega (arith, c.loop-i.invariant.0)) (omega (arith, length-map c.args.list.now (member (label_at n) (owner_at n))))
-          (c.member_of-next.ensures n L (each_below _ _ h c.loop-i-test.true) ∙ sym (get_d_map (member (label_at n) (owner_at n)) c.args.list.now c.loop-i.i 0 (record { signal = 0; channel = 0; owner = 0 }) c.loop-i-test.true)),
-    )
+  length-set c.loop-i.members _ _ ∙ c.loop-i.invariant.0,
+  omega (arith, c.loop-i-test.true),
+  λ n L h. front_more (map (member (label_at n) (owner_at n)) c.args.list.now) c.loop-i.members c.loop-i.i _ _ (c.loop-i.invariant.2 n L h) (omega (arith, c.loop-i.invariant.0)) (omega (arith, length-map c.args.list.now (member (label_at n) (owner_at n))))
+      (c.member_of-next.ensures n L (each_below _ _ h c.loop-i-test.true) ∙ sym (get_d_map (member (label_at n) (owner_at n)) c.args.list.now c.loop-i.i 0 (record { signal = 0; channel = 0; owner = 0 }) c.loop-i-test.true)),
+)
 
 pub returns : goal.returns
 returns c = λ n L h l. front_all (map (member (label_at n) (owner_at n)) c.args.list.now) _ _ _ (c.loop-i.invariant.2 n L h) (length-map c.args.list.now _) c.loop-i.invariant.1 c.loop-i-test.false

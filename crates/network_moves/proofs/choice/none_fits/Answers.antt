@@ -8,4 +8,4 @@ returns-then-edges-gt1024 c = λ n ms L q. let e = few_edges c.args.counts L.loc
     absurd (omega (arith, e, c.if-edges-gt1024.true))
 
 pub returns : goal.returns
-returns c = λ n ms L q. none_fit L c.before.args.c _ ms c.active_receivers-receivers.result c.maximal.ensures (c.active_receivers-receivers.ensures n L) q
+returns c = λ n ms L q. none_fit L c.args.c _ ms c.active_receivers-receivers.result c.maximal.ensures (c.active_receivers-receivers.ensures n L) q

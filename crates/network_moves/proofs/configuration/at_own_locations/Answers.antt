@@ -1,16 +1,10 @@
 use mathlib.Core.Path.{refl, sym, ap, ◌∙◌}
 use Prim.Native.Nat.{ℕ, ◌-◌}
-use lib.ListN.{length}
 use Rattle.lists.specs.Lists.{all}
 use Rattle.lists.proofs.Lists.{all_next, all_stop}
 use Rattle.lists.proofs.Below.{below_next, below_end}
-use mathlib.Core.Bool.{Bool, ◌&&◌}
-use lib.Dec.{ltb, eqb}
-use Rattle.network_records.specs.Network.{Network, location_at}
 use Rattle.network_moves.proofs.configuration.at_own_locations.Goals as goal
-
-abbrev is_of : Network → ℕ → ℕ → Bool
-is_of n l b = ltb l (length n.locations) && eqb (location_at n l).automaton b
+use Rattle.network_moves.proofs.configuration.at_own_locations.Invariants.{is_of}
 
 pub loop-a-init : goal.loop-a-init
 loop-a-init c = λ n L. refl

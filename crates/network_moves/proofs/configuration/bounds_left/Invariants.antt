@@ -10,7 +10,8 @@ use Rattle.network_moves.specs.Machine.{place, bounds_kept, ticks_under}
 use Rattle.network_moves.specs.declared.configuration.Configuration.{Configuration}
 use Rattle.network_moves.proofs.configuration.bounds_left.Given as goal
 
-abbrev kept : Network → Configuration → ℕ → Bool
+-- the bounds of an automaton's location are kept
+abbrev pub kept : Network → Configuration → ℕ → Bool
 kept n c a = keeps (location_at n (place c a)).bounds c.clocks
 
 abbrev pub invariant-loop-a : goal.invariant-loop-a

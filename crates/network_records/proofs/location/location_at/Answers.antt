@@ -13,7 +13,7 @@ fits c = frame_fits _ c.read_frame-p.ensures.within c.in-Part.is
 
 pub returns-in_default : goal.returns-in_default
 unfolding skipped
-returns-in_default c = 
+returns-in_default c =
     frame_faulty (λ a. tt) byte _ _ _ c.read_frame-p.ensures.means c.in_default.is c.frame_fault.ensures
 
 pub slice_bounds-read_location-count : goal.slice_bounds-read_location-count
@@ -30,5 +30,5 @@ overflow_sub-to c = (fits (goal.at.overflow_sub-to c).In-Part).0
 
 pub returns : goal.returns
 unfolding skipped
-returns c = 
+returns c =
     frame_read (λ a. tt) byte _ _ _ c.read_frame-p.ensures.means tt c.read_location-q.result c.in-Part.is c.read_frame-p.ensures.within c.whole.ensures c.read_location-q.ensures

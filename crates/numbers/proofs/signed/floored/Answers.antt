@@ -21,7 +21,7 @@ small : (c : After-magnitude) → (c.magnitude.result / c.args.d ≤ mag c.args.
 small c = (omega (arith, sized c, div-le_self c.magnitude.result c.args.d), c.ranges.z.sfits)
 
 pub overflow_sub-result : goal.overflow_sub-result
-overflow_sub-result c = 
+overflow_sub-result c =
     let fits : c.magnitude.result / c.args.d < 2 ^ 63 = omega (arith, small (goal.at.overflow_sub-result c).After-magnitude) in
     rw (to_z_pos w64 _ fits, less_is) (less_fits _ _ refl fits)
 

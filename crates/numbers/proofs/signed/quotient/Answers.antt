@@ -14,12 +14,12 @@ divides : (c : Else-not-is_divisor) → is_divisor c.args.d ≡ true
 divides c = sym c.is_divisor.ensures ∙ c.if-not-is_divisor.false
 
 measured : (c : After-magnitude-m) → (c.magnitude-m.result ≡ mag c.args.x) × (c.magnitude-m.result < 2 ^ 31)
-measured c = 
+measured c =
     let e : c.magnitude-m.result ≡ mag c.args.x = c.magnitude-m.ensures ∙ ap mag (read_wide c.args.x c.ranges.x) in
     (e, omega (arith, c.ranges.x.sfits))
 
 pub returns : goal.returns
-returns c = 
+returns c =
     read_back _ c.with_sign.type_inv
     ∙ c.with_sign.ensures
     ∙ rw (c.is_negative.ensures, read_back c.args.x c.ranges.x.sfits, (measured (goal.at.returns c).After-magnitude-m).0) (floored_signed c.args.x c.args.d)

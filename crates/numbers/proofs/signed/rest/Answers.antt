@@ -17,7 +17,7 @@ read : (c : Start) → to_z w64 (of_z w64 c.args.z) ≡ c.args.z
 read c = to_z-of_z w64 _ c.ranges.z
 
 pub returns-then-below_zero : goal.returns-then-below_zero
-returns-then-below_zero c = 
+returns-then-below_zero c =
     read_back _ c.with_sign.type_inv
     ∙ c.with_sign.ensures
     ∙ rw (c.magnitude.ensures, read (goal.at.returns-then-below_zero c).Start)
@@ -25,7 +25,7 @@ returns-then-below_zero c =
     ∙ sym (cond_yes _ _ (divides (goal.at.returns-then-below_zero c).Else-not-is_divisor))
 
 pub returns-else-below_zero : goal.returns-else-below_zero
-returns-else-below_zero c = 
+returns-else-below_zero c =
     read_back _ c.with_sign-else-below_zero.type_inv
     ∙ c.with_sign-else-below_zero.ensures
     ∙ rw (c.magnitude.ensures, read (goal.at.returns-else-below_zero c).Start) (remainder_not_negative _ _

@@ -14,13 +14,13 @@ pub returns-in_default-y : goal.returns-in_default-y
 returns-in_default-y c = combined_right _ _ c.in-Number.is c.in_default-y.is
 
 pub returns-in-2 : goal.returns-in-2
-returns-in-2 c = 
+returns-in-2 c =
     c.sum.ensures ∙ read_both (λ x y. exactly (x +ℤ y)) ((let first : SFits w32 c.in-Number.a = record { sfits = c.in-Number.known_told-1-own.given.0.1 } in first)) ((let second : SFits w32 c.in-Number-y.b = record { sfits = c.in-Number-y.known_told-in-Number-y-1-own.given.0.1 } in second)) ∙ combined_sum c.in-Number.is c.in-Number-y.is c.in-2.is
 
 pub returns-in-3 : goal.returns-in-3
-returns-in-3 c = 
+returns-in-3 c =
     c.difference.ensures ∙ read_both (λ x y. exactly (x -ℤ y)) ((let first : SFits w32 c.in-Number.a = record { sfits = c.in-Number.known_told-1-own.given.0.1 } in first)) ((let second : SFits w32 c.in-Number-y.b = record { sfits = c.in-Number-y.known_told-in-Number-y-1-own.given.0.1 } in second)) ∙ combined_difference c.in-Number.is c.in-Number-y.is c.in-3.is
 
 pub returns-in_default-code : goal.returns-in_default-code
-returns-in_default-code c = 
+returns-in_default-code c =
     c.product.ensures ∙ read_both (λ x y. exactly (x *ℤ y)) ((let first : SFits w32 c.in-Number.a = record { sfits = c.in-Number.known_told-1-own.given.0.1 } in first)) ((let second : SFits w32 c.in-Number-y.b = record { sfits = c.in-Number-y.known_told-in-Number-y-1-own.given.0.1 } in second)) ∙ combined_product c.in-Number.is c.in-Number-y.is c.in_default-code.in_default-code-own.rest.0.1 c.in_default-code.in_default-code-own.rest.1

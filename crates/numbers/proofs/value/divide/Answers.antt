@@ -10,11 +10,11 @@ pub returns-in_default : goal.returns-in_default
 returns-in_default c = divided_none c.args.code c.args.d c.in_default.is
 
 pub returns-then-code-eq5 : goal.returns-then-code-eq5
-returns-then-code-eq5 c = 
+returns-then-code-eq5 c =
     divided_quotient c.args.code c.args.d c.in-Number.is c.if-code-eq5.true
     (read_back _ c.quotient.type_inv ∙ c.quotient.ensures ∙ ap (λ (z : ℤ). cond (is_divisor c.args.d) (floor_div z c.args.d) (pos 0)) (read_back c.in-Number.z c.in-Number.known_told-1-own.given.0.1))
 
 pub returns-else-code-eq5 : goal.returns-else-code-eq5
-returns-else-code-eq5 c = 
+returns-else-code-eq5 c =
     divided_remainder c.args.code c.args.d c.in-Number.is c.if-code-eq5.false
     (read_back _ c.remainder.type_inv ∙ c.remainder.ensures ∙ ap (λ (z : ℤ). cond (is_divisor c.args.d) (floor_mod z c.args.d) (pos 0)) (read_back c.in-Number.z c.in-Number.known_told-1-own.given.0.1))

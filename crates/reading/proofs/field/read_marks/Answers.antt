@@ -7,11 +7,11 @@ pub returns-in_default : goal.returns-in_default
 returns-in_default c = ap (byte_of _) c.in_default.is ∙ sym (such_fault _ _ _ (answered (byte_of _) c.read_byte-b.ensures.means c.in_default.is))
 
 pub returns-then-in_width : goal.returns-then-in_width
-returns-then-in_width c = 
+returns-then-in_width c =
     let read-b = answered (byte_of _) c.read_byte-b.ensures.means c.in-Value.is in
     sym (such_got _ _ _ read-b (sym c.in_width.ensures ∙ c.if-in_width.true))
 
 pub returns-else-in_width : goal.returns-else-in_width
-returns-else-in_width c = 
+returns-else-in_width c =
     let read-b = answered (byte_of _) c.read_byte-b.ensures.means c.in-Value.is in
     sym (such_not _ _ _ read-b (sym c.in_width.ensures ∙ c.if-in_width.false))

@@ -36,7 +36,7 @@ pub returns-then-not-one_sender : goal.returns-then-not-one_sender
 returns-then-not-one_sender c = sym (case_senders _ (first (goal.at.returns-then-not-one_sender c).Else-count-eq0) ((let owners : distinct (map owner_of (take c.args.count c.args.members)) ≡ true = sym c.owners_distinct.ensures ∙ c.if-not-owners_distinct.false in owners)) (ne_eqb _ 0 c.if-m-eq0.false) (sym c.one_sender.ensures ∙ c.if-not-one_sender.true))
 
 pub returns-then-m-rendezvous : goal.returns-then-m-rendezvous
-returns-then-m-rendezvous c = 
+returns-then-m-rendezvous c =
     c.allowed_if-then-m-rendezvous.ensures
     ∙ sym (case_rendezvous _ (first (goal.at.returns-then-m-rendezvous c).Else-count-eq0) ((let owners : distinct (map owner_of (take c.args.count c.args.members)) ≡ true = sym c.owners_distinct.ensures ∙ c.if-not-owners_distinct.false in owners)) (ne_eqb _ 0 c.if-m-eq0.false) (others (goal.at.returns-then-m-rendezvous c).Else-count-eq0)
     (sym c.one_sender.ensures ∙ c.if-not-one_sender.false) (lt-ltb _ _ c.if-m-rendezvous.true))

@@ -35,7 +35,11 @@ remained c h =
 pub returns : goal.returns
 unfolding stays updated
 returns c =
-    record { reached = refl; within = λ h. c.is_number.ensures ∙ ap is_number (stepped (goal.at.returns c).After-steps_after-steps h); values = λ h. c.stored.ensures
-            ∙ ap₂ (λ (vs : List ℤ) (z : ℤ). set vs c.args.a.remainder z)
-            (c.stored-counted.ensures ∙ ap (λ (z : ℤ). set c.args.new c.args.a.steps z) (read_back _ c.number_of.type_inv ∙ c.number_of.ensures ∙ ap number_of (stepped (goal.at.returns c).After-steps_after-steps h)))
-            (remained (goal.at.returns c).After-remainder_after-kept h) }
+    record {
+      reached = refl;
+      within = λ h. c.is_number.ensures ∙ ap is_number (stepped (goal.at.returns c).After-steps_after-steps h);
+      values = λ h. c.stored.ensures
+          ∙ ap₂ (λ (vs : List ℤ) (z : ℤ). set vs c.args.a.remainder z)
+          (c.stored-counted.ensures ∙ ap (λ (z : ℤ). set c.args.new c.args.a.steps z) (read_back _ c.number_of.type_inv ∙ c.number_of.ensures ∙ ap number_of (stepped (goal.at.returns c).After-steps_after-steps h)))
+          (remained (goal.at.returns c).After-remainder_after-kept h);
+    }

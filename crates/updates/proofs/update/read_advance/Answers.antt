@@ -7,20 +7,20 @@ use Rattle.updates.proofs.update.read_advance.Goals as goal
 
 pub returns-in_default : goal.returns-in_default
 unfolding advanced
-returns-in_default c = 
+returns-in_default c =
     let fails = answered (byte_of _) c.read_byte_below-a.ensures c.in_default.is in
     handed_on byte_fault c.byte_fault.ensures c.in_default.is (bind_fault _ _ _ fails)
 
 pub returns-in_default-b : goal.returns-in_default-b
 unfolding advanced
-returns-in_default-b c = 
+returns-in_default-b c =
     let read_a = answered (byte_of _) c.read_byte_below-a.ensures c.in-Value.is in
     let fails = answered (byte_of _) c.read_byte_below-b.ensures c.in_default-b.is in
     handed_on byte_fault c.byte_fault-in_default-b.ensures c.in_default-b.is (bind_got _ _ _ read_a ∙ bind_fault _ _ _ fails)
 
 pub returns-in_default-p : goal.returns-in_default-p
 unfolding advanced
-returns-in_default-p c = 
+returns-in_default-p c =
     let read_a = answered (byte_of _) c.read_byte_below-a.ensures c.in-Value.is in
     let read-b = answered (byte_of _) c.read_byte_below-b.ensures c.in-Value-b.is in
     let fails = answered (short_of _) c.read_short-p.ensures.means c.in_default-p.is in
@@ -29,7 +29,7 @@ returns-in_default-p c =
 
 pub returns-in_default-q : goal.returns-in_default-q
 unfolding advanced
-returns-in_default-q c = 
+returns-in_default-q c =
     let read_a = answered (byte_of _) c.read_byte_below-a.ensures c.in-Value.is in
     let read-b = answered (byte_of _) c.read_byte_below-b.ensures c.in-Value-b.is in
     let read-p = answered (short_of _) c.read_short-p.ensures.means c.in-Value-p.is in
@@ -39,7 +39,7 @@ returns-in_default-q c =
 
 pub returns : goal.returns
 unfolding advanced yield
-returns c = 
+returns c =
     let read_a = answered (byte_of _) c.read_byte_below-a.ensures c.in-Value.is in
     let read-b = answered (byte_of _) c.read_byte_below-b.ensures c.in-Value-b.is in
     let read-p = answered (short_of _) c.read_short-p.ensures.means c.in-Value-p.is in
