@@ -17,7 +17,7 @@ loop-i-preserved c =
     (
       c.loop-i.invariant.0,
       omega arith,
-      c.put_word-place.auto.0 ∙ c.loop-i.invariant.2,
+      c.put_word-place.auto.out ∙ c.loop-i.invariant.2,
       listing_more _ _ _ _ 0 c.loop-i.invariant.3 (let z : length c.args.bounds ≡ 8 = search rules in omega arith) c.put_word-place.ensures,
     )
 

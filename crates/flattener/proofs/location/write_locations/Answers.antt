@@ -17,7 +17,7 @@ loop-i-preserved c =
     (
       c.loop-i.invariant.0,
       omega arith,
-      c.write_location-place.auto.0 ∙ c.loop-i.invariant.2,
+      c.write_location-place.auto.out ∙ c.loop-i.invariant.2,
       λ d L e.
           let p = place_at L _ c.loop-i-test.true in
           let kind = kind_at L _ c.loop-i-test.true in
