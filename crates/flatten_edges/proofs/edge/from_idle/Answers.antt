@@ -1,7 +1,6 @@
 use Rattle.flatten_edges.proofs.Walks.{idle_skip, idle_more, idle_all}
 use Rattle.flatten_edges.proofs.Gathers.{walk_none}
 use Rattle.chart_records.specs.Chart.{states}
-use Prim.Native.Nat.{◌-◌}
 use Rattle.flatten_edges.proofs.edge.from_idle.Goals as goal
 use Rattle.flatten_edges.proofs.edge.from_idle.Goals.{then-of_state-q, else-of_state-q}
 

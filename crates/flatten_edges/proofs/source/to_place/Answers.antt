@@ -1,7 +1,6 @@
 use Rattle.flatten_edges.specs.Sourcing.{from_state}
 use Rattle.flatten_edges.proofs.Departs.{item_from, to_skip, to_more, to_all}
 use Rattle.flatten_edges.proofs.Gathers.{walk_none}
-use Prim.Native.Nat.{◌-◌}
 use Rattle.flatten_edges.proofs.source.to_place.Goals as goal
 use Rattle.flatten_edges.proofs.source.to_place.Goals.{then-of_transition-j, else-of_transition-j}
 

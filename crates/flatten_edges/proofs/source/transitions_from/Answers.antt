@@ -2,7 +2,6 @@ use Rattle.flatten_edges.proofs.Departs.{kept_none, kept_yes, kept_no, sourced_a
 use borrow.Author.Tests.{eq-eqb, ne_eqb}
 use lib.ListN.{length-set}
 use native.Mathlib.Omega.{arith}
-use Prim.Native.Nat.{◌-◌}
 use mathlib.Core.Path.{refl, sym, ◌∙◌}
 use Rattle.flatten_edges.proofs.source.transitions_from.Goals as goal
 use Rattle.flatten_edges.proofs.source.transitions_from.Goals.{then-of_transition-s, else-of_transition-s}
