@@ -6,12 +6,11 @@ pub returns-then-count-gt1024 : goal.returns-then-count-gt1024
 returns-then-count-gt1024 c = λ d n s q T S L h o f g m R. (adds_past _ _ _ c.if-count-gt1024.true, R)
 
 pub returns-then-exit : goal.returns-then-exit
-returns-then-exit c = λ d n s q T S L h o f g m R.
-    (
-      bear_none d _ _ _ T S n _ _ L _ h _ o _ _ q f g m c.joining-e.ensures c.signals_of-s.ensures _ c.of_transition-exit.ensures
-          c.if-exit.true c.bearing_head.ensures c.push.ensures,
-      R,
-    )
+returns-then-exit c = λ d n s q T S L h o f g m R. (
+  bear_none d _ _ _ T S n _ _ L _ h _ o _ _ q f g m c.joining-e.ensures c.signals_of-s.ensures _ c.of_transition-exit.ensures
+      c.if-exit.true c.bearing_head.ensures c.push.ensures,
+  R,
+)
 
 pub returns-then-size-gt1024 : goal.returns-then-size-gt1024
 returns-then-size-gt1024 c = λ d n s q T S L h o f g m R.
