@@ -1,7 +1,6 @@
 use Rattle.flatten_edges.proofs.Bears.{set_more, set_all}
 use Rattle.flatten_edges.proofs.Gathers.{walk_none}
 use native.Mathlib.Omega.{arith}
-use Prim.Native.Nat.{◌-◌}
 use mathlib.Core.Path.{refl}
 use Rattle.flatten_edges.proofs.bear.bear_each.Goals as goal
 

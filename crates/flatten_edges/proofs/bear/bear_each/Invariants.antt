@@ -11,7 +11,7 @@ use mathlib.Core.List.{List}
 use Rattle.flatten_edges.proofs.bear.bear_each.Given as goal
 
 abbrev pub invariant-loop-k : goal.invariant-loop-k
-invariant-loop-k l = (c : Chart) (p q : Place) (l : Label) (xs : List ℕ) → BearsEach c p q l xs l.e l.s l.exit l.off l.sets l.size → Adds l.initial.heads l.count l.heads l.n (concat (set_edge c p q l l.transition l.exit) (take l.k xs))
+invariant-loop-k v = (c : Chart) (p q : Place) (l : Label) (xs : List ℕ) → BearsEach c p q l xs v.e v.s v.exit v.off v.sets v.size → Adds v.initial.heads v.count v.heads v.n (concat (set_edge c p q l v.transition v.exit) (take v.k xs))
 
 abbrev pub decreases-loop-k : goal.decreases-loop-k
 decreases-loop-k l = l.size - l.k

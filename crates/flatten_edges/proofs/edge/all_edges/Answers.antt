@@ -1,7 +1,6 @@
 use Rattle.flattening.specs.Flatten.{all_places}
 use Rattle.flatten_edges.proofs.Visits.{spread_of, place_more, edges_all, place_past}
 use Rattle.flatten_edges.proofs.Gathers.{walk_none}
-use Prim.Native.Nat.{◌-◌}
 use Rattle.flatten_edges.proofs.edge.all_edges.Goals as goal
 
 pub loop-i-init : goal.loop-i-init

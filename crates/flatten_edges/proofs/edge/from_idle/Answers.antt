@@ -1,9 +1,8 @@
 use Rattle.flatten_edges.proofs.Walks.{idle_skip, idle_more, idle_all}
 use Rattle.flatten_edges.proofs.Gathers.{walk_none}
 use Rattle.chart_records.specs.Chart.{states}
-use Prim.Native.Nat.{◌-◌}
-use mathlib.Core.Logic.{⊎_elim}
 use Rattle.flatten_edges.proofs.edge.from_idle.Goals as goal
+use Rattle.flatten_edges.proofs.edge.from_idle.Goals.{then-of_state-q, else-of_state-q}
 
 pub loop-s-init : goal.loop-s-init
 loop-s-init c = λ d T S m f. walk_none _ (states d) _ _
@@ -11,10 +10,10 @@ loop-s-init c = λ d T S m f. walk_none _ (states d) _ _
 pub loop-s-preserved : goal.loop-s-preserved
 loop-s-preserved c = λ d T S m f.
     let i = c.loop-s.invariant d T S m f in
-    ⊎_elim
-    (λ w. rw (w.3, w.4) (idle_more d _ _ _ T S _ _ m f _ c.loop-s-test.true i c.of_state.ensures w.0.taken (λ k h. w.2.ensures d T S m f k h)))
-    (λ w. rw (w.1, w.2) (idle_skip d _ _ _ T S _ _ m f _ c.loop-s-test.true i c.of_state.ensures w.0.left))
-    c.if-of_state-q.branch
+    elim c.if-of_state-q.branch [
+      | then-of_state-q w ↦ rw (w.heads-is, w.n-is) (idle_more d _ _ _ T S _ _ m f _ c.loop-s-test.true i c.of_state.ensures w.if-of_state-q.true (λ k h. w.to_child-n.ensures d T S m f k h))
+      | else-of_state-q w ↦ rw (w.heads-is, w.n-is) (idle_skip d _ _ _ T S _ _ m f _ c.loop-s-test.true i c.of_state.ensures w.if-of_state-q.false)
+    ]
 
 pub returns : goal.returns
 returns c = λ d T S m f. idle_all d _ _ _ T S _ _ (c.loop-s.invariant d T S m f) c.loop-s-test.false

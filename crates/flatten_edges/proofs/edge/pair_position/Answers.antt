@@ -1,4 +1,3 @@
-use Prim.Native.Nat.{◌-◌}
 use Rattle.flatten_edges.proofs.Hears.{search_start, search_on, search_found, search_none}
 use Rattle.flatten_edges.proofs.edge.pair_position.Goals as goal
 

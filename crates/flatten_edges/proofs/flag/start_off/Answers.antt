@@ -1,4 +1,3 @@
-use Rattle.lists.specs.Lists.{has}
 use Rattle.flatten_edges.proofs.Joining.{off_none, off_more, off_all, off_many}
 use Rattle.flatten_edges.proofs.flag.start_off.Goals as goal
 

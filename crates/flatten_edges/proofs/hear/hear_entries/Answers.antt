@@ -1,4 +1,3 @@
-use Prim.Native.Nat.{◌-◌}
 use Rattle.flattening.specs.Flatten.{enter_pairs}
 use Rattle.flatten_edges.proofs.Gathers.{walk_none}
 use Rattle.flatten_edges.proofs.Hears.{entry_more, entry_all}

@@ -1,7 +1,6 @@
 use Rattle.flatten_edges.proofs.Bears.{recalled_none}
 use Rattle.flatten_edges.proofs.Departs.{source_none, source_more, source_past, source_all}
 use native.Mathlib.Omega.{arith}
-use Prim.Native.Nat.{◌-◌}
 use Rattle.flatten_edges.proofs.source.from_source.Goals as goal
 
 pub returns-then-j-places : goal.returns-then-j-places

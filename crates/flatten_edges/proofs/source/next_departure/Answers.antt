@@ -1,6 +1,5 @@
 use Rattle.flatten_edges.proofs.Departs.{lowest_none, lowest_more, lowest_all}
 use native.Mathlib.Omega.{arith}
-use Prim.Native.Nat.{◌-◌}
 use Rattle.flatten_edges.proofs.source.next_departure.Goals as goal
 
 pub loop-k-init : goal.loop-k-init

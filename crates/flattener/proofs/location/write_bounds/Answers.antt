@@ -1,7 +1,6 @@
 use native.Mathlib.Omega.{arith}
 use borrow.Author.Rules.{rules}
 use mathlib.Core.Path.{◌≡◌, refl, ◌∙◌}
-use Prim.Native.Nat.{◌-◌}
 use lib.ListN.{length}
 use Rattle.flattener.proofs.Records.{listing_none, listing_more, listing_some}
 use Rattle.flattener.proofs.location.write_bounds.Goals as goal
@@ -16,7 +15,7 @@ pub loop-i-preserved : goal.loop-i-preserved
 loop-i-preserved c = (
   c.loop-i.invariant.0,
   omega arith,
-  c.put_word-place.auto.0 ∙ c.loop-i.invariant.2,
+  c.put_word-place.auto.out ∙ c.loop-i.invariant.2,
   listing_more _ _ _ _ 0 c.loop-i.invariant.3 (let z : length c.args.bounds ≡ 8 = search rules in omega arith) c.put_word-place.ensures,
 )
 

@@ -1,6 +1,5 @@
 use native.Mathlib.Omega.{arith}
 use mathlib.Core.Path.{refl, ◌∙◌}
-use Prim.Native.Nat.{◌-◌}
 use Rattle.flattening.specs.Flatten.{idle, location_of}
 use Rattle.flattener.proofs.Records.{listing_none, listing_more, listing_all}
 use Rattle.flattener.proofs.Locating.{place_at, place_mem, kind_at, value_at_lem, mark_at_lem, automaton_at, automaton_few, initial_at, location_at_lem, location_lt, located_end, located_few, located_clocks, for_location}
@@ -16,7 +15,7 @@ pub loop-i-preserved : goal.loop-i-preserved
 loop-i-preserved c = (
   c.loop-i.invariant.0,
   omega arith,
-  c.write_location-place.auto.0 ∙ c.loop-i.invariant.2,
+  c.write_location-place.auto.out ∙ c.loop-i.invariant.2,
   λ d L e.
       let p = place_at L _ c.loop-i-test.true in
       let kind = kind_at L _ c.loop-i-test.true in

@@ -1,5 +1,4 @@
 use native.Mathlib.Omega.{arith}
-use Prim.Native.Nat.{◌-◌}
 use lib.ListN.{get_or}
 use Rattle.flattener.proofs.Records.{adding_none, adding_more, adding_all, no_edge, named, record_length, writable_lt, writable_le, writable_head, writable_body}
 use Rattle.flattener.proofs.record.edges_length.Goals as goal

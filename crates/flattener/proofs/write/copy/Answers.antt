@@ -1,4 +1,3 @@
-use Prim.Native.Nat.{◌-◌}
 use native.Mathlib.Omega.{arith}
 use Rattle.flattener.proofs.Writing.{copying_none, copying_more, copying_all, part_not}
 use Rattle.flattener.proofs.write.copy.Goals as goal
