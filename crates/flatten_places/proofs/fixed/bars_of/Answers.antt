@@ -1,5 +1,4 @@
 use mathlib.Core.Path.{refl}
-use Prim.Native.Nat.{◌-◌}
 use Rattle.flatten_places.proofs.Fixing.{barred_none, barred_more}
 use native.Mathlib.Omega.{arith}
 use Rattle.flatten_places.proofs.fixed.bars_of.Goals as goal

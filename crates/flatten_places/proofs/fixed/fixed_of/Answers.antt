@@ -1,5 +1,4 @@
 use mathlib.Core.Path.{refl}
-use Prim.Native.Nat.{◌-◌}
 use Rattle.lists.proofs.Loops.{filled_among_none, filled_among_more}
 use Rattle.chart_records.proofs.Ranges.{kinds_of}
 use Rattle.chart_tree.proofs.Tables.{rooted_of}

@@ -1,5 +1,4 @@
 use mathlib.Core.Path.{refl}
-use Prim.Native.Nat.{◌-◌}
 use Rattle.flattening.specs.Flatten.{all_places}
 use Rattle.flattening.proofs.Counts.{all_places_few}
 use Rattle.flatten_places.proofs.Chartered.{passed_of, ranges_of}
