@@ -10,19 +10,18 @@ pub loop-t-init : goal.loop-t-init
 loop-t-init c = ((omega arith, omega (arith, c.at_most_sixty_four-count.ensures, min-le_right c.args.counts.transitions 64)), refl, refl, refl, refl, λ k n L h. columned_none k _ _ _ _)
 
 pub loop-t-preserved : goal.loop-t-preserved
-loop-t-preserved c =
-    (
-      (omega (arith, c.loop-t-test.true), c.loop-t.invariant.0.1),
-      simp length-set c.loop-t.invariant.1,
-      simp length-set c.loop-t.invariant.2,
-      simp length-set c.loop-t.invariant.3,
-      simp length-set c.loop-t.invariant.4,
-      λ k n L h.
-          let g : c.loop-t.t < n.transitions = omega (arith, h) in
-          columned_more k _ _ _ _ _ (c.loop-t.invariant.5 k n L (omega (arith, h))) c.loop-t.invariant.1 c.loop-t.invariant.2 c.loop-t.invariant.3 c.loop-t.invariant.4 (omega (arith, c.loop-t-test.true, c.loop-t.invariant.0))
-          (c.source_of.ensures k n L g) (c.destination_of.ensures k n L g)
-          (c.exit_of.ensures k n L g) (c.entry_of.ensures k n L g),
-    )
+loop-t-preserved c = (
+  (omega (arith, c.loop-t-test.true), c.loop-t.invariant.0.1),
+  simp length-set c.loop-t.invariant.1,
+  simp length-set c.loop-t.invariant.2,
+  simp length-set c.loop-t.invariant.3,
+  simp length-set c.loop-t.invariant.4,
+  λ k n L h.
+      let g : c.loop-t.t < n.transitions = omega (arith, h) in
+      columned_more k _ _ _ _ _ (c.loop-t.invariant.5 k n L (omega (arith, h))) c.loop-t.invariant.1 c.loop-t.invariant.2 c.loop-t.invariant.3 c.loop-t.invariant.4 (omega (arith, c.loop-t-test.true, c.loop-t.invariant.0))
+      (c.source_of.ensures k n L g) (c.destination_of.ensures k n L g)
+      (c.exit_of.ensures k n L g) (c.entry_of.ensures k n L g),
+)
 
 pub returns : goal.returns
 returns c = λ k L h.
