@@ -13,22 +13,20 @@ pub loop-s-init : goal.loop-s-init
 loop-s-init c = (search rules, omega arith, c.if-s-gt48.false, λ d R K F N B. own_none d c.state_bounds-table.result _ N B)
 
 pub loop-s-preserved-then-inner-x : goal.loop-s-preserved-then-inner-x
-loop-s-preserved-then-inner-x c =
-    (
-      rw length-set c.loop-s.invariant.0,
-      omega arith,
-      c.loop-s.invariant.2,
-      λ d R K F N B. sensed d c.args.tree.parents c.args.tree.kinds c.args.fixed.kinds R K F _ _ N c.loop-s-test.true c.loop-s.invariant.1 c.loop-s.table (c.loop-s.invariant.3 d R K F N B) c.loop-s.invariant.0 c.if-inner-x.true c.join.ensures,
-    )
+loop-s-preserved-then-inner-x c = (
+  rw length-set c.loop-s.invariant.0,
+  omega arith,
+  c.loop-s.invariant.2,
+  λ d R K F N B. sensed d c.args.tree.parents c.args.tree.kinds c.args.fixed.kinds R K F _ _ N c.loop-s-test.true c.loop-s.invariant.1 c.loop-s.table (c.loop-s.invariant.3 d R K F N B) c.loop-s.invariant.0 c.if-inner-x.true c.join.ensures,
+)
 
 pub loop-s-preserved : goal.loop-s-preserved
-loop-s-preserved c =
-    (
-      c.loop-s.invariant.0,
-      omega arith,
-      c.loop-s.invariant.2,
-      λ d R K F N B. unsensed d c.args.tree.parents c.args.tree.kinds c.args.fixed.kinds R K F _ _ N c.loop-s-test.true c.loop-s.invariant.1 c.loop-s.table (c.loop-s.invariant.3 d R K F N B) c.loop-s.invariant.0 c.if-inner-x.false,
-    )
+loop-s-preserved c = (
+  c.loop-s.invariant.0,
+  omega arith,
+  c.loop-s.invariant.2,
+  λ d R K F N B. unsensed d c.args.tree.parents c.args.tree.kinds c.args.fixed.kinds R K F _ _ N c.loop-s-test.true c.loop-s.invariant.1 c.loop-s.table (c.loop-s.invariant.3 d R K F N B) c.loop-s.invariant.0 c.if-inner-x.false,
+)
 
 pub returns : goal.returns
 returns c = λ d S T r F.

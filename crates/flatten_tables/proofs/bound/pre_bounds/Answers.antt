@@ -1,5 +1,4 @@
 use native.Mathlib.Omega.{arith}
-use mathlib.Core.Bool.{false}
 use Rattle.chart_records.specs.Tree.{entered}
 use Rattle.flatten_tables.proofs.Bounding.{joins_none, joins_in, joins_out, joins_all}
 use Rattle.flatten_tables.proofs.bound.pre_bounds.Goals as goal
@@ -8,12 +7,11 @@ pub loop-k-init : goal.loop-k-init
 loop-k-init c = (omega arith, λ d f few R S. joins_none d f few)
 
 pub loop-k-preserved-then-set-k : goal.loop-k-preserved-then-set-k
-loop-k-preserved-then-set-k c =
-    (
-      omega arith,
-      λ d f few R S. joins_in d f _ S _ c.loop-k-test.true c.loop-k.invariant.0 c.args.rows R
-          c.if-set-k.true (c.loop-k.invariant.1 d f few R S) c.join-next.ensures,
-    )
+loop-k-preserved-then-set-k c = (
+  omega arith,
+  λ d f few R S. joins_in d f _ S _ c.loop-k-test.true c.loop-k.invariant.0 c.args.rows R
+      c.if-set-k.true (c.loop-k.invariant.1 d f few R S) c.join-next.ensures,
+)
 
 pub loop-k-preserved : goal.loop-k-preserved
 loop-k-preserved c = (omega arith, λ d f few R S. joins_out d f _ S _ c.loop-k-test.true c.loop-k.invariant.0 c.if-set-k.false (c.loop-k.invariant.1 d f few R S))
