@@ -119,7 +119,7 @@ rows_joined c a b {t} f g e s h =
     ap (λ (x : List (List ℕ)). get_or x s []) e ∙ get_d_join_tables a b s ∙ ap (λ (x : List ℕ). join x (get_or b s [])) (f s h) ∙ ap (join (own c s)) (g s h)
 
 pub row_is : (c : Chart) (tree : Tree) (table : List (List ℕ)) → Bounded c tree table → (s : ℕ) → s < size c → {row : List ℕ} → row ≡ get_or table s [] → row ≡ joined c s
-row_is c tree table B s h e = e ∙ B.rows s h
+row_is c _ table B s h e = e ∙ B.rows s h
 
 pub known_few : (c : Chart) (tree : Tree) {table : List (List ℕ)} → Bounded c tree table → (s : ℕ) → s < size c → s < 48
 known_few c tree B s h = omega (arith, B.tabled.few)

@@ -11,7 +11,6 @@ use lib.Dec.{ltb, eqb}
 use lib.ListN.{length, get_or, set, take, drop, length-map, length-set}
 use lib.Seq.{get_or-set_same, get_or-set_other, get_or-take}
 use Rattle.lists.specs.Lists.{has, keep}
-use Rattle.reading.specs.Answer as answer
 use Rattle.reading.proofs.Answer.{unless_at, then_at}
 use Rattle.lists.proofs.Bools.{cond_yes, cond_no, not_yes, not_no}
 use Rattle.lists.proofs.Once.{Once}

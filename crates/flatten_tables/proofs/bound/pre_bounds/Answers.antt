@@ -1,5 +1,4 @@
 use native.Mathlib.Omega.{arith}
-use mathlib.Core.Bool.{false}
 use Rattle.chart_records.specs.Tree.{entered}
 use Rattle.flatten_tables.proofs.Bounding.{joins_none, joins_in, joins_out, joins_all}
 use Rattle.flatten_tables.proofs.bound.pre_bounds.Goals as goal

@@ -1,6 +1,5 @@
 use native.Mathlib.Omega.{arith}
 use borrow.Author.Rules.{rules}
-use Prim.Native.Nat.{◌-◌}
 use lib.ListN.{length-set}
 use Rattle.chart_records.proofs.Ranges.{counts_range}
 use Rattle.flatten_tables.specs.Bounding.{bounds_at}

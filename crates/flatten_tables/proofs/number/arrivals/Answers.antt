@@ -1,5 +1,4 @@
 use mathlib.Core.Path.{refl}
-use Prim.Native.Nat.{◌-◌}
 use Rattle.lists.proofs.Loops.{filled_among_none, filled_among_more}
 use native.Mathlib.Omega.{arith}
 use Rattle.flatten_tables.proofs.number.arrivals.Goals as goal

@@ -10,7 +10,7 @@ use Rattle.flatten_tables.proofs.number.departures.Given as goal
 abbrev pub invariant-loop-t : goal.invariant-loop-t
 invariant-loop-t l = (k : Chart) → Chartered k → ColumnOf (λ u. u.destination) k l.destinations → ColumnOf (λ u. u.exit) k l.exits
     → ColumnOf (λ u. u.entry) k l.entries → Numbered k l.numbers
-    → FilledAmong 64 (length k.transitions) (λ l.t. number k (departure k l.t)) l.reached l.t
+    → FilledAmong 64 (length k.transitions) (λ t. number k (departure k t)) l.reached l.t
 
 abbrev pub decreases-loop-t : goal.decreases-loop-t
 decreases-loop-t l = 64 - l.t

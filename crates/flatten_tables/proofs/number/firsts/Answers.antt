@@ -1,4 +1,3 @@
-use Prim.Native.Nat.{◌-◌}
 use mathlib.Core.Path.{refl, ◌∙◌}
 use Rattle.lists.proofs.Loops.{filled_among_none, filled_among_more}
 use Rattle.flatten_places.proofs.Placing.{state_column}

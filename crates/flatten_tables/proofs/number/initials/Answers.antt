@@ -1,5 +1,5 @@
 use mathlib.Core.Path.{refl, sym, ap, ◌∙◌, subst}
-use Prim.Native.Nat.{ℕ, ◌-◌}
+use Prim.Native.Nat.{ℕ}
 use Rattle.flattening.specs.Flatten.{number, initial_place}
 use Rattle.flattening.proofs.Automata.{Region, region_at_lem}
 use Rattle.lists.proofs.Loops.{filled_among_none, filled_among_more}

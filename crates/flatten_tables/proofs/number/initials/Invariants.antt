@@ -13,7 +13,7 @@ use Rattle.flatten_tables.proofs.number.initials.Given as goal
 abbrev pub invariant-loop-a : goal.invariant-loop-a
 invariant-loop-a l = (k : Chart) → Chartered k → Tabled k l.tree → ((b : ℕ) → b < length (sequentials k) → get_or l.states b 0 ≡ get_or (sequentials k) b 0)
     → Numbered k l.numbers → l.active ≡ start_set k
-    → FilledAmong 16 (length (sequentials k)) (λ l.a. number k (initial_place k (get_or (sequentials k) l.a 0))) l.initial' l.a
+    → FilledAmong 16 (length (sequentials k)) (λ a. number k (initial_place k (get_or (sequentials k) a 0))) l.initial' l.a
 
 abbrev pub decreases-loop-a : goal.decreases-loop-a
 decreases-loop-a l = 16 - l.a

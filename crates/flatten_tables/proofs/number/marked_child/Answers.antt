@@ -1,5 +1,4 @@
 use mathlib.Core.Path.{sym, ◌∙◌}
-use Prim.Native.Nat.{◌-◌}
 use Rattle.flatten_tables.proofs.Slots.{start_all, start_yes, start_no, start_end, start_test}
 use Rattle.flatten_tables.proofs.number.marked_child.Goals as goal
 

@@ -1,5 +1,4 @@
 use borrow.Author.Rules.{rules}
-use Prim.Native.Nat.{◌-◌}
 use Rattle.flatten_tables.proofs.Tabulates.{parted_none, parted_more, parted_all}
 use Rattle.flatten_tables.proofs.tabulate.child_numbers.Goals as goal
 
