@@ -1,0 +1,31 @@
+use lib.ListN.{length, take}
+use mathlib.Core.Path.{◌≡◌, refl, sym, ap, ◌∙◌}
+use Prim.Native.Nat.{ℕ, ◌-◌, min}
+use Rattle.console.specs.declared.script.Call.{Call}
+use Rattle.console.specs.declared.script.Call.TheVariants as Cl
+use Rattle.chart_calls.specs.Calls.{answer_by}
+use Rattle.console.proofs.Unread.{no_move}
+use native.Mathlib.Omega.{arith}
+use borrow.Author.Rules.{rules}
+use Rattle.chart_calls.proofs.answer.Goals as goal
+
+pub slice_bounds-step-end : goal.slice_bounds-step-end
+slice_bounds-step-end c =
+    let e : length c.args.line.list ≡ 17 = search rules in
+    omega (arith, e, c.least-count.ensures)
+
+pub returns-in-Start : goal.returns-in-Start
+returns-in-Start c = c.start.ensures ∙ ap (λ (k : Call). answer_by c.args.file.now c.args.c k (take (min c.args.line.count 17) c.args.line.list)) (sym c.in-Start.is)
+
+pub returns-in-Step : goal.returns-in-Step
+returns-in-Step c = let whole : c.least-count.result - 0 ≡ min c.args.line.count 17 = (let z : c.least-count.result - 0 ≡ c.least-count.result = omega arith in z) ∙ c.least-count.ensures in
+    c.step.ensures ∙ ap (λ (j : ℕ). answer_by c.args.file.now c.args.c Cl.Step (take j c.args.line.list)) whole
+    ∙ ap (λ (k : Call). answer_by c.args.file.now c.args.c k (take (min c.args.line.count 17) c.args.line.list)) (sym c.in-Step.is)
+
+pub returns-in-Wait : goal.returns-in-Wait
+returns-in-Wait c = c.wait.ensures ∙ ap (λ (k : Call). answer_by c.args.file.now c.args.c k (take (min c.args.line.count 17) c.args.line.list)) (sym c.in-Wait.is)
+
+pub returns-in_default : goal.returns-in_default
+returns-in_default c = c.wait-in_default.ensures
+    ∙ no_move (λ k. answer_by c.args.file.now c.args.c k (take (min c.args.line.count 17) c.args.line.list)) _ refl refl refl refl
+    c.args.line.call c.in_default.in_default-own.keys4
