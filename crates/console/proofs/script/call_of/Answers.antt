@@ -54,6 +54,6 @@ returns-then-same-4 c =
 
 pub returns : goal.returns
 returns c =
-    c.plain-else-same-4.ensures
+    c.plain-2.ensures
     ∙ sym (call_unknown _ _ (found (goal.at.returns c).In-Part) (sym c.same.ensures ∙ c.if-same.false) (sym c.same-2.ensures ∙ c.if-same-2.false)
     (sym c.same-3.ensures ∙ c.if-same-3.false) (sym c.same-4.ensures ∙ c.if-same-4.false))

@@ -9,11 +9,11 @@ use Rattle.console.proofs.script.wait_of.Goals as goal
 use Rattle.console.proofs.script.wait_of.Goals.{In-Part}
 
 -- the word that was found, and that it lies in the line
-found : (c : In-Part) → FirstWord (line c) (words (onward (line c) c.args.at)) (from c) (to c)
+found : (c : In-Part) → FirstWord c.args.s.now (words (onward c.args.s.now c.args.at)) c.in-Part.from c.in-Part.to
 found c =
     words_part _ _ c.next_word-w.result c.next_word-w.ensures.means c.in-Part.is
 
-within : (c : In-Part) → PartWithin (line c) c.args.at (from c) (to c)
+within : (c : In-Part) → PartWithin c.args.s.now c.args.at c.in-Part.from c.in-Part.to
 within c = part_within _ _ c.next_word-w.result c.next_word-w.ensures.within c.in-Part.is
 
 pub returns-in_default : goal.returns-in_default
