@@ -24,7 +24,8 @@ pub returns-in_default : goal.returns-in_default
 returns-in_default c =
     let e = c.refuse.ensures in
     let h = answered header_of c.read_header-h.ensures.means c.in_default.is in
-    record { means = λ f. refused_as _ _ e.0 (header_refused _ h); within = (refused_leaves _ _ e.0 e.1).0; cleared = (refused_leaves _ _ e.0 e.1).1 }
+    let left = refused_leaves c.args.file.now c.refuse.new.offsets e.0 e.1 in
+    record { means = λ f. refused_as _ _ e.0 (header_refused _ h); within = left.0; cleared = left.1 }
 
 pub slice_bounds-check_rest-count : goal.slice_bounds-check_rest-count
 slice_bounds-check_rest-count c = omega (arith, (fits c).0)
@@ -41,10 +42,11 @@ pub returns-in-Refused : goal.returns-in-Refused
 returns-in-Refused c =
     let k = (goal.at.returns-in-Refused c).In-Counts in
     let e = c.refuse-in-Refused.ensures in
+    let left = refused_leaves c.args.file.now c.refuse-in-Refused.new.offsets e.0 e.1 in
     record {
       means = λ f. refused_as _ _ e.0 (not_found _ _ (checked_file _ (counted k) _ c.check_rest-finding.result (c.check_rest-finding.ensures f)) c.in-Refused.is);
-      within = (refused_leaves _ _ e.0 e.1).0;
-      cleared = (refused_leaves _ _ e.0 e.1).1;
+      within = left.0;
+      cleared = left.1;
     }
 
 pub returns-in-Counts-finding : goal.returns-in-Counts-finding
