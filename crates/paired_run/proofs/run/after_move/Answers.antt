@@ -3,7 +3,7 @@ use Rattle.paired_run.proofs.Following.{follows_none, follows_some}
 use Rattle.paired_run.proofs.run.after_move.Goals as goal
 
 -- the list is an array of sixteen
-long : (c : tie.After-list2) → length c.before.before.before.before.args.carried.list ≡ 16
+long : (c : tie.After-list2) → length c.before.before.before.before.before.args.carried.list ≡ 16
 long c = search rules
 
 pub returns-then-count-eq0 : goal.returns-then-count-eq0
@@ -18,6 +18,6 @@ slice_bounds-named-end c = omega (arith, long «After-list»)
 pub returns : goal.returns
 returns c =
     λ d x h S safe.
-    follows_some d x _ S c.before.args.carried c.before.args.file.now h (long «After-list») (omega arith) c.chart-1.false safe
-    c.step-arg-1.ensures (c.named.ensures d h)
+    follows_some d x _ S c.args.carried c.args.file.now h (long «After-list») (omega arith) c.if-count-eq0.false safe
+    c.step-outcome.ensures (c.named.ensures d h)
     c.wrapping_add_u64-owed.ensures
