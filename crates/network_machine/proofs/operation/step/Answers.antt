@@ -12,7 +12,7 @@ use Rattle.network_machine.proofs.operation.step.Goals.{In-Counts}
 
 -- the file is longer than version and length
 fits : (c : In-Counts) → 13 ≤ length c.args.file.now
-fits k = found_fits _ k.before.before.before.check.ensures.1.0 k.before.finding.given.1
+fits c = found_fits _ c.check-finding.ensures.within c.in-Counts.is
 
 pub returns-in_default : goal.returns-in_default
 returns-in_default c = let h = c.check-finding.ensures.means (length-replicate {A = ℕ} 1024 0) in
