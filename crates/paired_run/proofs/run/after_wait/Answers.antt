@@ -5,4 +5,4 @@ pub returns-in_default : goal.returns-in_default
 returns-in_default c = λ d n calls F S. wait_refused F calls S _ c.wait-moved.ensures c.in_default.is (c.refused.ensures _ S)
 
 pub returns : goal.returns
-returns c = λ d n calls F S. wait_follows F calls S _ c.next-1.ensures c.wait-arg-2-1.given.1 c.wait-outcome.ensures
+returns c = λ d n calls F S. wait_follows F calls S _ c.wait-moved.ensures c.in-Done.is c.wait-outcome.ensures

@@ -24,17 +24,17 @@ returns-in_default c = λ ts H.
 pub loop-i-preserved : goal.loop-i-preserved
 loop-i-preserved c =
     let next : (ts : List ℕ) → Holds c.args.window c.args.ring.now c.args.state.recent ts →
-    ReadTo c.args.window c.take_byte-r.new.0 (bytes_said (said ts c.args.state.line) (take (c.loop-i.i + 1) c.args.bytes.now)) (Re.On c.in-On.next) =
+    ReadTo c.args.window c.take_byte-r.new.ring (bytes_said (said ts c.args.state.line) (take (c.loop-i.i + 1) c.args.bytes.now)) (Re.On c.in-On.next) =
     λ ts H. read_is
     c.args.window
-    c.take_byte-r.new.0
+    c.take_byte-r.new.ring
     (bytes_said (said ts c.args.state.line) (take (c.loop-i.i + 1) c.args.bytes.now))
     (read_next _ _ _ _ _ _ _ _ c.loop-i-test.true (c.loop-i.invariant.4 ts H) c.take_byte-r.ensures)
     c.in-On.is
     in
     let holds = on_holds
     c.args.window
-    c.take_byte-r.new.0
+    c.take_byte-r.new.ring
     (bytes_said (said c.requires.1.0 c.args.state.line) (take (c.loop-i.i + 1) c.args.bytes.now))
     c.in-On.next
     (next c.requires.1.0 c.requires.1.1)
