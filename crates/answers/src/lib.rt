@@ -1,4 +1,4 @@
-// Answers to requests, on standard output.
+// Answers to requests, on an output.
 #![tactic(auto)]
 
 mod checksum;

@@ -49,7 +49,7 @@ fn take_line(
     shown(out, file, network_calls::answer(file, c, line))
 }
 
-// The whole script. Rattle has no closures, so each program has the loop over the lines itself.
+// The whole script. Each program has the loop over the lines itself.
 fn run(out: &mut impl Write, file: &[u8], lines: &[u8]) -> io::Result<()> {
     let mut c = network_calls::no_configuration();
     let mut number = 1;

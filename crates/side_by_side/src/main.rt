@@ -50,7 +50,7 @@ fn no_run() -> Run
     }
 }
 
-// The whole script. Rattle has no closures, so each program has the loop over the lines itself.
+// The whole script. Each program has the loop over the lines itself.
 fn run(out: &mut impl Write, file: &[u8], bytes: &[u8], lines: &[u8]) -> io::Result<()> {
     let mut r = no_run();
     let mut number = 1;
