@@ -229,6 +229,7 @@ pub fn maximal(receivers: &[u8], owners: &[u8]) -> bool
 
 // What becomes of a step by its last three tests: its set is allowed, its updates stay in the range, the bounds after it are kept.
 // What a set leads to is computed before, also where the set is not allowed, and dropped where the step is refused.
+#[tactic(auto, unfolding(crate::specs::Last::last_tests))]
 pub fn last_tests(allowed: bool, within: bool, kept: bool) -> Verdict
     ensures { result ≡ last_tests allowed within kept }
 {

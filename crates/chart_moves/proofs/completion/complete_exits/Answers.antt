@@ -25,7 +25,7 @@ loop-s-preserved-then-above-s c = (
   c.loop-s.invariant.2,
   λ d σ T S X e.
       passed_child d σ T _ _ _ S c.loop-s.rows c.loop-s.s (c.loop-s.s - 1) (c.loop-s.invariant.3 d σ T S X e) (omega (arith, c.loop-s-test.true)) (omega (arith, e, c.loop-s.invariant.1, c.loop-s-test.true)) (omega (arith, c.loop-s.invariant.0, c.loop-s.invariant.1, c.loop-s.invariant.2, c.loop-s-test.true))
-      c.completing.ensures c.args.t.exits X c.if-active-s.true c.byte_at-above.ensures c.unbarred_by-unbarred.ensures c.if-above-s.true,
+      c.completing.ensures c.args.t.exits X (search rules) c.byte_at-above.ensures c.unbarred_by-unbarred.ensures c.if-above-s.true,
 )
 
 pub loop-s-preserved-else-above-s : goal.loop-s-preserved-else-above-s
@@ -35,7 +35,7 @@ loop-s-preserved-else-above-s c = (
   c.loop-s.invariant.2,
   λ d σ T S X e.
       passed_root d σ T _ _ _ S c.loop-s.rows c.loop-s.s (c.loop-s.s - 1) (c.loop-s.invariant.3 d σ T S X e) (omega (arith, c.loop-s-test.true)) (omega (arith, e, c.loop-s.invariant.1, c.loop-s-test.true)) (omega (arith, c.loop-s.invariant.0, c.loop-s.invariant.1, c.loop-s.invariant.2, c.loop-s-test.true))
-      c.completing.ensures c.args.t.exits X c.if-active-s.true c.byte_at-above.ensures c.unbarred_by-unbarred.ensures c.if-above-s.false,
+      c.completing.ensures c.args.t.exits X (search rules) c.byte_at-above.ensures c.unbarred_by-unbarred.ensures c.if-above-s.false,
 )
 
 pub loop-s-preserved : goal.loop-s-preserved
@@ -45,7 +45,7 @@ loop-s-preserved c = (
   c.loop-s.invariant.2,
   λ d σ T S X e.
       passed_idle d σ T _ _ _ S c.loop-s.rows c.loop-s.s (c.loop-s.s - 1) (c.loop-s.invariant.3 d σ T S X e) (omega (arith, c.loop-s-test.true)) (omega (arith, e, c.loop-s.invariant.1, c.loop-s-test.true)) (omega (arith, c.loop-s.invariant.0, c.loop-s.invariant.1, c.loop-s.invariant.2, c.loop-s-test.true))
-      c.completing.ensures c.if-active-s.false,
+      c.completing.ensures (search rules),
 )
 
 pub returns : goal.returns
