@@ -3,7 +3,7 @@ ghost use Rattle.std.specs.Prelude.{◌≡◌};
 ghost use Rattle.numbers.specs.Integer.{signed};
 
 use crate::checksum::checksum;
-use numbers::signed::{absolute, is_negative};
+use reading::refusal::Refusal;
 use std::io;
 use std::io::Write;
 
@@ -16,9 +16,8 @@ pub fn number(out: &mut impl Write, n: u64) -> io::Result<()> {
 }
 
 // A refusal is its number.
-pub fn refusal(out: &mut impl Write, k: u8) -> io::Result<()> {
-    number(out, k as u64)?;
-    text(out, b"\n")
+pub fn refusal(out: &mut impl Write, r: Refusal) -> io::Result<()> {
+    writeln!(out, "{}", r.number())
 }
 
 // The end of a run on input that is not made of whole requests.
@@ -30,12 +29,7 @@ pub fn malformed(out: &mut impl Write) -> io::Result<()> {
 fn bits(z: i32) -> u32
     ensures { signed result ≡ z }
 {
-    let n = absolute(z);
-    if is_negative(z) {
-        4294967295 - n + 1
-    } else {
-        n
-    }
+    z.cast_unsigned()
 }
 
 // Two hexadecimal digits.
@@ -45,7 +39,7 @@ fn byte(out: &mut impl Write, x: u8) -> io::Result<()> {
 
 // 1 for what is active.
 fn mark(out: &mut impl Write, b: bool) -> io::Result<()> {
-    if b { byte(out, 1) } else { byte(out, 0) }
+    byte(out, b as u8)
 }
 
 // Eight hexadecimal digits.
@@ -59,37 +53,33 @@ fn value(out: &mut impl Write, z: i32) -> io::Result<()> {
 
 // A network that was written: how many bytes it has, and their checksum.
 pub fn flattened(out: &mut impl Write, t: &[u8]) -> io::Result<()> {
-    text(out, b"ok ")?;
-    number(out, t.len() as u64)?;
-    text(out, b" ")?;
-    word(out, checksum(t))?;
-    text(out, b"\n")
+    writeln!(out, "ok {} {:08x}", t.len(), checksum(t))
 }
 
 fn bytes(out: &mut impl Write, t: &[u8]) -> io::Result<()> {
-    for x in t {
-        byte(out, *x)?;
+    for &x in t {
+        byte(out, x)?;
     }
     Ok(())
 }
 
 fn marks(out: &mut impl Write, t: &[bool]) -> io::Result<()> {
-    for x in t {
-        mark(out, *x)?;
+    for &x in t {
+        mark(out, x)?;
     }
     Ok(())
 }
 
 fn words(out: &mut impl Write, t: &[u32]) -> io::Result<()> {
-    for x in t {
-        word(out, *x)?;
+    for &x in t {
+        word(out, x)?;
     }
     Ok(())
 }
 
 fn values(out: &mut impl Write, t: &[i32]) -> io::Result<()> {
-    for x in t {
-        value(out, *x)?;
+    for &x in t {
+        value(out, x)?;
     }
     Ok(())
 }
@@ -125,13 +115,13 @@ fn listed(out: &mut impl Write, first: bool, n: u16) -> io::Result<()> {
     if !first {
         text(out, b",")?;
     }
-    number(out, n as u64)
+    write!(out, "{n}")
 }
 
 // Numbers with commas.
 pub fn numbers(out: &mut impl Write, t: &[u16]) -> io::Result<()> {
-    for i in 0..t.len() {
-        listed(out, i == 0, t[i])?;
+    for (i, &n) in t.iter().enumerate() {
+        listed(out, i == 0, n)?;
     }
     Ok(())
 }

@@ -14,8 +14,5 @@ pub struct Best {
 pub fn in_window(window: u32, start: u32, tick: u32) -> bool
     ensures { result ≡ in_window window start tick }
 {
-    if tick < start {
-        return false;
-    }
-    tick - start < window
+    start <= tick && tick - start < window
 }

@@ -5,17 +5,18 @@ use mathlib.Core.Logic.{inr, ⊎_elim}
 use mathlib.Core.List.{List}
 use Prim.Native.Nat.{ℕ, zero, suc, ◌+◌, ◌-◌, ◌≤◌, ◌<◌}
 use native.Mathlib.Omega.{arith}
-use borrow.Author.Tests.{leb-true, leb-false, le-ltb, lt-ltb, ltb-true, ltb-false}
+use borrow.Author.Tests.{leb-true, leb-false, le-ltb, ltb-true, ltb-false}
 use lib.Dec.{ltb}
 use lib.ListN.{length}
+use Rattle.std.specs.Prelude.{Option}
 use Rattle.lists.specs.Lists.{all, below, range}
-use Rattle.lists.proofs.Bools.{and_l, and_r, cond_yes, cond_no, decided}
+use Rattle.lists.proofs.Bools.{and_l, and_r, cond_no, decided}
 use Rattle.lists.proofs.Lists.{all_more, all_not}
 use Rattle.lists.proofs.Below.{below_more, all_below, below_at}
 use Rattle.break_windows.specs.Breaks.{in_window, climbs}
 use Rattle.break_windows.specs.Found.{at, Climbs, Bounded, Found, Sought}
 use Rattle.breaks.specs.Passes.{climbs_at, block_climbs, apart, quiet_at, block_quiet, PassedTo, grown_where}
-use Rattle.breaks.specs.declared.pass.Passed.{Passed}
+use Rattle.break_windows.specs.declared.window.Best.{Best}
 use Rattle.break_windows.proofs.Climbing.{climbs_places, climbs_falls}
 use Rattle.break_windows.proofs.Windows.{in_window_lem, window_in, window_out}
 use Rattle.break_windows.proofs.Passing.{found_grown, found_is, sought_is, sought_found, sought_same}
@@ -32,9 +33,6 @@ pub tested_all : (p : ℕ → Bool) {k : ℕ} (n : ℕ) {b : Bool} → b ≡ all
 tested_all p {k} n e h l = e ∙ ap (λ (i : ℕ). all p (below i)) (let z : k ≡ n = omega arith in z)
 
 -- how far a tick is from another
-pub apart_less : (s t : ℕ) → t < s → t + (4294967295 - s) + 1 ≡ apart s t
-apart_less s t h = sym (cond_yes _ _ (lt-ltb t s h))
-
 pub apart_most : (s t : ℕ) → s ≤ t → t - s ≡ apart s t
 apart_most s t h = sym (cond_no _ _ (le-ltb t s h))
 
@@ -128,7 +126,7 @@ unfolding block_climbs
 block_grown w ts n c m f S h e = sought_found c (omega (arith, S.least)) (found_block w ts n m (omega (arith, S.some, S.bounded.reach)) S.some S.bounded 31 (block_each (climbs_at ts) n 32 h) e)
 
 pub block_passed :
-    (w : ℕ) (ts : List ℕ) (n c m f : ℕ) {r : Passed} → Sought w ts n c m f → n + 32 ≤ length ts →
+    (w : ℕ) (ts : List ℕ) (n c m f : ℕ) {r : Option Best} → Sought w ts n c m f → n + 32 ≤ length ts →
     in_window w (at ts (n - m)) (at ts (n + 31)) ≡ true → r ≡ grown_where (block_climbs ts n) m (at ts (n - m)) → PassedTo w ts (n + 32) c r
 block_passed w ts n c m f S l e g = rw g (⊎_elim
     (λ b. rw b (block_grown w ts n c m f S b e))

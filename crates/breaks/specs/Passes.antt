@@ -1,24 +1,19 @@
 -- What the functions of the pass answer.
-use Rattle.std.specs.Prelude.{ℕ, ◌+◌, ◌-◌, ◌≡◌, Bool, true, false, cond, ◌&&◌, List, leb, ltb, eqb, length}
+use Rattle.std.specs.Prelude.{ℕ, ◌+◌, ◌-◌, ◌≡◌, Bool, true, false, cond, ◌&&◌, List, leb, ltb, eqb, length, Option, Some, None}
 use Rattle.lists.specs.Lists.{all, below}
-use Rattle.reading.specs.Answer.{Answer, done, refused}
 use Rattle.break_windows.specs.Breaks.{counted, climbs}
 use Rattle.break_windows.specs.Found.{at, Climbs, Found, Sought}
 use Rattle.break_windows.specs.declared.window.Best.{Best}
-use Rattle.breaks.specs.declared.pass.Passed.{Passed}
-use Rattle.breaks.specs.declared.pass.Passed.TheVariants as Pa
-use Rattle.breaks.specs.declared.busiest.Counted.{Counted}
-use Rattle.breaks.specs.declared.busiest.Counted.TheVariants as Co
 
 -- what a pass up to place n has found, or that the list falls
-abbrev pub PassedTo : ℕ → List ℕ → ℕ → ℕ → Passed → Type 0
-PassedTo w ts n c (Pa.To b) = Sought w ts n c b.count b.first
-PassedTo w ts n c Pa.Falls = climbs ts ≡ false
+abbrev pub PassedTo : ℕ → List ℕ → ℕ → ℕ → Option Best → Type 0
+PassedTo w ts n c (Some b) = Sought w ts n c b.count b.first
+PassedTo w ts n c None = climbs ts ≡ false
 
 -- what a pass over all ticks has found
-abbrev pub PassedAll : ℕ → List ℕ → Passed → Type 0
-PassedAll w ts (Pa.To b) = Found w ts (length ts) b.count b.first
-PassedAll w ts Pa.Falls = climbs ts ≡ false
+abbrev pub PassedAll : ℕ → List ℕ → Option Best → Type 0
+PassedAll w ts (Some b) = Found w ts (length ts) b.count b.first
+PassedAll w ts None = climbs ts ≡ false
 
 -- what a pass begins with, where some window has m breaks and t is the first tick: windows of up to m - 1 breaks are passed over
 abbrev pub first_best : ℕ → ℕ → Best
@@ -50,11 +45,6 @@ unfoldable pub block_quiet : ℕ → ℕ → List ℕ → ℕ → Bool
 block_quiet w m ts from = all (λ k. quiet_at w m ts (from + k)) (below 32)
 
 -- 32 breaks more where the ticks climb
-abbrev pub grown_where : Bool → ℕ → ℕ → Passed
-grown_where true m s = Pa.To (counted (m + 32) s)
-grown_where false m s = Pa.Falls
-
--- what the operation answers
-abbrev pub told : Answer Best → Counted
-told (done b) = Co.Breaks b
-told (refused k) = Co.Refused k
+abbrev pub grown_where : Bool → ℕ → ℕ → Option Best
+grown_where true m s = Some (counted (m + 32) s)
+grown_where false m s = None

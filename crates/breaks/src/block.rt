@@ -4,7 +4,7 @@ ghost use Rattle.std.specs.Prelude.{◌≡◌, ℕ, ◌+◌, ◌≤◌, ◌<◌,
 ghost use Rattle.break_windows.specs.Found.{Sought};
 ghost use Rattle.breaks.specs.Passes.{PassedTo, climbs_at, block_climbs, apart, quiet_at, block_quiet, grown_where};
 
-use crate::pass::{Passed, pass};
+use crate::pass::pass;
 use break_windows::window::{Best, in_window};
 
 // Whether the tick at a place is not smaller than the one before it.
@@ -22,7 +22,7 @@ pub fn block_climbs(ticks: &[u32], from: usize) -> bool
 {
     let mut climbs = true;
     for k in 0..32 {
-        climbs = climbs & climbs_at(ticks, from + k);
+        climbs &= climbs_at(ticks, from + k);
     }
     climbs
 }
@@ -32,10 +32,7 @@ pub fn block_climbs(ticks: &[u32], from: usize) -> bool
 fn apart(start: u32, tick: u32) -> u32
     ensures { result ≡ apart start tick }
 {
-    if tick < start {
-        return tick + (4294967295 - start) + 1;
-    }
-    tick - start
+    tick.wrapping_sub(start)
 }
 
 // Whether the tick at a place is not smaller than the one before it, and does not grow a window of so many breaks.
@@ -53,27 +50,27 @@ fn block_quiet(ticks: &[u32], from: usize, window: u32, count: usize) -> bool
 {
     let mut quiet = true;
     for k in 0..32 {
-        quiet = quiet & quiet_at(ticks, from + k, window, count);
+        quiet &= quiet_at(ticks, from + k, window, count);
     }
     quiet
 }
 
 // The pass over 32 ticks of which the last, and so each, is in the window that begins at the first of the last `count` before them.
-fn pass_grown(ticks: &[u32], from: usize, count: usize, start: u32) -> Passed
+fn pass_grown(ticks: &[u32], from: usize, count: usize, start: u32) -> Option<Best>
     requires { (1 ≤ from) × (count ≤ from) × (from + 32 ≤ length ticks.now) }
     ensures { result ≡ grown_where (block_climbs ticks.now from) count start }
 {
     if !block_climbs(ticks, from) {
-        return Passed::Falls;
+        return None;
     }
-    Passed::To(Best {
+    Some(Best {
         count: count + 32,
         first: start,
     })
 }
 
 // The pass over 32 ticks.
-pub fn pass_block(ticks: &[u32], from: usize, window: u32, best: Best) -> Passed
+pub fn pass_block(ticks: &[u32], from: usize, window: u32, best: Best) -> Option<Best>
     requires { (from + 32 ≤ length ticks.now) × ((c : ℕ) × Sought window ticks.now from c best.count best.first) }
     ensures { (c : ℕ) → Sought window ticks.now from c best.count best.first → PassedTo window ticks.now (from + 32) c result }
 {
@@ -83,7 +80,7 @@ pub fn pass_block(ticks: &[u32], from: usize, window: u32, best: Best) -> Passed
         return pass_grown(ticks, from, count, start);
     }
     if block_quiet(ticks, from, window, count) {
-        return Passed::To(best);
+        return Some(best);
     }
     pass(ticks, from, from + 32, window, best)
 }

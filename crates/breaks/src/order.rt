@@ -11,12 +11,10 @@ fn climbs_on(ticks: &[u32], from: usize, to: usize) -> bool
     requires { (1 ≤ from) × (from ≤ to) × (to ≤ length ticks.now) × Climbs ticks.now from }
     ensures { OrderedTo ticks.now to result }
 {
-    let mut end = from;
-    while end < to {
+    for end in from..to {
         if !climbs_at(ticks, end) {
             return false;
         }
-        end += 1;
     }
     true
 }
@@ -26,12 +24,11 @@ pub fn climbs_to(ticks: &[u32], to: usize) -> bool
     requires { (1 ≤ to) × (to ≤ length ticks.now) }
     ensures { OrderedTo ticks.now to result }
 {
-    let mut end = 1;
-    while to - end >= 32 {
-        if !block_climbs(ticks, end) {
+    let blocks = (to - 1) / 32;
+    for k in 0..blocks {
+        if !block_climbs(ticks, 1 + 32 * k) {
             return false;
         }
-        end += 32;
     }
-    climbs_on(ticks, end, to)
+    climbs_on(ticks, 1 + 32 * blocks, to)
 }

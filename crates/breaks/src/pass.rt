@@ -7,32 +7,23 @@ ghost use Rattle.breaks.specs.Passes.{PassedTo};
 
 use break_windows::window::{Best, in_window};
 
-// What a pass found, or that a tick is smaller than the one before it.
-#[derive(Clone, Copy)]
-pub enum Passed {
-    To(Best),
-    Falls,
-}
-
-// The pass over the ticks from one place up to another.
-pub fn pass(ticks: &[u32], from: usize, to: usize, window: u32, best: Best) -> Passed
+// The pass over the ticks from one place up to another: what it found, or none where a tick is smaller than the one before it.
+pub fn pass(ticks: &[u32], from: usize, to: usize, window: u32, best: Best) -> Option<Best>
     requires { (from ≤ to) × (to ≤ length ticks.now) × ((c : ℕ) × Sought window ticks.now from c best.count best.first) }
     ensures { (c : ℕ) → Sought window ticks.now from c best.count best.first → PassedTo window ticks.now to c result }
 {
     let mut count = best.count;
     let mut first = best.first;
-    let mut end = from;
-    while end < to {
+    for end in from..to {
         let tick = ticks[end];
         if tick < ticks[end - 1] {
-            return Passed::Falls;
+            return None;
         }
         let start = ticks[end - count];
         if in_window(window, start, tick) {
             count += 1;
             first = start;
         }
-        end += 1;
     }
-    Passed::To(Best { count, first })
+    Some(Best { count, first })
 }

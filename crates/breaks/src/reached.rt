@@ -1,6 +1,6 @@
 // A number of breaks that some window has, from a few windows that end far apart. A pass that begins with it need not grow its
 // window break by break, which takes longer than to move it.
-ghost use Rattle.std.specs.Prelude.{◌≡◌, true, ◌-◌, ◌≤◌, max, length};
+ghost use Rattle.std.specs.Prelude.{◌≡◌, true, ◌-◌, ◌≤◌, length};
 ghost use Rattle.break_windows.specs.Breaks.{in_window};
 ghost use Rattle.break_windows.specs.Found.{at, Reaches};
 
@@ -16,6 +16,7 @@ fn breaks_before(ticks: &[u32], end: usize, window: u32) -> usize
     ensures { (1 ≤ result) × (result ≤ end) × (in_window window (at ticks.now (end - result)) (at ticks.now (end - 1)) ≡ true) }
 {
     let last = ticks[end - 1];
+    // Kept as a loop: `partition_point` promises nothing of ticks that do not climb.
     let mut low = 0;
     let mut high = end - 1;
     while low < high {
@@ -29,22 +30,14 @@ fn breaks_before(ticks: &[u32], end: usize, window: u32) -> usize
     end - high
 }
 
-fn greatest(a: usize, b: usize) -> usize
-    ensures { result ≡ max a b }
-{
-    if a < b { b } else { a }
-}
-
 // The most breaks of these windows, and at least 1.
 pub fn reached(ticks: &[u32], window: u32) -> usize
     requires { (1 ≤ length ticks.now) × (1 ≤ window) }
     ensures { Reaches window ticks.now result }
 {
     let mut most = 1;
-    let mut end = 0;
-    while ticks.len() - end >= APART {
-        end += APART;
-        most = greatest(most, breaks_before(ticks, end, window));
+    for end in (APART..=ticks.len()).step_by(APART) {
+        most = most.max(breaks_before(ticks, end, window));
     }
     most
 }

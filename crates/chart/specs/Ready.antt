@@ -9,8 +9,6 @@ use Rattle.chart_records.specs.Rules.{parents, entry_marks, siblings, exits, kee
 use Rattle.chart_records.specs.Laid.{Laid}
 use Rattle.chart_tree.specs.Table.{Tabled}
 use Rattle.chart_records.specs.declared.header.Counts.{Counts}
-use Rattle.chart_records.specs.declared.header.HeaderRead.{HeaderRead}
-use Rattle.chart_records.specs.declared.header.HeaderRead.TheVariants as Hd
 use Rattle.chart_tree.specs.declared.table.Tree.{Tree}
 
 -- the chart of the bytes after the header
@@ -21,10 +19,6 @@ chart_from n s = numbered (records n s) >>= keeps_rules
 abbrev pub fault_number : Fault → ℕ
 fault_number Fl.Length = 3
 fault_number Fl.Range = 4
-
-abbrev pub header_refusal : HeaderRead → ℕ
-header_refusal (Hd.Counts n) = 0
-header_refusal (Hd.Refused k) = k
 
 -- counts, offsets and tables of a chart that keeps the rules, whose records stand in the bytes. By rule 11 a composite source has
 -- a declared exit, by which a step looks it up among the completed states

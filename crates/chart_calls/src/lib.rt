@@ -1,61 +1,49 @@
-// The calls of a script on a chart, for the programs that run one.
+// The chart machine, as a script calls it.
 #![tactic(auto)]
 
-ghost use Rattle.std.specs.Prelude.{◌≡◌};
-ghost use Rattle.chart_machine.specs.Outcomes.{zero_configuration};
-ghost use Rattle.chart_calls.specs.Calls.{answer_to};
+ghost use Rattle.chart_calls.specs.Calls.{chart};
 
-use chart_machine::operation::Outcome;
+use chart_machine::operation;
 use chart_moves::configuration::Configuration;
-use clocks::left::Longest;
+use console::machine::Machine;
 use console::print;
-use console::script::{Call, Line};
-use lists::number::least;
 use reading::field::byte_at;
+use reading::refusal::Refusal;
 use std::io;
 use std::io::Write;
 
-// The declared part of a configuration. The counts stand in the file's header.
-pub fn show(out: &mut impl Write, file: &[u8], c: Configuration) -> io::Result<()> {
-    let active = c.active;
-    let variables = c.variables;
-    let clocks = c.clocks;
-    print::states(out, &active)?;
-    print::variables(out, &variables, byte_at(file, 5))?;
-    print::clocks(out, &clocks, byte_at(file, 4))
-}
+// The chart machine.
+pub struct Chart;
 
-// What stands for a configuration before the start.
-pub fn no_configuration() -> Configuration
-    ensures { result ≡ zero_configuration }
-{
-    Configuration {
-        active: [false; 48],
-        variables: [0; 16],
-        clocks: [0; 8],
+impl Machine for Chart {
+    type Configuration = Configuration;
+
+    ghost operations = { chart };
+
+    fn zero() -> Configuration {
+        Configuration::zero()
     }
-}
 
-// Asks for the longest wait, and shows it, or the refusal.
-pub fn show_longest(out: &mut impl Write, file: &[u8], c: Configuration) -> io::Result<()> {
-    let longest = chart_machine::operation::longest(file, c);
-    match longest {
-        Longest::Ticks(ticks) => print::longest(out, ticks),
-        Longest::Refused(k) => console::sentence::refused_call(out, k),
+    fn start(file: &[u8]) -> Result<Configuration, Refusal> {
+        operation::start(file)
     }
-}
 
-// What the machine answers to a call that moves it. Any other line is a wait of no ticks, which is refused.
-pub fn answer(file: &[u8], c: Configuration, line: Line) -> Outcome
-    ensures { result ≡ answer_to file.now c line }
-{
-    let call = line.call;
-    let list = line.list;
-    let count = least(line.count, 17);
-    match call {
-        Call::Start => chart_machine::operation::start(file),
-        Call::Step => chart_machine::operation::step(file, c, &list[0..count]),
-        Call::Wait(ticks) => chart_machine::operation::wait(file, c, ticks),
-        _ => chart_machine::operation::wait(file, c, 0),
+    fn step(file: &[u8], c: Configuration, list: &[u16]) -> Result<Configuration, Refusal> {
+        operation::step(file, c, list)
+    }
+
+    fn wait(file: &[u8], c: Configuration, ticks: u32) -> Result<Configuration, Refusal> {
+        operation::wait(file, c, ticks)
+    }
+
+    fn longest(file: &[u8], c: Configuration) -> Result<u32, Refusal> {
+        operation::longest(file, c)
+    }
+
+    // The counts stand in the file's header.
+    fn show<W: Write>(out: &mut W, file: &[u8], c: Configuration) -> io::Result<()> {
+        print::states(out, &c.active)?;
+        print::variables(out, &c.variables, byte_at(file, 5))?;
+        print::clocks(out, &c.clocks, byte_at(file, 4))
     }
 }

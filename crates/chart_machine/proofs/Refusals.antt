@@ -1,23 +1,30 @@
 -- The refusals of a step, of a wait and of the longest wait, in order.
-use mathlib.Core.Path.{◌≡◌, refl, sym, ap, ◌∙◌}
-use mathlib.Core.Bool.{Bool, true, false, ◌&&◌}
+use mathlib.Core.Path.{◌≡◌, refl, sym, ap, ◌∙◌, subst}
+use mathlib.Core.Bool.{Bool, true, false, cond, ◌&&◌}
 use mathlib.Core.Logic.{◌≢◌}
 use mathlib.Core.List.{List, map, map-map}
-use Prim.Native.Nat.{ℕ, ◌≤◌}
+use Prim.Native.Nat.{ℕ, ◌-◌, ◌≤◌}
 use native.Mathlib.Omega.{arith}
 use borrow.Author.Tests.{lt-leb, le-leb}
-use lib.ListN.{length}
+use lib.ListN.{length, take, drop}
+use Rattle.std.specs.Prelude.{Option, Some, None}
+use Rattle.std.specs.Option.{ok_or}
+use Rattle.lists.proofs.Options.{some_where, none_where}
 use Rattle.lists.specs.Lists.{all}
-use Rattle.clocks.specs.Clocks.{limit_left, later, in_limit, zero_past, zeros_past}
+use Rattle.clocks.specs.Clocks.{left_where, limit_left, later, in_limit, zero_past, zeros_past}
 use Rattle.steps.specs.Moves.{known, allowed, all_stay}
 use Rattle.reading.specs.Answer.{done, refused, unless}
+use Rattle.reading.specs.Verdict.{answer_of}
+use Rattle.reading.specs.declared.refusal.Refusal.TheVariants as Rf
+use Rattle.reading.specs.Places.{onward}
 use Rattle.reading.proofs.Answer.{unless_by}
+use Rattle.reading.proofs.Places.{part_onward}
 use Rattle.chart_records.specs.Chart.{Chart, Transition, transition_at, states, home}
 use Rattle.chart_moves.specs.Machine.{is_tree, bounds_kept, is_configuration, active_transition, after, tested, step, wait, ticks_under, longest}
 use Rattle.chart_moves.specs.Completion.{CompleteIn}
 use Rattle.chart_steps.specs.Asked.{Prepared}
 use Rattle.chart.specs.Ready.{Ready}
-use Rattle.chart_machine.specs.Outcomes.{stands, Grown}
+use Rattle.chart_machine.specs.Configured.{stands, Grown}
 use Rattle.chart_records.specs.declared.header.Counts.{Counts}
 use Rattle.chart_tree.specs.declared.table.Tree.{Tree}
 use Rattle.chart_moves.specs.declared.configuration.Configuration.{Configuration}
@@ -25,6 +32,10 @@ use Rattle.chart_moves.proofs.Step.{configuration_tree}
 
 pub grown_of : {rest : List ℕ} {n : Counts} {offsets : List ℕ} {tree : Tree} {c : Chart} → Ready rest n offsets tree c → Grown rest n tree c
 grown_of R = record { stated = R.laid.stated; tabled = R.tabled; parents = R.parents }
+
+-- what follows version and length, as it is lent
+pub ready_part : (file : List ℕ) {n : Counts} {offsets : List ℕ} {tree : Tree} {c : Chart} → Ready (onward file 3) n offsets tree c → Ready (take (length file - 3) (drop 3 file)) n offsets tree c
+ready_part file {n} {offsets} {tree} {c} R = subst (λ (l : List ℕ). Ready l n offsets tree c) (sym (part_onward file 3)) R
 
 -- in a configuration of the chart the active states are a tree
 pub prepared : {rest : List ℕ} {n : Counts} {offsets rows : List ℕ} {tree : Tree} {σ : Configuration} (c : Chart) → Ready rest n offsets tree c → is_configuration c σ ≡ true → (is_tree c σ ≡ true → CompleteIn c σ rows)
@@ -98,28 +109,34 @@ module _ (c : Chart) (σ : Configuration) (d : ℕ) where
     unfolding wait unless
     wait_none z = rw (g, lt-leb 1 d (omega (arith, z)))
 
-    module _ (s : d ≢ 0) {n : ℕ} (e : c.clocks ≡ n) {b : Bool} (q : b ≡ in_limit n (later n d σ.clocks)) where
+    module _ (s : d ≢ 0) {n : ℕ} (e : c.clocks ≡ n) where
       some : 1 ≤ d
       some = omega (arith, s)
 
-      limit : in_limit c.clocks (later c.clocks d σ.clocks) ≡ b
-      limit = ap (λ (m : ℕ). in_limit m (later m d σ.clocks)) e ∙ sym q
+      limit : in_limit c.clocks (later c.clocks d σ.clocks) ≡ in_limit n (later n d σ.clocks)
+      limit = ap (λ (m : ℕ). in_limit m (later m d σ.clocks)) e
 
-      pub wait_late : b ≡ false → wait c σ d ≡ refused 22
+      -- by the clocks so much later, where they are within the limit
+      pub wait_late : None ≡ cond (in_limit n (later n d σ.clocks)) (Some (later n d σ.clocks)) None → wait c σ d ≡ refused 22
       unfolding wait unless
-      wait_late z = rw (g, le-leb 1 d some, limit ∙ z)
+      wait_late h = rw (g, le-leb 1 d some, limit ∙ none_where _ _ h)
 
-      pub wait_moved : b ≡ true → {cs : List ℕ} → cs ≡ later n d σ.clocks → wait c σ d ≡ tested c (record { active = σ.active; variables = σ.variables; clocks = cs })
+      pub wait_moved : {cs : List ℕ} → Some cs ≡ cond (in_limit n (later n d σ.clocks)) (Some (later n d σ.clocks)) None
+          → wait c σ d ≡ tested c (record { active = σ.active; variables = σ.variables; clocks = cs })
       unfolding wait unless
-      wait_moved z h = rw (g, le-leb 1 d some, limit ∙ z)
-          (ap (λ (l : List ℕ). tested c (record { active = σ.active; variables = σ.variables; clocks = l })) (ap (λ (m : ℕ). later m d σ.clocks) e ∙ sym h))
+      wait_moved h =
+          let w = some_where _ h in
+          rw (g, le-leb 1 d some, limit ∙ w.0)
+          (ap (λ (l : List ℕ). tested c (record { active = σ.active; variables = σ.variables; clocks = l })) (ap (λ (m : ℕ). later m d σ.clocks) e ∙ sym w.1))
 
 -- of the longest wait
-module _ (c : Chart) (σ : Configuration) where
-  pub longest_elsewhere : is_configuration c σ ≡ false → longest c σ ≡ refused 17
-  unfolding longest unless
-  longest_elsewhere g = rw g
+left_or : (b : Bool) (n : ℕ) → answer_of (ok_or (left_where b n) Rf.ChartConfiguration) ≡ unless 17 b (done n)
+unfolding unless
+left_or true n = refl
+left_or false n = refl
 
-  pub longest_ticks : is_configuration c σ ≡ true → longest c σ ≡ done (ticks_under c σ (states c) (limit_left c.clocks σ.clocks))
-  unfolding longest unless
-  longest_ticks g = rw g
+-- by the ticks left, where there are any
+pub longest_by : (c : Chart) (σ : Configuration) {left : Option ℕ} → left ≡ left_where (is_configuration c σ) (ticks_under c σ (states c) (limit_left c.clocks σ.clocks))
+    → answer_of (ok_or left Rf.ChartConfiguration) ≡ longest c σ
+unfolding longest
+longest_by c σ e = ap (λ (o : Option ℕ). answer_of (ok_or o Rf.ChartConfiguration)) e ∙ left_or _ _

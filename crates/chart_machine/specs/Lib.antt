@@ -1,1 +1,2 @@
-pub mod Outcomes
+-- The definitions of this crate.
+pub mod Configured

@@ -1,5 +1,4 @@
-// The chart machine: the operations are in `operation`. What they answer with is there; its parts are in chart_moves
-// (`configuration`), reading (`verdict`) and clocks (`left`).
+// The chart machine: the operations are in `operation`. The configuration that they move on is that of chart_moves.
 #![tactic(auto)]
 
 pub mod operation;

@@ -1,18 +1,15 @@
-// The chart machine: start, step, wait and the longest wait.
-ghost use Rattle.std.specs.Prelude.{◌≡◌, ◌<◌};
+// The chart machine: start, step, wait and the longest wait. A refusal is an error, and the caller keeps the configuration.
+ghost use Rattle.std.specs.Prelude.{◌≡◌, ◌<◌, List, ℕ};
+ghost use Rattle.reading.specs.Verdict.{answer_of};
 ghost use Rattle.clocks.specs.Clocks.{left_where, limit_left};
-ghost use Rattle.clocks.specs.Longest.{told};
 ghost use Rattle.chart_records.specs.Chart.{Chart, states};
 ghost use Rattle.chart_records.specs.Layout.{Stated};
 ghost use Rattle.chart_moves.specs.Machine.{bounds_kept, is_configuration, tested, step, wait, ticks_under, longest, start_of, step_of, wait_of, longest_of};
-ghost use Rattle.chart_machine.specs.Outcomes.{outcome_of, zero_configuration, bound_kept, stands, Grown};
-ghost use Rattle.chart_moves.specs.declared.configuration.Configuration.{Configuration as Given};
+ghost use Rattle.chart_machine.specs.Configured.{bound_kept, stands, Grown};
 ghost use Rattle.chart.specs.Ready.{Ready};
-ghost use Rattle.reading.specs.Answer.{refused};
-ghost use Rattle.steps.specs.Last.{answer_by};
 
 use crate::ticks::bounds_left;
-use chart::check::checked;
+use chart::check::{CheckedFile, checked};
 use chart_moves::activity::is_tree;
 use chart_moves::completion::complete_exits;
 use chart_moves::configuration::Configuration;
@@ -21,108 +18,63 @@ use chart_records::state::bounds_of;
 use chart_steps::allowed::{all_active, is_allowed};
 use chart_steps::taken;
 use chart_tree::table::{Tree, is_in};
-use clocks::left::{Left, Longest};
-use reading::verdict::{Verdict, number_of};
+use reading::refusal::Refusal;
 use steps::step::last_tests;
 
-// What became of a call, and the configuration after it: the next one, or the one given where the call is refused.
-#[derive(Clone, Copy)]
-pub struct Outcome {
-    pub verdict: Verdict,
-    pub configuration: Configuration,
-}
-
 // Whether the state's bounds are kept, if it is active.
-fn bound_kept(rest: &[u8], counts: Counts, active: &[bool], clocks: [u32; 8], s: u8) -> bool
-    ensures { (c : Chart) (σ : Given) → Stated rest.now counts c → σ.active ≡ active.now → σ.clocks ≡ clocks → s < counts.states → result ≡ bound_kept c σ s }
+fn bound_kept(rest: &[u8], counts: Counts, given: Configuration, s: u8) -> bool
+    ensures { (c : Chart) → Stated rest.now counts c → s < counts.states → result ≡ bound_kept c given s }
 {
-    if !is_in(active, s as usize) {
+    if !is_in(&given.active, s as usize) {
         return true;
     }
     let bounds = bounds_of(rest, counts, s);
-    clocks::clock::keeps(bounds, clocks)
+    clocks::clock::keeps(bounds, given.clocks)
 }
 
 // Whether the bounds of all active states are kept.
-fn bounds_kept(rest: &[u8], counts: Counts, active: [bool; 48], clocks: [u32; 8]) -> bool
-    ensures { (c : Chart) (σ : Given) → Stated rest.now counts c → σ.active ≡ active → σ.clocks ≡ clocks → result ≡ bounds_kept c σ }
+fn bounds_kept(rest: &[u8], counts: Counts, given: Configuration) -> bool
+    ensures { (c : Chart) → Stated rest.now counts c → result ≡ bounds_kept c given }
 {
-    let mut s = 0;
-    while s < counts.states {
-        if !bound_kept(rest, counts, &active, clocks, s) {
+    for s in 0..counts.states {
+        if !bound_kept(rest, counts, given, s) {
             return false;
         }
-        s += 1;
     }
     true
 }
 
-// 17 but for the bounds.
-fn stands(rest: &[u8], counts: Counts, tree: Tree, given: Configuration) -> bool
-    ensures { (c : Chart) → Grown rest.now counts tree c → result ≡ stands c given }
+// Whether it is a configuration of the chart but for its bounds.
+fn stands(counts: Counts, tree: Tree, given: Configuration) -> bool
+    ensures { (rest : List ℕ) (c : Chart) → Grown rest counts tree c → result ≡ stands c given }
 {
-    let active = given.active;
-    let variables = given.variables;
-    let clocks = given.clocks;
-    if !is_tree(tree, active) {
+    if !is_tree(tree, given.active) {
         return false;
     }
-    if !clocks::clock::zeros_past(counts.variables as usize, variables) {
+    if !clocks::clock::zero_past(counts.variables as usize, &given.variables) {
         return false;
     }
-    if !clocks::clock::in_limit(counts.clocks as usize, clocks) {
+    if !clocks::clock::in_limit(counts.clocks as usize, given.clocks) {
         return false;
     }
-    clocks::clock::zero_past(counts.clocks as usize, clocks)
+    clocks::clock::zero_past(counts.clocks as usize, &given.clocks)
 }
 
-// 17
+// Whether it is a configuration of the chart.
 fn is_configuration(rest: &[u8], counts: Counts, tree: Tree, given: Configuration) -> bool
     ensures { (c : Chart) → Grown rest.now counts tree c → result ≡ is_configuration c given }
 {
-    if !stands(rest, counts, tree, given) {
-        return false;
-    }
-    let active = given.active;
-    let clocks = given.clocks;
-    bounds_kept(rest, counts, active, clocks)
+    stands(counts, tree, given) && bounds_kept(rest, counts, given)
 }
 
-fn refuse(k: u8, given: Configuration) -> Outcome
-    ensures { result ≡ outcome_of given (refused k) }
+// The configuration after a wait, where the bounds are kept.
+fn tested(rest: &[u8], counts: Counts, after: Configuration) -> Result<Configuration, Refusal>
+    ensures { (c : Chart) → Stated rest.now counts c → answer_of result ≡ tested c after }
 {
-    Outcome {
-        verdict: Verdict::Refused(k),
-        configuration: given,
+    if !bounds_kept(rest, counts, after) {
+        return Err(Refusal::Bound);
     }
-}
-
-// By its verdict a call leads to the next configuration, or leaves the one given.
-fn outcome_by(verdict: Verdict, given: Configuration, next: Configuration) -> Outcome
-    ensures { result ≡ outcome_of given (answer_by verdict next) }
-{
-    match verdict {
-        Verdict::Done => Outcome {
-            verdict: Verdict::Done,
-            configuration: next,
-        },
-        Verdict::Refused(k) => refuse(k, given),
-    }
-}
-
-// The next configuration, or 21 and the one given where a bound is broken.
-fn tested(rest: &[u8], counts: Counts, given: Configuration, next: Configuration) -> Outcome
-    ensures { (c : Chart) → Stated rest.now counts c → result ≡ outcome_of given (tested c next) }
-{
-    let active = next.active;
-    let clocks = next.clocks;
-    if !bounds_kept(rest, counts, active, clocks) {
-        return refuse(21, given);
-    }
-    Outcome {
-        verdict: Verdict::Done,
-        configuration: next,
-    }
+    Ok(after)
 }
 
 // The transitions of the list are taken.
@@ -133,28 +85,26 @@ fn step_checked(
     tree: Tree,
     given: Configuration,
     list: &[u16],
-) -> Outcome
-    ensures { (c : Chart) → Ready rest.now counts offsets.now tree c → result ≡ outcome_of given (step c given list.now) }
+) -> Result<Configuration, Refusal>
+    ensures { (c : Chart) → Ready rest.now counts offsets.now tree c → answer_of result ≡ step c given list.now }
 {
     if !is_configuration(rest, counts, tree, given) {
-        return refuse(17, given);
+        return Err(Refusal::ChartConfiguration);
     }
     if !steps::step::known(list, counts.transitions as usize) {
-        return refuse(18, given);
+        return Err(Refusal::List);
     }
-    let before = given.active;
-    let complete = complete_exits(tree, before);
+    let complete = complete_exits(tree, given.active);
     if !all_active(rest, counts, offsets, given, &complete, list) {
-        return refuse(19, given);
+        return Err(Refusal::Inactive);
     }
     let allowed = is_allowed(rest, counts, offsets, given, &complete, list);
     let after = taken::after(rest, counts, offsets, tree, given, list);
     let within = after.within;
     let next = after.configuration;
-    let active = next.active;
-    let clocks = next.clocks;
-    let kept = bounds_kept(rest, counts, active, clocks);
-    outcome_by(last_tests(allowed, within, kept), given, next)
+    let kept = bounds_kept(rest, counts, next);
+    last_tests(allowed, within, kept)?;
+    Ok(next)
 }
 
 // So many ticks later.
@@ -164,128 +114,76 @@ fn wait_checked(
     tree: Tree,
     given: Configuration,
     ticks: u32,
-) -> Outcome
-    ensures { (c : Chart) → Grown rest.now counts tree c → result ≡ outcome_of given (wait c given ticks) }
+) -> Result<Configuration, Refusal>
+    ensures { (c : Chart) → Grown rest.now counts tree c → answer_of result ≡ wait c given ticks }
 {
     if !is_configuration(rest, counts, tree, given) {
-        return refuse(17, given);
+        return Err(Refusal::ChartConfiguration);
     }
     if ticks == 0 {
-        return refuse(22, given);
+        return Err(Refusal::Ticks);
     }
-    let active = given.active;
-    let variables = given.variables;
-    let clocks = given.clocks;
-    let delayed = clocks::clock::later(counts.clocks as usize, ticks, clocks);
-    let within = delayed.within;
-    if !within {
-        return refuse(22, given);
-    }
-    let after = delayed.clocks;
-    let moved = Configuration {
-        active,
-        variables,
-        clocks: after,
+    let Some(clocks) = clocks::clock::later(counts.clocks as usize, ticks, given.clocks) else {
+        return Err(Refusal::Ticks);
     };
-    tested(rest, counts, given, moved)
+    let moved = Configuration { clocks, ..given };
+    tested(rest, counts, moved)
 }
 
 // The ticks left in a configuration of the chart, by the same look at its bounds that tells whether it is one.
-fn ticks_left(rest: &[u8], counts: Counts, tree: Tree, given: Configuration) -> Left
+fn ticks_left(rest: &[u8], counts: Counts, tree: Tree, given: Configuration) -> Option<u32>
     ensures { (c : Chart) → Grown rest.now counts tree c → result ≡ left_where (is_configuration c given) (ticks_under c given (states c) (limit_left c.clocks given.clocks)) }
 {
-    if !stands(rest, counts, tree, given) {
-        return Left::Broken;
+    if !stands(counts, tree, given) {
+        return None;
     }
-    let active = given.active;
-    let clocks = given.clocks;
-    bounds_left(rest, counts, active, clocks)
+    bounds_left(rest, counts, given)
 }
 
 // How long a wait may be.
-fn longest_checked(rest: &[u8], counts: Counts, tree: Tree, given: Configuration) -> Longest
-    ensures { (c : Chart) → Grown rest.now counts tree c → result ≡ told (longest c given) }
+fn longest_checked(
+    rest: &[u8],
+    counts: Counts,
+    tree: Tree,
+    given: Configuration,
+) -> Result<u32, Refusal>
+    ensures { (c : Chart) → Grown rest.now counts tree c → answer_of result ≡ longest c given }
 {
-    let left = ticks_left(rest, counts, tree, given);
-    match left {
-        Left::Ticks(ticks) => Longest::Ticks(ticks),
-        Left::Broken => Longest::Refused(17),
-    }
-}
-
-fn zero_configuration() -> Configuration
-    ensures { result ≡ zero_configuration }
-{
-    Configuration {
-        active: [false; Configuration::STATES],
-        variables: [0; Configuration::VARIABLES],
-        clocks: [0; Configuration::CLOCKS],
-    }
+    ticks_left(rest, counts, tree, given).ok_or(Refusal::ChartConfiguration)
 }
 
 // The configuration that a chart starts in.
-pub fn start(file: &[u8]) -> Outcome
-    ensures { result ≡ outcome_of zero_configuration (start_of file.now) }
+pub fn start(file: &[u8]) -> Result<Configuration, Refusal>
+    ensures { answer_of result ≡ start_of file.now }
 {
-    let f = checked(file);
-    let verdict = f.verdict;
-    let Verdict::Done = verdict else {
-        return Outcome {
-            verdict,
-            configuration: zero_configuration(),
-        };
-    };
-    Outcome {
-        verdict: Verdict::Done,
-        configuration: Configuration::start(f),
-    }
+    let checked = checked(file)?;
+    Ok(Configuration::start(checked))
 }
 
 // The transitions of the list are taken, for a file.
-pub fn step(file: &[u8], given: Configuration, list: &[u16]) -> Outcome
-    ensures { result ≡ outcome_of given (step_of file.now given list.now) }
+pub fn step(file: &[u8], given: Configuration, list: &[u16]) -> Result<Configuration, Refusal>
+    ensures { answer_of result ≡ step_of file.now given list.now }
 {
-    let f = checked(file);
-    let verdict = f.verdict;
-    let Verdict::Done = verdict else {
-        return Outcome {
-            verdict,
-            configuration: given,
-        };
-    };
-    let counts = f.counts;
-    let offsets = f.offsets;
-    let tree = f.tree;
-    step_checked(&file[3..file.len()], counts, &offsets, tree, given, list)
+    let CheckedFile {
+        counts,
+        offsets,
+        tree,
+    } = checked(file)?;
+    step_checked(&file[3..], counts, &offsets, tree, given, list)
 }
 
 // So many ticks later, for a file.
-pub fn wait(file: &[u8], given: Configuration, ticks: u32) -> Outcome
-    ensures { result ≡ outcome_of given (wait_of file.now given ticks) }
+pub fn wait(file: &[u8], given: Configuration, ticks: u32) -> Result<Configuration, Refusal>
+    ensures { answer_of result ≡ wait_of file.now given ticks }
 {
-    let f = checked(file);
-    let verdict = f.verdict;
-    let Verdict::Done = verdict else {
-        return Outcome {
-            verdict,
-            configuration: given,
-        };
-    };
-    let counts = f.counts;
-    let tree = f.tree;
-    wait_checked(&file[3..file.len()], counts, tree, given, ticks)
+    let CheckedFile { counts, tree, .. } = checked(file)?;
+    wait_checked(&file[3..], counts, tree, given, ticks)
 }
 
 // How long a wait may be, for a file.
-pub fn longest(file: &[u8], given: Configuration) -> Longest
-    ensures { result ≡ told (longest_of file.now given) }
+pub fn longest(file: &[u8], given: Configuration) -> Result<u32, Refusal>
+    ensures { answer_of result ≡ longest_of file.now given }
 {
-    let f = checked(file);
-    let verdict = f.verdict;
-    let Verdict::Done = verdict else {
-        return Longest::Refused(number_of(verdict));
-    };
-    let counts = f.counts;
-    let tree = f.tree;
-    longest_checked(&file[3..file.len()], counts, tree, given)
+    let CheckedFile { counts, tree, .. } = checked(file)?;
+    longest_checked(&file[3..], counts, tree, given)
 }

@@ -8,7 +8,7 @@ use native.Mathlib.Decide.{ℕ_discrete, dec_lt}
 use borrow.Author.Tests.{eqb-true, eq-eqb, ne_eqb}
 use lib.Dec.{eqb}
 use lib.ListN.{length, drop}
-use Rattle.lists.specs.Lists.{has, all, below, keep, implies}
+use Rattle.lists.specs.Lists.{has, all, keep, implies}
 use Rattle.clocks.specs.Clocks.{keeps}
 use Rattle.lists.proofs.Bools.{parts, clash, decided, and_l, and_r, both, or_l, or_r, or_else, implies_at, implies_by}
 use Rattle.lists.proofs.Lists.{all_at, all_by, keep_at, keep_by, one_mem}

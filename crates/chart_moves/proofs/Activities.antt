@@ -8,7 +8,7 @@ use native.Mathlib.Omega.{arith}
 use native.Mathlib.Decide.{dec_lt}
 use borrow.Author.Tests.{eq-eqb, ne_eqb, lt-ltb, le-ltb}
 use lib.Dec.{ltb, eqb}
-use lib.ListN.{length, get_or, set, take, drop}
+use lib.ListN.{length, get_or, take, drop}
 use Rattle.lists.specs.Lists.{all, below, keep, implies}
 use Rattle.lists.proofs.Bools.{or_l, implies_never}
 use Rattle.lists.proofs.Lists.{all_map, all_both, keep_keep}

@@ -8,15 +8,14 @@ use native.Mathlib.Omega.{arith}
 use native.Mathlib.Decide.{ℕ_discrete}
 use borrow.Author.Tests.{eqb-true, eq-eqb, not-true, lt-ltb, le-ltb}
 use lib.Dec.{ltb, eqb}
-use Rattle.lists.specs.Lists.{all, any, below}
+use Rattle.lists.specs.Lists.{all, any}
 use Rattle.labels.specs.Label.{Label}
 use Rattle.steps.specs.Moves.{clocks_after}
-use Rattle.lists.proofs.Bools.{clash, fails, and_l, and_r, both, or_l, or_r, or_cases, same, not_yes}
+use Rattle.lists.proofs.Bools.{clash, fails, and_l, and_r, both, or_l, or_r, or_cases, not_yes}
 use Rattle.lists.proofs.Lists.{all_at, all_by, any_at, any_by}
 use Rattle.lists.proofs.Columns.{made}
-use Rattle.lists.proofs.Below.{get_d_mapped, length_below}
-use Rattle.chart_records.specs.Chart.{Chart, Transition, transition_at, states, parent_of, sequential, parallel}
-use Rattle.chart_records.specs.Tree.{under, children, entered}
+use Rattle.chart_records.specs.Chart.{Chart, Transition, transition_at, parent_of, sequential, parallel}
+use Rattle.chart_records.specs.Tree.{under, entered}
 use Rattle.chart_moves.specs.Machine.{is_active, is_tree, start, after, active_after}
 use Rattle.chart_moves.specs.declared.configuration.Configuration.{Configuration}
 use Rattle.chart_records.proofs.Tree.{size, Child, Parents, under_refl, under_le, under_transitive, under_up, under_down, comparable, root_under, child_under, child_above, sequential_not_parallel}

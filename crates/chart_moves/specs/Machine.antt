@@ -60,6 +60,10 @@ after c ts σ = record {
 unfoldable pub tested : Chart → Configuration → Answer Configuration
 tested c σ = unless 21 (bounds_kept c σ) (done σ)
 
+-- no state active, all values 0
+unfoldable pub zero_configuration : Configuration
+zero_configuration = record { active = replicate 48 false; variables = replicate 16 (pos 0); clocks = replicate 8 0 }
+
 unfoldable pub start : Chart → Configuration
 start c = record {
   active = map (λ s. ltb s (length c.states) && entered c 0 0 s) (below 48);

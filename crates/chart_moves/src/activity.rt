@@ -11,7 +11,6 @@ ghost use Rattle.chart_moves.specs.declared.configuration.Configuration.{Configu
 
 use crate::moves::{Moves, enter_all};
 use chart_tree::table::{Tree, is_child, is_in, under};
-use lists::number::least;
 use reading::field::byte_at;
 
 // Whether the state's parent is active if it is, and the state if its parent is active and parallel.
@@ -43,12 +42,10 @@ fn active_children(parents: &[u8], active: &[bool], states: usize, q: usize) -> 
     ensures { (c : Chart) (σ : Configuration) → Rooted c parents.now → σ.active ≡ active.now → states ≡ length c.states → result ≡ length (keep (is_active σ) (children c q)) }
 {
     let mut count = 0;
-    let mut s = 1;
-    while s < states {
+    for s in 1..states {
         if is_active_child(parents, active, q, s) {
             count += 1;
         }
-        s += 1;
     }
     count
 }
@@ -70,15 +67,13 @@ fn is_single(parents: &[u8], kinds: &[u8], active: &[bool], states: usize, q: us
 fn all_placed(parents: &[u8], kinds: &[u8], active: &[bool], states: usize) -> bool
     ensures { (c : Chart) (σ : Configuration) → Shown c σ parents.now kinds.now active.now → states ≡ length c.states → result ≡ all (λ s. linked c σ s && single c σ s) (below states) }
 {
-    let mut s = 0;
-    while s < states {
+    for s in 0..states {
         if !is_linked(parents, kinds, active, s) {
             return false;
         }
         if !is_single(parents, kinds, active, states, s) {
             return false;
         }
-        s += 1;
     }
     true
 }
@@ -87,27 +82,18 @@ fn all_placed(parents: &[u8], kinds: &[u8], active: &[bool], states: usize) -> b
 fn none_from(set: &[bool], from: usize) -> bool
     ensures { result ≡ all not (drop from set.now) }
 {
-    let mut i = from;
-    while i < set.len() {
-        if set[i] {
-            return false;
-        }
-        i += 1;
-    }
-    true
+    set.iter().skip(from).all(|x| !*x)
 }
 
 // Whether the active states are a tree.
 pub fn is_tree(t: Tree, active: [bool; 48]) -> bool
     ensures { (c : Chart) (σ : Configuration) → Tabled c t → parents c ≡ true → σ.active ≡ active → result ≡ is_tree c σ }
 {
-    let parents = t.parents;
-    let kinds = t.kinds;
     let states = t.states as usize;
     if !active[0] {
         return false;
     }
-    if !all_placed(&parents, &kinds, &active, states) {
+    if !all_placed(&t.parents, &t.kinds, &active, states) {
         return false;
     }
     none_from(&active, states)
@@ -117,12 +103,10 @@ pub fn is_tree(t: Tree, active: [bool; 48]) -> bool
 fn is_below_none(parents: &[u8], sources: &[u8], s: usize) -> bool
     ensures { (c : Chart) → Rooted c parents.now → s < length c.states → result ≡ below_none c sources.now s }
 {
-    let mut i = 0;
-    while i < sources.len() {
-        if under(parents, sources[i] as usize, s) {
+    for &source in sources {
+        if under(parents, source as usize, s) {
             return false;
         }
-        i += 1;
     }
     true
 }
@@ -144,13 +128,10 @@ fn remains(parents: &[u8], active: &[bool], states: usize, sources: &[u8], s: us
 pub fn left_below(t: Tree, active: [bool; 48], sources: &[u8]) -> [bool; 48]
     ensures { (c : Chart) → Tabled c t → parents c ≡ true → result ≡ passing 48 c (λ s. get_or active s false && below_none c sources.now s) }
 {
-    let parents = t.parents;
     let states = t.states as usize;
     let mut out = [false; 48];
-    let mut s = 0;
-    while s < Tree::STATES {
-        out[s] = remains(&parents, &active, states, sources, s);
-        s += 1;
+    for s in 0..Tree::STATES {
+        out[s] = remains(&t.parents, &active, states, sources, s);
     }
     out
 }
@@ -159,8 +140,7 @@ pub fn left_below(t: Tree, active: [bool; 48], sources: &[u8]) -> [bool; 48]
 pub fn active_after(t: Tree, active: [bool; 48], moves: Moves) -> [bool; 48]
     ensures { (c : Chart) (σ : Configuration) (ts : List Transition) → Tabled c t → parents c ≡ true → entry_marks c ≡ true → Moved ts moves → σ.active ≡ active → result ≡ map (λ s. ltb s (length c.states) && active_after c σ ts s) (below 48) }
 {
-    let count = least(moves.count as usize, Moves::COUNT);
-    let sources = moves.sources;
-    let left = left_below(t, active, &sources[0..count]);
+    let count = (moves.count as usize).min(Moves::COUNT);
+    let left = left_below(t, active, &moves.sources[..count]);
     enter_all(t, moves, left)
 }

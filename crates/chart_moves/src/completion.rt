@@ -13,7 +13,6 @@ ghost use Rattle.chart_moves.specs.declared.configuration.Configuration.{Configu
 
 use chart_tree::table::Tree;
 use lists::mark::has;
-use lists::number::least;
 use reading::field::byte_at;
 
 // Of the exits that no child of a state bars those by which it is complete: all if it is active and composite, else none.
@@ -39,18 +38,14 @@ fn unbarred_by(kind: u8, exits: u8, row: u8) -> u8
 pub fn complete_exits(t: Tree, active: [bool; 48]) -> [u8; 48]
     ensures { (c : Chart) (σ : Configuration) → Tabled c t → parents c ≡ true → σ.active ≡ active → is_tree c σ ≡ true → CompleteIn c σ result }
 {
-    let parents = t.parents;
-    let kinds = t.kinds;
-    let exits = t.exits;
     let mut rows = [255; 48];
-    let mut s = least(t.states as usize, 48);
-    while s > 0 {
-        s -= 1;
+    let states = (t.states as usize).min(48);
+    for s in (0..states).rev() {
         let row = rows[s];
-        rows[s] = completing(active[s], kinds[s], row);
+        rows[s] = completing(active[s], t.kinds[s], row);
         if active[s] {
-            let unbarred = unbarred_by(kinds[s], exits[s], row);
-            let above = byte_at(&parents, s) as usize;
+            let unbarred = unbarred_by(t.kinds[s], t.exits[s], row);
+            let above = byte_at(&t.parents, s) as usize;
             if above < s {
                 rows[above] = rows[above] & unbarred;
             }

@@ -9,7 +9,6 @@ ghost use Rattle.chart_records.specs.Rules.{parents, entry_marks};
 
 use chart_tree::entry::entered;
 use chart_tree::table::Tree;
-use lists::number::least;
 
 // Of each transition of a step its source, destination and entry.
 #[derive(Clone, Copy)]
@@ -55,15 +54,11 @@ pub fn with_move(m: Moves, source: u8, destination: u8, entry: u8) -> Moves
 pub fn enter_all(t: Tree, moves: Moves, set: [bool; 48]) -> [bool; 48]
     ensures { (c : Chart) (ts : List Transition) → Tabled c t → parents c ≡ true → entry_marks c ≡ true → Moved ts moves → result ≡ adding 48 c (λ s. any (λ t. entered c t.destination t.entry s) ts) set }
 {
-    let count = least(moves.count as usize, Moves::COUNT);
+    let count = (moves.count as usize).min(Moves::COUNT);
     let mut out = set;
-    let mut i = 0;
-    while i < count {
-        let destination = moves.destinations[i];
-        let entry = moves.entries[i];
-        let next = entered(t, destination, entry, out);
+    for i in 0..count {
+        let next = entered(t, moves.destinations[i], moves.entries[i], out);
         out = next;
-        i += 1;
     }
     out
 }

@@ -11,7 +11,8 @@ use lib.ListN.{get_or, length, drop, length-drop}
 use Rattle.reading.specs.Answer.{done}
 use Rattle.reading.specs.Reading.{Read, got, fault, length_fault, range_fault, byte, byte2, recorded}
 use Rattle.reading.specs.Version.{is_version}
-use Rattle.labels.specs.Label.{Limits, limits}
+use Rattle.labels.specs.Label.{limits}
+use Rattle.labels.specs.declared.label.Limits.{Limits}
 use Rattle.lists.proofs.Bools.{parts, both, or_cases}
 use Rattle.lists.proofs.Lists.{get_d_mem}
 use Rattle.reading.proofs.Answer.{unless_at, then_at as then-at-answer}

@@ -10,7 +10,8 @@ use lib.ListN.{length, get_or, set, get_or-append, length-set}
 use lib.Seq.{get_or-set_same, get_or-set_other, get_or-append_seam}
 use Rattle.lists.specs.Lists.{all}
 use Rattle.reading.specs.Reading.{Fault, got, fault, Reader, byte2, many, recorded, mapped}
-use Rattle.labels.specs.Label.{Limits, limits, body, label}
+use Rattle.labels.specs.Label.{limits, body, label}
+use Rattle.labels.specs.declared.label.Limits.{Limits}
 use Rattle.reading.specs.Places.{onward}
 use Rattle.reading.proofs.Reading.{got_value, bind_at, yield_at, mapped_got, mapped_at, fault_at}
 use Rattle.reading.proofs.Lengths.{byte2_consumes, recorded_all}

@@ -1,9 +1,10 @@
 -- Charts, hierarchical timed automata, and the file that holds one.
-use Rattle.std.specs.Prelude.{ℕ, zero, suc, ◌+◌, ◌*◌, ◌-◌, ◌^◌, Bool, true, false, not, ◌&&◌, ◌||◌, List, [], ◌∷◌, ◌++◌, map, leb, ltb, eqb, get_or, length, drop}
-use Rattle.lists.specs.Lists.{has, all, any, below, keep, implies}
+use Rattle.std.specs.Prelude.{ℕ, ◌+◌, ◌*◌, ◌-◌, ◌^◌, Bool, ◌&&◌, ◌||◌, List, [], leb, ltb, eqb, get_or, length, drop}
+use Rattle.lists.specs.Lists.{below}
 use Rattle.reading.specs.Reading.{length_fault, range_fault, Read, got, fault, Reader, yield, ◌>>=◌, ◌>>◌, byte, byte2, such, many, end, recorded}
 use Rattle.reading.specs.Version.{is_version}
-use Rattle.labels.specs.Label.{Limits, limits, Label, Body, label}
+use Rattle.labels.specs.Label.{limits, Label, label}
+use Rattle.labels.specs.declared.label.Limits.{Limits}
 use Rattle.clocks.specs.Clocks.{row}
 use Rattle.reading.specs.Answer.{Answer, done, refused, unless}
 use Rattle.reading.specs.Answer as answer

@@ -2,9 +2,6 @@
 use Rattle.std.specs.Prelude.{◌≡◌, Bool, true, List, ℕ, ◌+◌, ◌*◌, ◌<◌, length}
 use Rattle.reading.specs.Reading.{Reader, got, byte, recorded}
 use Rattle.labels.specs.Label.{limits, assigns_once}
-use Rattle.reading.specs.declared.field.Fault.{Fault}
-use Rattle.reading.specs.declared.field.Reached.{Reached}
-use Rattle.reading.specs.declared.field.Reached.TheVariants as Rd
 use Rattle.reading.specs.Places.{onward}
 use Rattle.chart_records.specs.Chart.{Chart, Transition, state, state_at, transition, in_range}
 use Rattle.chart_records.specs.declared.header.Counts.{Counts}
@@ -29,10 +26,6 @@ pub record Stated (rest : List ℕ) (n : Counts) (c : Chart) : Type 0 where
   pub exits : c.exits ≡ n.exits
   pub states : length c.states ≡ n.states
   pub here : (s : ℕ) → s < n.states → recorded byte (state n.clocks n.entries n.exits) (onward rest (state_place n.clocks s)) ≡ got (state_at c s) (onward rest (state_place n.clocks s + state_size n.clocks))
-
--- a place that is not reached
-abbrev pub stopped : Fault → Reached
-stopped f = Rd.Fault f
 
 -- the content of a transition's record, in a file with such counts
 abbrev pub transition_by : Counts → Reader Transition

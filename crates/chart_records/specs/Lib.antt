@@ -1,6 +1,5 @@
 -- The definitions of this crate.
 pub mod Chart
-pub mod Headers
 pub mod Laid
 pub mod Layout
 pub mod Rules

@@ -1,5 +1,5 @@
 -- The rules that a chart keeps, in order of trial.
-use Rattle.std.specs.Prelude.{ℕ, ◌-◌, Bool, cond, not, ◌&&◌, ◌||◌, List, leb, ltb, eqb, length}
+use Rattle.std.specs.Prelude.{ℕ, Bool, cond, not, ◌&&◌, ◌||◌, List, leb, ltb, eqb, length}
 use Rattle.std.specs.Bool.{beq}
 use Rattle.lists.specs.Lists.{has, all, below, keep, implies}
 use Rattle.labels.specs.Label.{assigns_once}

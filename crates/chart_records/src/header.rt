@@ -1,8 +1,12 @@
 // The header of a chart file: version, length and counts.
-ghost use Rattle.std.specs.Prelude.{◌≡◌, true, ◌≤◌, length};
-ghost use Rattle.reading.specs.Answer.{done};
+ghost use Rattle.std.specs.Prelude.{◌≡◌, true, ◌≤◌, length, OnOk};
+ghost use Rattle.reading.specs.Verdict.{answer_of};
+ghost use Rattle.labels.specs.Label.{limits};
 ghost use Rattle.chart_records.specs.Chart.{headed, counts_at, in_range, counts_of};
-ghost use Rattle.chart_records.specs.Headers.{header_of};
+
+use labels::label::Limits;
+use reading::field::{byte_at, short_of};
+use reading::refusal::Refusal;
 
 #[derive(Clone, Copy)]
 pub struct Counts {
@@ -17,11 +21,17 @@ pub struct Counts {
     pub transitions: u8,
 }
 
-// The counts, or the number of the refusal.
-#[derive(Clone, Copy)]
-pub enum HeaderRead {
-    Counts(Counts),
-    Refused(u8),
+impl Counts {
+    // What the labels of such a file may hold.
+    pub fn limits(self) -> Limits
+        ensures { result ≡ limits self.version self.clocks self.variables }
+    {
+        Limits {
+            version: self.version,
+            clocks: self.clocks,
+            variables: self.variables,
+        }
+    }
 }
 
 fn is_headed(file: &[u8]) -> bool
@@ -36,7 +46,7 @@ fn is_headed(file: &[u8]) -> bool
     if !reading::version::is_version(file[0]) {
         return false;
     }
-    let size = reading::field::short_of(file[1], file[2]) as usize;
+    let size = short_of(file[1], file[2]) as usize;
     size == file.len() - 3
 }
 
@@ -44,15 +54,15 @@ fn counts_at(file: &[u8]) -> Counts
     ensures { result ≡ counts_at file.now }
 {
     Counts {
-        version: reading::field::byte_at(file, 0),
-        states: reading::field::byte_at(file, 3),
-        clocks: reading::field::byte_at(file, 4),
-        variables: reading::field::byte_at(file, 5),
-        rendezvous: reading::field::byte_at(file, 6),
-        broadcasts: reading::field::byte_at(file, 7),
-        entries: reading::field::byte_at(file, 8),
-        exits: reading::field::byte_at(file, 9),
-        transitions: reading::field::byte_at(file, 10),
+        version: byte_at(file, 0),
+        states: byte_at(file, 3),
+        clocks: byte_at(file, 4),
+        variables: byte_at(file, 5),
+        rendezvous: byte_at(file, 6),
+        broadcasts: byte_at(file, 7),
+        entries: byte_at(file, 8),
+        exits: byte_at(file, 9),
+        transitions: byte_at(file, 10),
     }
 }
 
@@ -90,16 +100,16 @@ fn in_range(n: Counts) -> bool
     true
 }
 
-pub fn read_header(file: &[u8]) -> HeaderRead
-    ensures means { header_of result ≡ counts_of file.now }
-    ensures within { (n : _) → header_of result ≡ done n → 11 ≤ length file.now }
+pub fn read_header(file: &[u8]) -> Result<Counts, Refusal>
+    ensures means { answer_of result ≡ counts_of file.now }
+    ensures within { OnOk result (11 ≤ length file.now) }
 {
     if !is_headed(file) {
-        return HeaderRead::Refused(1);
+        return Err(Refusal::ChartHeader);
     }
     let counts = counts_at(file);
     if !in_range(counts) {
-        return HeaderRead::Refused(2);
+        return Err(Refusal::ChartCount);
     }
-    HeaderRead::Counts(counts)
+    Ok(counts)
 }

@@ -7,58 +7,39 @@ ghost use Rattle.chart_records.specs.Chart.{Chart, state, state_at};
 ghost use Rattle.chart_records.specs.Layout.{state_place, Stated};
 
 use crate::header::Counts;
-use reading::field::{ByteRead, Frame, Reached, ShortRead};
+use reading::field::{
+    Fault, read_below, read_byte, read_frame, read_long_marks, read_marks, whole,
+};
 
 // The content of a state's record.
-fn read_state(s: &[u8], at: usize, counts: Counts) -> Reached
+fn read_state(s: &[u8], at: usize, counts: Counts) -> Result<usize, Fault>
     ensures { reached s.now tt result ≡ skipped (state counts.clocks counts.entries counts.exits (onward s.now at)) }
 {
-    let p = reading::field::read_byte(s, at);
-    let ByteRead::Value(_, at1) = p else {
-        return Reached::Fault(reading::field::byte_fault(p));
-    };
-    let k = reading::field::read_byte_below(s, at1, 3);
-    let ByteRead::Value(_, at2) = k else {
-        return Reached::Fault(reading::field::byte_fault(k));
-    };
-    let i = reading::field::read_long_marks(s, at2, counts.entries);
-    let ShortRead::Value(_, at3) = i else {
-        return Reached::Fault(reading::field::short_fault(i));
-    };
-    let o = reading::field::read_marks(s, at3, counts.exits);
-    let ByteRead::Value(_, at4) = o else {
-        return Reached::Fault(reading::field::byte_fault(o));
-    };
+    let (_, at1) = read_byte(s, at)?;
+    let (_, at2) = read_below(s, at1, 3)?;
+    let (_, at3) = read_long_marks(s, at2, counts.entries)?;
+    let (_, at4) = read_marks(s, at3, counts.exits)?;
     clocks::clock::read_bounds(s, at4, counts.clocks)
 }
 
 // The state's record at a place.
-fn state_at(s: &[u8], at: usize, counts: Counts) -> Reached
+fn state_at(s: &[u8], at: usize, counts: Counts) -> Result<usize, Fault>
     ensures { reached s.now tt result ≡ skipped (recorded byte (state counts.clocks counts.entries counts.exits) (onward s.now at)) }
 {
-    let p = reading::field::read_frame(s, at);
-    let Frame::Part(from, to) = p else {
-        return Reached::Fault(reading::field::frame_fault(p));
-    };
-    let q = read_state(&s[from..to], 0, counts);
-    reading::field::whole(q, to - from, to)
+    let (bytes, to) = read_frame(s, at)?;
+    let used = read_state(bytes, 0, counts)?;
+    whole(used, bytes.len(), to)
 }
 
 // The records of all states, from a place on.
-pub fn read_states(s: &[u8], at: usize, counts: Counts) -> Reached
+pub fn read_states(s: &[u8], at: usize, counts: Counts) -> Result<usize, Fault>
     ensures { reached s.now tt result ≡ skipped (many counts.states (recorded byte (state counts.clocks counts.entries counts.exits)) (onward s.now at)) }
 {
     let mut place = at;
-    let mut i = 0;
-    while i < counts.states {
-        let q = state_at(s, place, counts);
-        let Reached::At(next) = q else {
-            return q;
-        };
-        place = next;
-        i += 1;
+    for _ in 0..counts.states {
+        place = state_at(s, place, counts)?;
     }
-    Reached::At(place)
+    Ok(place)
 }
 
 // Where the record of a state stands.
@@ -110,10 +91,9 @@ pub fn exits_of(rest: &[u8], counts: Counts, s: u8) -> u8
 pub fn bounds_of(rest: &[u8], counts: Counts, s: u8) -> [u32; 8]
     ensures { (c : Chart) → Stated rest.now counts c → s < counts.states → result ≡ (state_at c s).bounds }
 {
-    let read = clocks::clock::read_row(
-        rest,
-        state_place(counts.clocks, s) + 6,
-        counts.clocks as usize,
-    );
-    read.row
+    let place = state_place(counts.clocks, s) + 6;
+    match clocks::clock::read_row(rest, place, counts.clocks as usize) {
+        Ok(read) => read.0,
+        Err(_) => [0; 8],
+    }
 }

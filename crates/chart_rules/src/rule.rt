@@ -3,12 +3,12 @@ ghost use Rattle.std.specs.Prelude.{◌≡◌, leb, length};
 ghost use Rattle.chart_records.specs.Chart.{Chart};
 ghost use Rattle.chart_records.specs.Tree.{is_child, children, sequentials};
 ghost use Rattle.chart_records.specs.Rules.{parent_fits, placed, parents, few, some_sequential, inherits, children_marked, entries_fit, entry_marks, exits_fit, exit_marks, state_rules};
-ghost use Rattle.reading.specs.Verdict.{verdict_of};
+ghost use Rattle.reading.specs.Verdict.{answer_of, verdict_of};
 ghost use Rattle.chart_records.specs.Layout.{Stated};
 
 use chart_records::header::Counts;
 use chart_records::state::{entries_of, exits_of, kind_of, parent_of};
-use reading::verdict::Verdict;
+use reading::refusal::Refusal;
 
 fn is_child(rest: &[u8], counts: Counts, m: u8, s: u8) -> bool
     ensures { (c : Chart) → Stated rest.now counts c → result ≡ is_child c m s }
@@ -19,12 +19,10 @@ fn is_child(rest: &[u8], counts: Counts, m: u8, s: u8) -> bool
 fn has_child(rest: &[u8], counts: Counts, m: u8) -> bool
     ensures { (c : Chart) → Stated rest.now counts c → result ≡ leb 1 (length (children c m)) }
 {
-    let mut s = 0;
-    while s < counts.states {
+    for s in 0..counts.states {
         if is_child(rest, counts, m, s) {
             return true;
         }
-        s += 1;
     }
     false
 }
@@ -58,12 +56,10 @@ fn is_placed(rest: &[u8], counts: Counts, s: u8) -> bool
 pub fn parents(rest: &[u8], counts: Counts) -> bool
     ensures { (c : Chart) → Stated rest.now counts c → result ≡ parents c }
 {
-    let mut s = 0;
-    while s < counts.states {
+    for s in 0..counts.states {
         if !is_placed(rest, counts, s) {
             return false;
         }
-        s += 1;
     }
     true
 }
@@ -72,12 +68,10 @@ fn count_sequentials(rest: &[u8], counts: Counts) -> u8
     ensures { (c : Chart) → Stated rest.now counts c → result ≡ length (sequentials c) }
 {
     let mut count = 0;
-    let mut s = 0;
-    while s < counts.states {
+    for s in 0..counts.states {
         if kind_of(rest, counts, s) == 1 {
             count += 1;
         }
-        s += 1;
     }
     count
 }
@@ -115,8 +109,7 @@ fn children_marked(rest: &[u8], counts: Counts, m: u8) -> bool
     ensures { (c : Chart) → Stated rest.now counts c → result ≡ children_marked c m }
 {
     let mut seen = 0;
-    let mut s = 0;
-    while s < counts.states {
+    for s in 0..counts.states {
         if is_child(rest, counts, m, s) {
             let marks = entries_of(rest, counts, s);
             if seen & marks != 0 {
@@ -124,7 +117,6 @@ fn children_marked(rest: &[u8], counts: Counts, m: u8) -> bool
             }
             seen = seen | marks;
         }
-        s += 1;
     }
     lists::mark::subset(entries_of(rest, counts, m) as u32, seen as u32)
 }
@@ -148,12 +140,10 @@ pub fn entry_marks(rest: &[u8], counts: Counts) -> bool
     if entries_of(rest, counts, 0) != 1 {
         return false;
     }
-    let mut s = 0;
-    while s < counts.states {
+    for s in 0..counts.states {
         if !entries_fit(rest, counts, s) {
             return false;
         }
-        s += 1;
     }
     true
 }
@@ -168,34 +158,32 @@ fn exits_fit(rest: &[u8], counts: Counts, s: u8) -> bool
 pub fn exit_marks(rest: &[u8], counts: Counts) -> bool
     ensures { (c : Chart) → Stated rest.now counts c → result ≡ exit_marks c }
 {
-    let mut s = 0;
-    while s < counts.states {
+    for s in 0..counts.states {
         if !exits_fit(rest, counts, s) {
             return false;
         }
-        s += 1;
     }
     true
 }
 
-// The rules of the states, in order, or the number of the first that is not kept.
-pub fn states_checked(rest: &[u8], counts: Counts) -> Verdict
-    ensures { (c : Chart) → Stated rest.now counts c → result ≡ verdict_of (state_rules c) }
+// The rules of the states, in order, or the first that is not kept.
+pub fn states_checked(rest: &[u8], counts: Counts) -> Result<(), Refusal>
+    ensures { (c : Chart) → Stated rest.now counts c → answer_of result ≡ verdict_of (state_rules c) }
 {
     if !parents(rest, counts) {
-        return Verdict::Refused(5);
+        return Err(Refusal::Parent);
     }
     if !few(rest, counts) {
-        return Verdict::Refused(6);
+        return Err(Refusal::ManySequential);
     }
     if !some_sequential(rest, counts) {
-        return Verdict::Refused(7);
+        return Err(Refusal::NoSequential);
     }
     if !entry_marks(rest, counts) {
-        return Verdict::Refused(8);
+        return Err(Refusal::EntryMarks);
     }
     if !exit_marks(rest, counts) {
-        return Verdict::Refused(9);
+        return Err(Refusal::ExitMarks);
     }
-    Verdict::Done
+    Ok(())
 }

@@ -3,7 +3,7 @@ ghost use Rattle.std.specs.Prelude.{◌≡◌, true, ◌<◌};
 ghost use Rattle.lists.specs.Lists.{all, below};
 ghost use Rattle.chart_records.specs.Chart.{Chart, Transition};
 ghost use Rattle.chart_records.specs.Rules.{parents, siblings, exits, entries, apart, transition_rules};
-ghost use Rattle.reading.specs.Verdict.{verdict_of};
+ghost use Rattle.reading.specs.Verdict.{answer_of, verdict_of};
 ghost use Rattle.chart_records.specs.Layout.{Stated, once};
 ghost use Rattle.chart_records.specs.Laid.{Laid, apart_from};
 ghost use Rattle.chart_tree.specs.Table.{Rooted, Tabled};
@@ -13,8 +13,8 @@ use chart_records::state::{entries_of, exits_of, kind_of, parent_of};
 use chart_records::transition::{
     channel_of, destination_of, entry_of, exit_of, home_of, signal_of, source_of,
 };
-use chart_tree::table::{Tree, no_states, under, with_state};
-use reading::verdict::Verdict;
+use chart_tree::table::{Tree, no_states, put_state, under};
+use reading::refusal::Refusal;
 
 // Whether a source and a destination are children of one sequential state.
 fn are_siblings(rest: &[u8], counts: Counts, source: u8, destination: u8) -> bool
@@ -60,14 +60,12 @@ fn entry_fits(rest: &[u8], counts: Counts, destination: u8, entry: u8) -> bool
 fn all_siblings(rest: &[u8], counts: Counts, offsets: &[u32]) -> bool
     ensures { (c : Chart) → Laid rest.now counts offsets.now c → result ≡ all (siblings c) c.transitions }
 {
-    let mut t = 0;
-    while t < counts.transitions {
+    for t in 0..counts.transitions {
         let source = source_of(rest, offsets, t);
         let destination = destination_of(rest, offsets, t);
         if !are_siblings(rest, counts, source, destination) {
             return false;
         }
-        t += 1;
     }
     true
 }
@@ -76,14 +74,12 @@ fn all_siblings(rest: &[u8], counts: Counts, offsets: &[u32]) -> bool
 fn exits_fit(rest: &[u8], counts: Counts, offsets: &[u32]) -> bool
     ensures { (c : Chart) → Laid rest.now counts offsets.now c → result ≡ all (exits c) c.transitions }
 {
-    let mut t = 0;
-    while t < counts.transitions {
+    for t in 0..counts.transitions {
         let source = source_of(rest, offsets, t);
         let exit = exit_of(rest, offsets, t);
         if !exit_fits(rest, counts, source, exit) {
             return false;
         }
-        t += 1;
     }
     true
 }
@@ -92,14 +88,12 @@ fn exits_fit(rest: &[u8], counts: Counts, offsets: &[u32]) -> bool
 fn entries_fit(rest: &[u8], counts: Counts, offsets: &[u32]) -> bool
     ensures { (c : Chart) → Laid rest.now counts offsets.now c → result ≡ all (entries c) c.transitions }
 {
-    let mut t = 0;
-    while t < counts.transitions {
+    for t in 0..counts.transitions {
         let destination = destination_of(rest, offsets, t);
         let entry = entry_of(rest, offsets, t);
         if !entry_fits(rest, counts, destination, entry) {
             return false;
         }
-        t += 1;
     }
     true
 }
@@ -128,12 +122,10 @@ fn is_apart(rest: &[u8], counts: Counts, offsets: &[u32], parents: &[u8], t: u8,
 fn is_apart_from_all(rest: &[u8], counts: Counts, offsets: &[u32], parents: &[u8], t: u8) -> bool
     ensures { (c : Chart) → Laid rest.now counts offsets.now c → Rooted c parents.now → all (siblings c) c.transitions ≡ true → t < counts.transitions → result ≡ all (apart_from c t) (below counts.transitions) }
 {
-    let mut u = 0;
-    while u < counts.transitions {
+    for u in 0..counts.transitions {
         if !is_apart(rest, counts, offsets, parents, t, u) {
             return false;
         }
-        u += 1;
     }
     true
 }
@@ -142,12 +134,10 @@ fn is_apart_from_all(rest: &[u8], counts: Counts, offsets: &[u32], parents: &[u8
 fn all_apart(rest: &[u8], counts: Counts, offsets: &[u32], parents: &[u8]) -> bool
     ensures { (c : Chart) → Laid rest.now counts offsets.now c → Rooted c parents.now → all (siblings c) c.transitions ≡ true → result ≡ apart c }
 {
-    let mut t = 0;
-    while t < counts.transitions {
+    for t in 0..counts.transitions {
         if !is_apart_from_all(rest, counts, offsets, parents, t) {
             return false;
         }
-        t += 1;
     }
     true
 }
@@ -157,44 +147,40 @@ pub fn tree_of(rest: &[u8], counts: Counts) -> Tree
     ensures { (c : Chart) → Stated rest.now counts c → Tabled c result }
 {
     let mut tree = no_states(counts.states);
-    let mut s = 0;
-    while s < counts.states {
+    for s in 0..counts.states {
         let parent = parent_of(rest, counts, s);
         let kind = kind_of(rest, counts, s);
         let entries = entries_of(rest, counts, s);
         let exits = exits_of(rest, counts, s);
-        let next = with_state(tree, s as usize, parent, kind, entries, exits);
-        tree = next;
-        s += 1;
+        put_state(&mut tree, s as usize, parent, kind, entries, exits);
     }
     tree
 }
 
-// The rules of the transitions, in order, or the number of the first that is not kept.
+// The rules of the transitions, in order, or the first that is not kept.
 pub fn transitions_checked(
     rest: &[u8],
     counts: Counts,
     offsets: &[u32],
     passed: bool,
     tree: Tree,
-) -> Verdict
-    ensures { (c : Chart) → Laid rest.now counts offsets.now c → Tabled c tree → parents c ≡ true → passed ≡ all once c.transitions → result ≡ verdict_of (transition_rules c) }
+) -> Result<(), Refusal>
+    ensures { (c : Chart) → Laid rest.now counts offsets.now c → Tabled c tree → parents c ≡ true → passed ≡ all once c.transitions → answer_of result ≡ verdict_of (transition_rules c) }
 {
-    let parents = tree.parents;
     if !all_siblings(rest, counts, offsets) {
-        return Verdict::Refused(10);
+        return Err(Refusal::Siblings);
     }
     if !exits_fit(rest, counts, offsets) {
-        return Verdict::Refused(11);
+        return Err(Refusal::Exit);
     }
     if !entries_fit(rest, counts, offsets) {
-        return Verdict::Refused(12);
+        return Err(Refusal::Entry);
     }
     if !passed {
-        return Verdict::Refused(13);
+        return Err(Refusal::Updates);
     }
-    if !all_apart(rest, counts, offsets, &parents) {
-        return Verdict::Refused(14);
+    if !all_apart(rest, counts, offsets, &tree.parents) {
+        return Err(Refusal::Channel);
     }
-    Verdict::Done
+    Ok(())
 }

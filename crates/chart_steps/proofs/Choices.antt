@@ -3,7 +3,7 @@ use mathlib.Core.Path.{◌≡◌, sym, ap, ap₂, ◌∙◌, subst}
 use mathlib.Core.Bool.{Bool, true, false, cond, ◌&&◌, beq}
 use mathlib.Core.Logic.{◌≢◌, ⊎_elim}
 use mathlib.Core.List.{List, map, map-map}
-use Prim.Native.Nat.{ℕ, ◌+◌, ◌-◌, ◌≤◌, ◌<◌, min}
+use Prim.Native.Nat.{ℕ, ◌+◌, ◌≤◌, ◌<◌, min}
 use native.Mathlib.Omega.{arith}
 use native.Mathlib.Decide.{dec_lt}
 use borrow.Author.Tests.{eq-eqb, ne_eqb, eqb-false, not-true}
@@ -13,6 +13,7 @@ use lib.ListN.{length, get_or, take}
 use Rattle.lists.specs.Lists.{has, below}
 use Rattle.reading.specs.Reading.{got}
 use Rattle.reading.specs.Places.{onward}
+use Rattle.labels.specs.declared.label.Limits.{Limits}
 use Rattle.labels.specs.Label.{limits, Label, body, guards_hold, receives}
 use Rattle.steps.specs.Moves.{known, none_fits, maximal, variables_after, clocks_after}
 use Rattle.steps.specs.Cases.{member, case_of, case_allows}
@@ -43,16 +44,19 @@ transitions_few {n = n} L = (counts_range n L.stated.in_range_lem).transitions_f
 
 -- what the code has of one of them, of which it has the number t
 module _ {rest : List ℕ} {n : Counts} {offsets : List ℕ} {c : Chart} (L : Laid rest n offsets c) (list : List ℕ) (h : known n.transitions list ≡ true) (i : ℕ) (l : i < length list)
-    {t : ℕ} (e : (m : ℕ) → m ≤ 64 → known m list ≡ true → i < length list → t ≡ get_or list i 0) where
+    {t : ℕ} (e : get_or list i 0 < 64 → t ≡ get_or list i 0) where
   pub chosen_at : {A : Type 0} (f : ℕ → A) {r : A} → (t < n.transitions → r ≡ f t) → r ≡ f (get_or list i 0)
   chosen_at f g =
-      let q = e n.transitions (transitions_few L) h l in
-      g (subst (λ (m : ℕ). m < n.transitions) (sym q) (known_each n.transitions list h i l)) ∙ ap f q
+      let k = known_each n.transitions list h i l in
+      let q = e (omega (arith, transitions_few L, k)) in
+      g (subst (λ (m : ℕ). m < n.transitions) (sym q) k) ∙ ap f q
 
 -- the body of a transition's label, at its place
 pub body_here : {rest : List ℕ} {n : Counts} {offsets : List ℕ} {c : Chart} → Laid rest n offsets c → (t : ℕ) → t < n.transitions → {p : ℕ} → p ≡ get_or offsets t 0 + 9
-    → (u : List ℕ) × (body (limits n.version n.clocks n.variables) (onward rest p) ≡ got (transition_at c t).label.body u)
-body_here {rest} {n} L t h e = let b = (laid_parts L t h).content in (b.0, ap (λ (p : ℕ). body (limits n.version n.clocks n.variables) (onward rest p)) e ∙ b.1)
+    → {l : Limits} → l ≡ limits n.version n.clocks n.variables → (u : List ℕ) × (body l (onward rest p) ≡ got (transition_at c t).label.body u)
+body_here {rest} {n} L t h {p} e q =
+    let b = (laid_parts L t h).content in
+    (b.0, ap (λ (k : Limits). body k (onward rest p)) q ∙ ap (λ (p : ℕ). body (limits n.version n.clocks n.variables) (onward rest p)) e ∙ b.1)
 
 -- whether a transition is active, by its source, its guards and what is completed
 module _ (c : Chart) (σ : Configuration) (t : Transition) {s : ℕ} (e : s ≡ t.source) {a : Bool} (p : a ≡ get_or σ.active s false) where
@@ -112,23 +116,24 @@ module _ {rest : List ℕ} {n : Counts} {offsets rows : List ℕ} {c : Chart} (�
   -- no further active receiver fits, by the tables of the code
   pub maximal_by : (ch : ℕ) {a b : ℕ} (rs hs : List ℕ) → a ≡ min n.transitions 64 → b ≡ min (length list) 16
       → take n.transitions rs ≡ map (receiving_home c σ ch) (below n.transitions) → take (length list) hs ≡ map (home c) list
-      → none_fits (take (a - 0) rs) (take (b - 0) hs) ≡ is_maximal c σ ch list
+      → none_fits (take a rs) (take b hs) ≡ is_maximal c σ ch list
   maximal_by ch {a} {b} rs hs p q f g =
-      let x : a - 0 ≡ n.transitions = omega (arith, p, transitions_few R.ready.laid) in
-      let y : b - 0 ≡ length list = omega (arith, q, known_few n.transitions list h) in
+      let x : a ≡ n.transitions = omega (arith, p, transitions_few R.ready.laid) in
+      let y : b ≡ length list = omega (arith, q, known_few n.transitions list h) in
       ap₂ none_fits (ap (λ (m : ℕ). take m rs) x ∙ f) (ap (λ (m : ℕ). take m hs) y ∙ g)
       ∙ sym (maximal_none (λ m. (transition_at c m).label) (home c) (λ m. active_transition c σ (transition_at c m)) n.transitions ch list
       (λ m l z. absurd (omega (arith, home_known R.ready.laid R.ready.siblings m l, R.ready.tabled.few, z))))
       ∙ ap (λ (k : ℕ). maximal (λ m. (transition_at c m).label) (home c) (λ m. active_transition c σ (transition_at c m)) k ch list) (sym R.ready.laid.transitions)
 
   -- whether the set is allowed, by its case
-  pub allowed_by : {q x : Case} {ms : List Member} → q ≡ case_of n.rendezvous ms → ms ≡ map (member (λ m. (transition_at c m).label) (home c)) list → q ≡ x
-      → is_allowed c σ list
-      ≡ case_allows x (λ ch. is_maximal c σ ch list)
-  allowed_by {q} {x} e f g =
+  pub allowed_by : {x : Case} {a : ℕ} (ms : List Member) → x ≡ case_of n.rendezvous (take a ms) → a ≡ min (length list) 16
+      → take (length list) ms ≡ map (member (λ m. (transition_at c m).label) (home c)) list
+      → is_allowed c σ list ≡ case_allows x (λ ch. is_maximal c σ ch list)
+  allowed_by {a = a} ms e p f =
+      let y : a ≡ length list = omega (arith, p, known_few n.transitions list h) in
       allowed_case (λ m. (transition_at c m).label) (home c) (λ m. active_transition c σ (transition_at c m)) (length c.transitions) c.rendezvous list
       ∙ ap (λ (y : Case). case_allows y (λ ch. is_maximal c σ ch list))
-      (ap₂ case_of R.ready.laid.stated.rendezvous (sym f) ∙ sym e ∙ g)
+      (ap₂ case_of R.ready.laid.stated.rendezvous (sym (ap (λ (m : ℕ). take m ms) y ∙ f)) ∙ sym e)
 
 -- the configuration after a step, by its parts
 pub after_by : (c : Chart) (σ : Configuration) (ms : List ℕ) {a : List Bool} {vs : List ℤ} {cs : List ℕ} → a ≡ map (λ s. ltb s (length c.states) && active_after c σ (map (transition_at c) ms) s) (below 48)

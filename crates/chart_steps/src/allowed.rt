@@ -16,17 +16,12 @@ use chart_records::header::Counts;
 use chart_records::state::kind_of;
 use chart_records::transition::{body_of, channel_of, exit_of, home_of, signal_of, source_of};
 use chart_tree::table::is_in;
-use lists::number::least;
 use steps::step::{Case, Member};
 
-// The number at a place of a list of transitions, of which there are at most 64.
-pub fn chosen(list: &[u16], i: usize) -> u8
-    ensures { (n : ℕ) → n ≤ 64 → known n list.now ≡ true → i < length list.now → result ≡ get_or list.now i 0 }
+// The number of a transition, of which there are at most 64.
+pub fn chosen(m: u16) -> u8
+    ensures { m < 64 → result ≡ m }
 {
-    if i >= list.len() {
-        return 0;
-    }
-    let m = list[i];
     if m < 64 { m as u8 } else { 0 }
 }
 
@@ -63,14 +58,11 @@ fn is_active(
 ) -> bool
     ensures { (c : Chart) → Prepared rest.now counts offsets.now given complete.now c → t < counts.transitions → result ≡ active_transition c given (transition_at c t) }
 {
-    let active = given.active;
-    let variables = given.variables;
-    let clocks = given.clocks;
     let source = source_of(rest, offsets, t);
-    if !is_in(&active, source as usize) {
+    if !is_in(&given.active, source as usize) {
         return false;
     }
-    if !guards_hold(rest, counts, offsets, variables, clocks, t) {
+    if !guards_hold(rest, counts, offsets, given.variables, given.clocks, t) {
         return false;
     }
     if kind_of(rest, counts, source) == 0 {
@@ -90,13 +82,10 @@ pub fn all_active(
 ) -> bool
     ensures { (c : Chart) → Prepared rest.now counts offsets.now given complete.now c → known counts.transitions list.now ≡ true → result ≡ all (active_transition c given) (map (transition_at c) list.now) }
 {
-    let mut i = 0;
-    while i < list.len() {
-        let t = chosen(list, i);
-        if !is_active(rest, counts, offsets, given, complete, t) {
+    for &m in list {
+        if !is_active(rest, counts, offsets, given, complete, chosen(m)) {
             return false;
         }
-        i += 1;
     }
     true
 }
@@ -116,18 +105,13 @@ fn member_of(rest: &[u8], counts: Counts, offsets: &[u32], t: u8) -> Member
 fn members_of(rest: &[u8], counts: Counts, offsets: &[u32], list: &[u16]) -> [Member; 16]
     ensures { (c : Chart) → Laid rest.now counts offsets.now c → known counts.transitions list.now ≡ true → take (length list.now) result ≡ map (member (λ m. (transition_at c m).label) (home c)) list.now }
 {
-    let count = least(list.len(), 16);
     let mut members = [Member {
         signal: 0,
         channel: 0,
         owner: 0,
     }; 16];
-    let mut i = 0;
-    while i < count {
-        let t = chosen(list, i);
-        let m = member_of(rest, counts, offsets, t);
-        members[i] = m;
-        i += 1;
+    for i in 0..list.len().min(16) {
+        members[i] = member_of(rest, counts, offsets, chosen(list[i]));
     }
     members
 }
@@ -136,13 +120,9 @@ fn members_of(rest: &[u8], counts: Counts, offsets: &[u32], list: &[u16]) -> [Me
 fn homes_of(rest: &[u8], counts: Counts, offsets: &[u32], list: &[u16]) -> [u8; 16]
     ensures { (c : Chart) → Laid rest.now counts offsets.now c → known counts.transitions list.now ≡ true → take (length list.now) result ≡ map (home c) list.now }
 {
-    let count = least(list.len(), 16);
     let mut homes = [0; 16];
-    let mut i = 0;
-    while i < count {
-        let t = chosen(list, i);
-        homes[i] = home_of(rest, counts, offsets, t);
-        i += 1;
+    for i in 0..list.len().min(16) {
+        homes[i] = home_of(rest, counts, offsets, chosen(list[i]));
     }
     homes
 }
@@ -183,14 +163,8 @@ fn receiver_homes(
     ensures { (c : Chart) → Prepared rest.now counts offsets.now given complete.now c → take counts.transitions result ≡ map (receiving_home c given channel) (below counts.transitions) }
 {
     let mut homes = [0; 64];
-    let mut t = 0;
-    while t < counts.transitions {
-        let i = t as usize;
-        if i >= 64 {
-            return homes;
-        }
-        homes[i] = receiver_home(rest, counts, offsets, given, complete, channel, t);
-        t += 1;
+    for t in 0..counts.transitions.min(64) {
+        homes[t as usize] = receiver_home(rest, counts, offsets, given, complete, channel, t);
     }
     homes
 }
@@ -209,9 +183,9 @@ fn is_maximal(
 {
     let receivers = receiver_homes(rest, counts, offsets, given, complete, channel);
     let homes = homes_of(rest, counts, offsets, list);
-    let transitions = least(counts.transitions as usize, 64);
-    let count = least(list.len(), 16);
-    steps::step::maximal(&receivers[0..transitions], &homes[0..count])
+    let transitions = (counts.transitions as usize).min(64);
+    let count = list.len().min(16);
+    steps::step::maximal(&receivers[..transitions], &homes[..count])
 }
 
 // Whether a set of transitions is allowed.
@@ -226,8 +200,8 @@ pub fn is_allowed(
     ensures { (c : Chart) → Prepared rest.now counts offsets.now given complete.now c → known counts.transitions list.now ≡ true → result ≡ is_allowed c given list.now }
 {
     let members = members_of(rest, counts, offsets, list);
-    let case = steps::step::case_of(members, list.len(), counts.rendezvous);
-    match case {
+    let count = list.len().min(16);
+    match steps::step::case_of(&members[..count], counts.rendezvous) {
         Case::Refused => false,
         Case::Allowed => true,
         Case::Broadcast(channel) => {

@@ -14,22 +14,20 @@ use chart_moves::moves::{Moves, no_moves, with_move};
 use chart_records::header::Counts;
 use chart_records::transition::{body_of, destination_of, entry_of, resets_of, source_of};
 use chart_tree::table::Tree;
-use labels::label::NewValues;
+use updates::update::NewValues;
 
 // Where the transitions of a list come from and go to, and by which entries.
 fn moves_of(rest: &[u8], offsets: &[u32], list: &[u16]) -> Moves
     ensures { (c : Chart) (n : Counts) → Laid rest.now n offsets.now c → known n.transitions list.now ≡ true → Moved (map (transition_at c) list.now) result }
 {
     let mut moves = no_moves();
-    let mut i = 0;
-    while i < list.len() {
-        let t = chosen(list, i);
+    for &m in list {
+        let t = chosen(m);
         let source = source_of(rest, offsets, t);
         let destination = destination_of(rest, offsets, t);
         let entry = entry_of(rest, offsets, t);
         let next = with_move(moves, source, destination, entry);
         moves = next;
-        i += 1;
     }
     moves
 }
@@ -47,22 +45,11 @@ fn variables_after(
 {
     let mut within = true;
     let mut values = old;
-    let mut i = 0;
-    while i < list.len() {
-        let t = chosen(list, i);
-        let body = body_of(offsets, t);
-        let next = labels::label::assigned(
-            rest,
-            body,
-            counts.version,
-            counts.clocks,
-            counts.variables,
-            old,
-            values,
-        );
+    for &m in list {
+        let body = body_of(offsets, chosen(m));
+        let next = labels::label::assigned(rest, body, counts.limits(), old, values);
         within = within & next.within;
         values = next.values;
-        i += 1;
     }
     NewValues { within, values }
 }
@@ -72,13 +59,10 @@ fn clocks_after(rest: &[u8], offsets: &[u32], list: &[u16], clocks: [u32; 8]) ->
     ensures { (c : Chart) (n : Counts) → Laid rest.now n offsets.now c → known n.transitions list.now ≡ true → result ≡ clocks_after (map (λ m. (transition_at c m).label) list.now) clocks }
 {
     let mut after = clocks;
-    let mut i = 0;
-    while i < list.len() {
-        let t = chosen(list, i);
-        let resets = resets_of(rest, offsets, t);
+    for &m in list {
+        let resets = resets_of(rest, offsets, chosen(m));
         let next = clocks::clock::reset(resets, after);
         after = next;
-        i += 1;
     }
     after
 }
@@ -102,14 +86,11 @@ pub fn after(
     ensures within { (c : Chart) → Ready rest.now counts offsets.now tree c → known counts.transitions list.now ≡ true → result.within ≡ all_stay (map (λ m. (transition_at c m).label) list.now) given.variables }
     ensures configuration { (c : Chart) → Ready rest.now counts offsets.now tree c → known counts.transitions list.now ≡ true → result.configuration ≡ after c (map (transition_at c) list.now) given }
 {
-    let before = given.active;
-    let values = given.variables;
-    let times = given.clocks;
     let moves = moves_of(rest, offsets, list);
-    let active = active_after(tree, before, moves);
-    let assigned = variables_after(rest, counts, offsets, list, values);
+    let active = active_after(tree, given.active, moves);
+    let assigned = variables_after(rest, counts, offsets, list, given.variables);
     let variables = assigned.values;
-    let clocks = clocks_after(rest, offsets, list, times);
+    let clocks = clocks_after(rest, offsets, list, given.clocks);
     Next {
         within: assigned.within,
         configuration: Configuration {

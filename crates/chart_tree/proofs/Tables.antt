@@ -12,8 +12,7 @@ use lib.ListN.{length, get_or, set, replicate, length-set, length-map, get_or-eq
 use lib.Seq.{get_or-set_same, get_or-set_other}
 use Rattle.lists.specs.Lists.{below}
 use Rattle.lists.proofs.Bools.{fails, both, or_r, cond_yes, cond_no}
-use Rattle.lists.proofs.Parts.{drop_next}
-use Rattle.lists.proofs.Below.{length_below, get_d_below, get_d_mapped}
+use Rattle.lists.proofs.Below.{length_below, get_d_mapped}
 use Rattle.lists.proofs.Columns.{made_by_lem}
 use Rattle.chart_records.specs.Chart.{Chart, State, state_at, parent_of}
 use Rattle.chart_records.specs.Tree.{under}

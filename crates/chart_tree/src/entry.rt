@@ -25,15 +25,14 @@ fn enter_sequential(
     entries: &[u16],
     entry: u8,
     s: usize,
-    set: [bool; 48],
-) -> [bool; 48]
+    set: [bool; Tree::STATES],
+) -> [bool; Tree::STATES]
     requires { s < 48 }
     ensures { (c : Chart) → Enters c parents.now kinds.now entries.now entry s → result ≡ adding 48 c (entered c s entry) set }
 {
     let mut out = set;
     out[s] = true;
-    let mut x = s + 1;
-    while x < Tree::STATES {
+    for x in s + 1..Tree::STATES {
         if is_marked_child(parents, entries, entry, s, x) {
             let kind = byte_at(kinds, x); // of the marked child
             match kind {
@@ -42,7 +41,6 @@ fn enter_sequential(
                 _ => out = enter_sequential(parents, kinds, entries, entry, x, out),
             }
         }
-        x += 1;
     }
     out
 }
@@ -55,15 +53,14 @@ fn enter_parallel(
     entries: &[u16],
     entry: u8,
     s: usize,
-    set: [bool; 48],
-) -> [bool; 48]
+    set: [bool; Tree::STATES],
+) -> [bool; Tree::STATES]
     requires { s < 48 }
     ensures { (c : Chart) → Enters c parents.now kinds.now entries.now entry s → parallel c s ≡ true → result ≡ adding 48 c (entered c s entry) set }
 {
     let mut out = set;
     out[s] = true;
-    let mut x = s + 1;
-    while x < Tree::STATES {
+    for x in s + 1..Tree::STATES {
         if is_child(parents, s, x) {
             let kind = byte_at(kinds, x); // of each child
             match kind {
@@ -72,13 +69,17 @@ fn enter_parallel(
                 _ => out = enter_sequential(parents, kinds, entries, entry, x, out),
             }
         }
-        x += 1;
     }
     out
 }
 
 // The set with the states that entering a destination enters: by no entry (255) itself, else what is marked.
-pub fn entered(t: Tree, destination: u8, entry: u8, set: [bool; 48]) -> [bool; 48]
+pub fn entered(
+    t: Tree,
+    destination: u8,
+    entry: u8,
+    set: [bool; Tree::STATES],
+) -> [bool; Tree::STATES]
     ensures { (c : Chart) → Tabled c t → parents c ≡ true → entry_marks c ≡ true → result ≡ adding 48 c (entered c destination entry) set }
 {
     let d = destination as usize;
@@ -93,21 +94,18 @@ pub fn entered(t: Tree, destination: u8, entry: u8, set: [bool; 48]) -> [bool; 4
         out[d] = true;
         return out;
     }
-    let parents = t.parents;
-    let kinds = t.kinds;
-    let entries = t.entries;
-    if !has(entries[d] as u32, entry as u32) {
+    if !has(t.entries[d] as u32, entry as u32) {
         return set;
     }
-    if kinds[d] == 2 {
-        enter_parallel(&parents, &kinds, &entries, entry, d, set)
+    if t.kinds[d] == 2 {
+        enter_parallel(&t.parents, &t.kinds, &t.entries, entry, d, set)
     } else {
-        enter_sequential(&parents, &kinds, &entries, entry, d, set)
+        enter_sequential(&t.parents, &t.kinds, &t.entries, entry, d, set)
     }
 }
 
 // The active states at the start.
-pub fn start_active(t: Tree) -> [bool; 48]
+pub fn start_active(t: Tree) -> [bool; Tree::STATES]
     ensures { (c : Chart) → Tabled c t → parents c ≡ true → entry_marks c ≡ true → result ≡ map (λ s. ltb s (length c.states) && entered c 0 0 s) (below 48) }
 {
     entered(t, 0, 0, [false; 48])

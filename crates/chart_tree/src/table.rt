@@ -25,27 +25,25 @@ pub fn no_states(states: u8) -> Tree
     ensures { (c : Chart) → states ≡ length c.states → states ≤ 48 → Begun c result 0 }
 {
     Tree {
-        parents: [255; 48],
-        kinds: [0; 48],
-        entries: [0; 48],
-        exits: [0; 48],
+        parents: [255; Tree::STATES],
+        kinds: [0; Tree::STATES],
+        entries: [0; Tree::STATES],
+        exits: [0; Tree::STATES],
         states,
     }
 }
 
-// The tables with the state s after those before it.
-pub fn with_state(t: Tree, s: usize, parent: u8, kind: u8, entries: u16, exits: u8) -> Tree
-    ensures { (c : Chart) → Begun c t s → s < length c.states → parent ≡ (state_at c s).parent → kind ≡ (state_at c s).kind → entries ≡ (state_at c s).entries → exits ≡ (state_at c s).exits → Begun c result (s + 1) }
+// The state s is put into the tables, after those before it.
+pub fn put_state(tree: &mut Tree, s: usize, parent: u8, kind: u8, entries: u16, exits: u8)
+    ensures { (c : Chart) → Begun c tree.old s → s < length c.states → parent ≡ (state_at c s).parent → kind ≡ (state_at c s).kind → entries ≡ (state_at c s).entries → exits ≡ (state_at c s).exits → Begun c tree.new (s + 1) }
 {
     if s >= Tree::STATES {
-        return t;
+        return;
     }
-    let mut next = t;
-    next.parents[s] = parent;
-    next.kinds[s] = kind;
-    next.entries[s] = entries;
-    next.exits[s] = exits;
-    next
+    tree.parents[s] = parent;
+    tree.kinds[s] = kind;
+    tree.entries[s] = entries;
+    tree.exits[s] = exits;
 }
 
 // The marks at a place, none past the end.

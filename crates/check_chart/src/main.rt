@@ -1,15 +1,13 @@
 // Checks the chart on standard input: it passes, or the number of the refusal and its sentence.
 #![tactic(auto)]
 
-use reading::verdict::Verdict;
 use std::io;
 use std::io::Write;
 
 fn verdict(out: &mut impl Write, file: &[u8]) -> io::Result<()> {
-    let answer = chart::check::check(file);
-    match answer {
-        Verdict::Done => console::print::text(out, b"passes\n"),
-        Verdict::Refused(k) => console::sentence::refusal(out, k),
+    match chart::check::check(file) {
+        Ok(()) => console::print::text(out, b"passes\n"),
+        Err(refusal) => console::sentence::refusal(out, refusal),
     }
 }
 

@@ -3,5 +3,4 @@ pub mod Ticks
 pub mod Clocks
 pub mod Ranges
 pub mod Rows
-pub mod Told
 pub mod Longest

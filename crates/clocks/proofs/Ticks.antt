@@ -10,30 +10,30 @@ use native.Mathlib.Numerals.{add-one}
 use borrow.Author.Tests.{le-leb, lt-leb}
 use lib.Dec.{leb}
 use lib.ListN.{length, get_or}
+use Rattle.std.specs.Prelude.{Some, None}
 use Rattle.clocks.specs.Clocks.{clock_limit, left_where, ticks_left, is_kept, fewest, row_left}
-use Rattle.clocks.specs.declared.left.Left.TheVariants as Le
 
 -- ticks are left just where what is tested is kept
-pub where_kept : {b : Bool} (n : ℕ) → b ≡ true → left_where b n ≡ Le.Ticks n
+pub where_kept : {b : Bool} (n : ℕ) → b ≡ true → left_where b n ≡ Some n
 where_kept n h = rw h
 
-pub where_broken : {b : Bool} (n : ℕ) → b ≡ false → left_where b n ≡ Le.Broken
+pub where_broken : {b : Bool} (n : ℕ) → b ≡ false → left_where b n ≡ None
 where_broken n h = rw h
 
-pub was_kept : (b : Bool) (n : ℕ) {m : ℕ} → Le.Ticks m ≡ left_where b n → (b ≡ true) × (m ≡ n)
+pub was_kept : (b : Bool) (n : ℕ) {m : ℕ} → Some m ≡ left_where b n → (b ≡ true) × (m ≡ n)
 was_kept true n e = (refl, cc)
-was_kept false n e = absurd (let z : ◌≡◌ {A = ℕ} 0 1 = cc in omega arith)
+was_kept false n e = cc
 
-pub was_broken : (b : Bool) (n : ℕ) → Le.Broken ≡ left_where b n → b ≡ false
-was_broken true n e = absurd (let z : ◌≡◌ {A = ℕ} 0 1 = cc in omega arith)
+pub was_broken : (b : Bool) (n : ℕ) → None ≡ left_where b n → b ≡ false
+was_broken true n e = cc
 was_broken false n e = refl
 
 -- a bound that the clock is within leaves ticks, another is broken
-pub left_kept : (b c : ℕ) → c ≤ b → ticks_left b c ≡ Le.Ticks (min b clock_limit - c)
+pub left_kept : (b c : ℕ) → c ≤ b → ticks_left b c ≡ Some (min b clock_limit - c)
 unfolding ticks_left
 left_kept b c h = where_kept _ (le-leb c b h)
 
-pub left_broken : (b c : ℕ) → b < c → ticks_left b c ≡ Le.Broken
+pub left_broken : (b c : ℕ) → b < c → ticks_left b c ≡ None
 unfolding ticks_left
 left_broken b c h = where_broken _ (lt-leb c b h)
 

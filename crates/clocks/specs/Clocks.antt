@@ -1,10 +1,8 @@
 -- Clocks and bounds. A row has a bound for each of eight clocks; 2 ^ 32 - 1 is no bound.
-use Rattle.std.specs.Prelude.{ℕ, zero, suc, ◌+◌, ◌-◌, min, Bool, true, false, cond, ◌&&◌, ◌||◌, leb, eqb, get_or, replicate, drop, ℤ, pos, negsuc}
+use Rattle.std.specs.Prelude.{ℕ, zero, suc, ◌+◌, ◌-◌, min, Bool, true, false, cond, ◌&&◌, ◌||◌, leb, eqb, get_or, replicate, drop, ℤ, pos, negsuc, Option, Some, None, is_some}
 use mathlib.Core.List.{List, [], ◌∷◌, ◌++◌, zip_with}
 use Rattle.lists.specs.Lists.{has, all, below}
 use Rattle.reading.specs.Reading.{Reader, byte4, such, many, ◌>>=◌, yield}
-use Rattle.clocks.specs.declared.left.Left.{Left}
-use Rattle.clocks.specs.declared.left.Left.TheVariants as Le
 
 abbrev pub clock_limit : ℕ
 clock_limit = 2147483647
@@ -25,18 +23,17 @@ unfoldable pub join_tables : List (List ℕ) → List (List ℕ) → List (List 
 join_tables a b = zip_with join a b
 
 -- so many ticks left, where what is tested is kept
-abbrev pub left_where : Bool → ℕ → Left
-left_where true n = Le.Ticks n
-left_where false n = Le.Broken
+abbrev pub left_where : Bool → ℕ → Option ℕ
+left_where true n = Some n
+left_where false n = None
 
--- the test of a bound: the ticks left before the clock passes it or the limit, or that it is broken. So no bound leaves
--- what the limit leaves
-unfoldable pub ticks_left : ℕ → ℕ → Left
+-- the test of a bound: the ticks left before the clock passes it or the limit, and none where it is broken. So no bound
+-- leaves what the limit leaves
+unfoldable pub ticks_left : ℕ → ℕ → Option ℕ
 ticks_left b c = left_where (leb c b) (min b clock_limit - c)
 
-abbrev pub is_kept : Left → Bool
-is_kept (Le.Ticks n) = true
-is_kept Le.Broken = false
+abbrev pub is_kept : Option ℕ → Bool
+is_kept left = is_some left
 
 -- each clock is at most its bound
 unfoldable pub keeps : List ℕ → List ℕ → Bool
@@ -45,9 +42,9 @@ keeps (b ∷ bs) [] = true
 keeps (b ∷ bs) (c ∷ cs) = is_kept (ticks_left b c) && keeps bs cs
 
 -- of the ticks left under a bound and m others the fewest; a broken bound leaves none
-abbrev pub fewest : Left → ℕ → ℕ
-fewest (Le.Ticks n) m = min n m
-fewest Le.Broken m = 0
+abbrev pub fewest : Option ℕ → ℕ → ℕ
+fewest (Some n) m = min n m
+fewest None m = 0
 
 -- the ticks left for the first n clocks under the bounds of a row, and m at most
 unfoldable pub row_left : ℕ → List ℕ → List ℕ → ℕ → ℕ

@@ -3,13 +3,6 @@ use Rattle.std.specs.Prelude.{ℕ, ◌≤◌, ◌≡◌}
 use Rattle.reading.specs.Answer.{Answer, done, refused}
 use Rattle.reading.specs.Verdict.{verdict_of, verdict_number, or_kept}
 use Rattle.clocks.specs.Clocks.{all_ticks}
-use Rattle.clocks.specs.declared.left.Longest.{Longest}
-use Rattle.clocks.specs.declared.left.Longest.TheVariants as Lo
-
--- what the code answers
-abbrev pub told : Answer ℕ → Longest
-told (done m) = Lo.Ticks m
-told (refused k) = Lo.Refused k
 
 -- what becomes of ticks that are lent for the answer, and the number that the call answers with
 abbrev pub Tells : ℕ → Answer ℕ → ℕ → ℕ → Type 0

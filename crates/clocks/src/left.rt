@@ -3,61 +3,39 @@
 // Bounds are tested nowhere else: `keeps`, and with it 17, 26 and 21, asks `ticks_left`. That a bound is kept just where the
 // clock is at most the bound is the law `kept_is`. A bound that is not there, 4,294,967,295, needs no case: it leaves what the
 // limit leaves. 22 is about the limit alone, and `later`, which computes the clocks after a wait, tells it.
-ghost use Rattle.std.specs.Prelude.{◌≡◌, ℕ, ◌-◌, min};
-ghost use Rattle.reading.specs.Answer.{Answer};
-ghost use Rattle.clocks.specs.Clocks.{clock_limit, left_where, ticks_left, is_kept, keeps, fewest, row_left, limit_left};
-ghost use Rattle.clocks.specs.Longest.{told, Tells};
+ghost use Rattle.std.specs.Prelude.{◌≡◌, ◌-◌, min};
+ghost use Rattle.reading.specs.Verdict.{answer_of};
+ghost use Rattle.clocks.specs.Clocks.{clock_limit, left_where, ticks_left, fewest, keeps, row_left, limit_left};
+ghost use Rattle.clocks.specs.Longest.{Tells};
 
-use crate::clock::{keeps, least};
-
-// The ticks left before a clock passes its bound or the limit, or that the bound is broken.
-#[derive(Clone, Copy)]
-pub enum Left {
-    Ticks(u32),
-    Broken,
-}
-
-// The longest wait of a configuration, or the number of the refusal.
-#[derive(Clone, Copy)]
-pub enum Longest {
-    Ticks(u32),
-    Refused(u8),
-}
+use crate::clock::{CLOCK_LIMIT, NO_BOUND, keeps};
+use reading::refusal::Refusal;
 
 // The ticks from a clock to its bound or the limit, whichever is less; none from a clock that is past it.
 fn ticks_to(bound: u32, clock: u32) -> u32
     ensures { result ≡ min bound clock_limit - clock }
 {
-    let end = least(bound, 2147483647);
-    if clock < end { end - clock } else { 0 }
+    bound.min(CLOCK_LIMIT).saturating_sub(clock)
 }
 
-// The test of a bound.
-pub fn ticks_left(bound: u32, clock: u32) -> Left
+// The test of a bound: the ticks left before the clock passes it or the limit, and none where it is broken.
+pub fn ticks_left(bound: u32, clock: u32) -> Option<u32>
     ensures { result ≡ ticks_left bound clock }
 {
-    if clock > bound {
-        return Left::Broken;
-    }
-    Left::Ticks(ticks_to(bound, clock))
-}
-
-pub fn is_kept(left: Left) -> bool
-    ensures { result ≡ is_kept left }
-{
-    match left {
-        Left::Ticks(_) => true,
-        Left::Broken => false,
+    if clock <= bound {
+        Some(ticks_to(bound, clock))
+    } else {
+        None
     }
 }
 
-// The fewest of the ticks left under a bound and of others.
-pub fn fewest(left: Left, others: u32) -> u32
+// The fewest of the ticks left under a bound and of others. A broken bound leaves none.
+pub fn fewest(left: Option<u32>, others: u32) -> u32
     ensures { result ≡ fewest left others }
 {
     match left {
-        Left::Ticks(n) => least(n, others),
-        Left::Broken => 0,
+        Some(n) => n.min(others),
+        None => 0,
     }
 }
 
@@ -65,41 +43,41 @@ pub fn fewest(left: Left, others: u32) -> u32
 fn row_left(count: usize, bounds: [u32; 8], clocks: [u32; 8], ticks: u32) -> u32
     ensures { result ≡ row_left count bounds clocks ticks }
 {
-    let n = lists::number::least(count, 8);
     let mut left = ticks;
-    for i in 0..n {
+    for i in 0..count.min(8) {
         left = fewest(ticks_left(bounds[i], clocks[i]), left);
     }
     left
 }
 
-// The same where clocks keep the row, or that they break a bound of it.
-pub fn under_row(count: usize, bounds: [u32; 8], clocks: [u32; 8], ticks: u32) -> Left
+// The same where clocks keep the row, and none where they break a bound of it.
+pub fn under_row(count: usize, bounds: [u32; 8], clocks: [u32; 8], ticks: u32) -> Option<u32>
     ensures { result ≡ left_where (keeps bounds clocks) (row_left count bounds clocks ticks) }
 {
-    if !keeps(bounds, clocks) {
-        return Left::Broken;
+    if keeps(bounds, clocks) {
+        Some(row_left(count, bounds, clocks, ticks))
+    } else {
+        None
     }
-    Left::Ticks(row_left(count, bounds, clocks, ticks))
 }
 
 // The ticks left for the first `count` clocks where there is no bound.
 pub fn limit_left(count: usize, clocks: [u32; 8]) -> u32
     ensures { result ≡ limit_left count clocks }
 {
-    row_left(count, [4294967295; 8], clocks, 4294967295)
+    row_left(count, [NO_BOUND; 8], clocks, u32::MAX)
 }
 
-// Tells an answer to a caller who lent ticks: 0 and the ticks, or the number of the refusal, which leaves the ticks as they
-// were.
-pub fn tell(answer: Longest, ticks: &mut u32) -> u8
-    ensures { (a : Answer ℕ) → answer ≡ told a → Tells ticks.old a ticks.new result }
+// Tells the longest wait to a caller who lent ticks: 0 and the ticks, or the number of the refusal, which leaves the ticks as
+// they were.
+pub fn tell(longest: Result<u32, Refusal>, ticks: &mut u32) -> u8
+    ensures { Tells ticks.old (answer_of longest) ticks.new result }
 {
-    match answer {
-        Longest::Ticks(n) => {
+    match longest {
+        Ok(n) => {
             *ticks = n;
             0
         }
-        Longest::Refused(k) => k,
+        Err(refusal) => refusal.number(),
     }
 }

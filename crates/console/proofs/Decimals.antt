@@ -6,6 +6,8 @@ use mathlib.Core.List.{List, [], ◌∷◌, ◌++◌}
 use Prim.Native.Nat.{ℕ, ◌+◌, ◌*◌, ◌-◌, ◌≤◌, ◌<◌}
 use native.Mathlib.Omega.{arith}
 use lib.Dec.{leb, ltb}
+use Rattle.std.specs.Prelude.{Some, None, Result, Ok, Err}
+use Rattle.std.specs.Result.{OkIff, result_ok}
 use lib.ListN.{length, get_or, drop, drop_of_length-le}
 use borrow.Author.Tests.{ltb-true, ltb-false, lt-ltb, le-ltb, le-leb, lt-leb}
 use Rattle.lists.specs.Lists.{all}
@@ -13,8 +15,6 @@ use Rattle.lists.proofs.Bools.{decided}
 use Rattle.lists.proofs.Parts.{drop_next}
 use Rattle.console.specs.Script.{is_digit, decimal_after, decimal, is_number, number_of}
 use Rattle.console.specs.Places.{with_digit}
-use Rattle.console.specs.declared.script.NumberRead.{NumberRead}
-use Rattle.console.specs.declared.script.NumberRead.TheVariants as Nu
 
 -- more digits write no smaller number
 decimal_grows : (n : ℕ) (w : List ℕ) → n ≤ decimal_after n w
@@ -81,7 +81,7 @@ module _ (w : List ℕ) (value i : ℕ) (D : Digits w value i) where
         counted = rw (g, f) (counted_more value (get_or w i 0) (drop (i + 1) w) (decimal w) (rw (drop_next w i 0 h) at D.counted));
       }
 
-  pub digits_stop : i < length w → is_digit (get_or w i 0) ≡ false → Nu.Bad ≡ number_of w
+  pub digits_stop : i < length w → is_digit (get_or w i 0) ≡ false → None ≡ number_of w
   unfolding number_of is_number
   digits_stop h e =
       let z : all is_digit w ≡ false = D.digits ∙ here h ∙ rw e in
@@ -91,41 +91,46 @@ module _ (w : List ℕ) (value i : ℕ) (D : Digits w value i) where
   unfolding all
   end h = (rw (drop_of_length-le w {i = i} h) at D.digits, rw (drop_of_length-le w {i = i} h) at D.counted)
 
-  pub digits_large : length w ≤ i → 4294967295 < value → Nu.Bad ≡ number_of w
+  pub digits_large : length w ≤ i → 4294967295 < value → None ≡ number_of w
   unfolding number_of is_number decimal_after
   digits_large h k = sym (rw ((end h).0, lt-leb (decimal w) 4294967295 (⊎_elim (λ e. omega arith) (λ e. e.1) (end h).1)) (cut (leb 1 (length w))))
     where
-      cut : (b : Bool) → cond (b && false) (Nu.Value (decimal w)) Nu.Bad ≡ Nu.Bad
+      cut : (b : Bool) → cond (b && false) (Some (decimal w)) None ≡ None
       cut true = refl
       cut false = refl
 
-  pub digits_all : 1 ≤ length w → length w ≤ i → value ≤ 4294967295 → Nu.Value value ≡ number_of w
+  pub digits_all : 1 ≤ length w → length w ≤ i → value ≤ 4294967295 → Some value ≡ number_of w
   unfolding number_of is_number decimal_after
   digits_all l h k =
       let z : value ≡ decimal w = ⊎_elim (λ e. e) (λ e. absurd (omega (arith, e.0))) (end h).1 in
-      sym (rw (le-leb 1 (length w) l, (end h).0, le-leb (decimal w) 4294967295 (omega arith)) (ap (λ (n : ℕ). Nu.Value n) (sym z)))
+      sym (rw (le-leb 1 (length w) l, (end h).0, le-leb (decimal w) 4294967295 (omega arith)) (ap Some (sym z)))
+
+-- what is answered after the last digit
+pub digits_told : {E : Type 0} (w : List ℕ) (value i : ℕ) → Digits w value i → 1 ≤ length w → length w ≤ i → (r : Result ℕ E) → OkIff r (value < 4294967296) value → result_ok r ≡ number_of w
+digits_told w value i D l h (Ok v) (k, e) = ap Some e ∙ digits_all w value i D l h (omega arith)
+digits_told w value i D l h (Err f) k = digits_large w value i D h (⊎_elim (λ t. absurd (k (omega (arith, ltb-true value 4294967296 t)))) (λ t. omega (arith, ltb-false value 4294967296 t)) (decided (ltb value 4294967296)))
 
 pub not_digits : (w : List ℕ) → all is_digit w ≡ false → is_number w ≡ false
 unfolding is_number
 not_digits w h = rw h (and-false (leb 1 (length w)))
 
-pub number_empty : (w : List ℕ) → length w ≡ 0 → Nu.Bad ≡ number_of w
+pub number_empty : (w : List ℕ) → length w ≡ 0 → None ≡ number_of w
 unfolding number_of is_number
 number_empty w h = sym (rw (lt-leb 1 (length w) (omega arith)))
 
 -- what an answer says of the word
-pub number_value : (w : List ℕ) {q : NumberRead} {v : ℕ} → q ≡ number_of w → q ≡ Nu.Value v → (is_number w ≡ true) × (v ≡ decimal w)
+pub number_value : (w : List ℕ) {v : ℕ} → number_of w ≡ Some v → (is_number w ≡ true) × (v ≡ decimal w)
 unfolding number_of
-number_value w {q} {v} e f = go (is_number w) (sym f ∙ e)
+number_value w {v} e = go (is_number w) e
   where
-    go : (b : Bool) → Nu.Value v ≡ cond b (Nu.Value (decimal w)) Nu.Bad → (b ≡ true) × (v ≡ decimal w)
+    go : (b : Bool) → cond b (Some (decimal w)) None ≡ Some v → (b ≡ true) × (v ≡ decimal w)
     go true h = (refl, cc)
-    go false h = absurd (let z : ◌≡◌ {A = ℕ} 0 1 = cc in omega arith)
+    go false h = cc
 
-pub number_bad : (w : List ℕ) {q : NumberRead} → q ≡ number_of w → q ≡ Nu.Bad → is_number w ≡ false
+pub number_bad : (w : List ℕ) → number_of w ≡ None → is_number w ≡ false
 unfolding number_of
-number_bad w {q} e f = go (is_number w) (sym f ∙ e)
+number_bad w e = go (is_number w) e
   where
-    go : (b : Bool) → Nu.Bad ≡ cond b (Nu.Value (decimal w)) Nu.Bad → b ≡ false
-    go true h = absurd (let z : ◌≡◌ {A = ℕ} 0 1 = cc in omega arith)
+    go : (b : Bool) → cond b (Some (decimal w)) None ≡ None → b ≡ false
+    go true h = cc
     go false h = refl

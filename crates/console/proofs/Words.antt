@@ -1,29 +1,25 @@
 -- The words of a line, one after the other.
-use mathlib.Core.Path.{◌≡◌, refl, sym, ap, ap₂, ◌∙◌, subst}
+use mathlib.Core.Path.{◌≡◌, refl, sym, ap, ap₂, ◌∙◌}
 use mathlib.Core.Bool.{Bool, true, false, cond, not, ◌&&◌}
 use mathlib.Core.List.{List, [], ◌∷◌, ◌++◌, append_assoc, append-nil}
-use Prim.Native.Nat.{ℕ, suc, ◌+◌, ◌-◌, ◌≤◌, ◌<◌}
+use Prim.Native.Nat.{ℕ, suc, ◌-◌, ◌≤◌, ◌<◌}
 use native.Mathlib.Omega.{arith}
 use borrow.Author.Tests.{leb-true, ne_eqb}
 use lib.Dec.{leb, eqb}
-use lib.ListN.{length, get_or, take, drop, length-take, length-drop, drop_of_length-le}
+use lib.Pointwise.{pointwise}
+use lib.ListN.{length, take, drop, length-take, length-drop}
 use lib.Seq.{drop-drop}
+use Rattle.std.specs.Prelude.{Some}
 use Rattle.lists.specs.Lists.{position}
 use Rattle.reading.specs.Places.{onward}
-use Rattle.lists.proofs.Bools.{clash, fails, and_l, and_r, cond_yes, cond_no}
-use Rattle.lists.proofs.Parts.{drop_next}
+use Rattle.lists.proofs.Bools.{and_l, cond_yes, cond_no}
 use Rattle.lists.proofs.Position.{position_le}
 use Rattle.console.specs.Script.{is_space, is_digit, ended, words_after, words, same_word}
 use Rattle.console.specs.Places.{place_of, ends_run, words_found, WordFits}
-use Rattle.console.specs.declared.script.Word.{Word}
-use Rattle.console.specs.declared.script.Word.TheVariants as Wo
 
 -- a word from `from` to `to` is the first from a place on, and lies in the line
 abbrev pub FirstWord : List ℕ → List (List ℕ) → ℕ → ℕ → Type 0
 FirstWord s ws from to = ws ≡ take (to - from) (drop from s) ∷ words (onward s to)
-
-abbrev pub PartWithin : List ℕ → ℕ → ℕ → ℕ → Type 0
-PartWithin s at from to = (at ≤ from) × (from < to) × (to ≤ length s)
 
 -- the words that are left, after a space and after another byte
 pub after_space : (w : List ℕ) (b : ℕ) (s : List ℕ) → is_space b ≡ true → words_after w (b ∷ s) ≡ ended w ++ words_after [] s
@@ -91,7 +87,7 @@ module _ (s : List ℕ) (at : ℕ) {from to : ℕ} (f : from ≡ place_of (ends_
   unfolding onward
   skipped = ap (λ (n : ℕ). words (drop n s)) f ∙ ap words (sym (drop-drop (position (ends_run true) (drop at s)) at s)) ∙ words_skip (drop at s)
 
-  pub word_found : from < to → words_found s (Wo.Part from to) ≡ words (onward s at)
+  pub word_found : from < to → words_found s (Some (from, to)) ≡ words (onward s at)
   unfolding onward
   word_found h =
       let m : ℕ = position (ends_run false) (drop from s) in
@@ -100,7 +96,7 @@ module _ (s : List ℕ) (at : ℕ) {from to : ℕ} (f : from ≡ place_of (ends_
       ∙ ap₂ (λ (w : List ℕ) (ws : List (List ℕ)). w ∷ ws) (ap (λ (n : ℕ). take n (drop from s)) (sym size))
       (ap words (drop-drop m from s) ∙ ap (λ (n : ℕ). words (drop n s)) (sym g)))
 
-  pub word_fits : from < to → WordFits s at (Wo.Part from to)
+  pub word_fits : from < to → WordFits s at (Some (from, to))
   unfolding onward
   word_fits h = (omega arith, omega arith, omega (arith, position_le (ends_run false) (drop from s), length-drop from s))
 
@@ -113,39 +109,10 @@ module _ (s : List ℕ) (at : ℕ) {from to : ℕ} (f : from ≡ place_of (ends_
       let end : drop from s ≡ [] = here ∙ skip_all (drop at s) (ap (position (ends_run false)) (sym here) ∙ none) in
       sym (sym skipped ∙ ap words end)
 
--- what an answer says of the words from a place on
-module _ (s : List ℕ) (at : ℕ) (w : Word) (e : words_found s w ≡ words (onward s at)) where
-  pub words_part : {from to : ℕ} → w ≡ Wo.Part from to → words (onward s at) ≡ take (to - from) (drop from s) ∷ words (onward s to)
-  words_part f = sym e ∙ ap (words_found s) f
-
-  pub words_none : w ≡ Wo.None → words (onward s at) ≡ []
-  words_none f = sym e ∙ ap (words_found s) f
-
-pub part_within : (s : List ℕ) (at : ℕ) (w : Word) → WordFits s at w → {from to : ℕ} → w ≡ Wo.Part from to → (at ≤ from) × (from < to) × (to ≤ length s)
-part_within s at w h f = subst (WordFits s at) f h
-
--- two words are compared byte by byte
-same_length : (a b : List ℕ) → same_word a b ≡ true → length a ≡ length b
+-- two words are the same where they are equal
+pub same_is : (a b : List ℕ) → pointwise eqb a b ≡ same_word a b
 unfolding same_word
-same_length [] [] h = refl
-same_length [] (y ∷ b) h = clash h refl
-same_length (x ∷ a) [] h = clash h refl
-same_length (x ∷ a) (y ∷ b) h = ap suc (same_length a b (and_r (eqb x y) (same_word a b) h))
-
-pub same_not : (a b : List ℕ) → (length a ≡ length b → ⊥) → false ≡ same_word a b
-same_not a b h = sym (fails (same_word a b) (λ e. h (same_length a b e)))
-
-module _ (a b : List ℕ) (l : length a ≡ length b) (i : ℕ) where
-  next : i < length a → same_word (drop i a) (drop i b) ≡ (eqb (get_or a i 0) (get_or b i 0) && same_word (drop (i + 1) a) (drop (i + 1) b))
-  unfolding same_word
-  next h = rw (drop_next a i 0 h, drop_next b i 0 (omega arith))
-
-  pub same_more : same_word a b ≡ same_word (drop i a) (drop i b) → i < length a → eqb (get_or a i 0) (get_or b i 0) ≡ true → same_word a b ≡ same_word (drop (i + 1) a) (drop (i + 1) b)
-  same_more I h e = I ∙ next h ∙ rw e
-
-  pub same_differ : same_word a b ≡ same_word (drop i a) (drop i b) → i < length a → eqb (get_or a i 0) (get_or b i 0) ≡ false → false ≡ same_word a b
-  same_differ I h e = sym (I ∙ next h ∙ rw e)
-
-  pub same_all : same_word a b ≡ same_word (drop i a) (drop i b) → length a ≤ i → true ≡ same_word a b
-  unfolding same_word
-  same_all I h = sym (I ∙ ap₂ same_word (drop_of_length-le a {i = i} h) (drop_of_length-le b {i = i} (omega arith)))
+same_is [] [] = refl
+same_is [] (y ∷ b) = refl
+same_is (x ∷ a) [] = refl
+same_is (x ∷ a) (y ∷ b) = ap (λ (t : Bool). eqb x y && t) (same_is a b)

@@ -1,12 +1,10 @@
 -- Scripts of calls: what a line means. A line is words, and the first word names the call: start, step 3 7, wait 5,
 -- longest.
-use Rattle.std.specs.Prelude.{Bool, true, false, cond, ◌&&◌, ◌||◌, List, [], ◌∷◌, ◌++◌, map, ℕ, ◌+◌, ◌*◌, ◌-◌, min, leb, ltb, eqb, length, take, replicate}
+use Rattle.std.specs.Prelude.{Bool, true, false, cond, ◌&&◌, ◌||◌, List, [], ◌∷◌, ◌++◌, map, ℕ, ◌+◌, ◌*◌, ◌-◌, min, leb, eqb, length, take, replicate, Option, Some, None}
 use Rattle.lists.specs.Lists.{all, position, padded}
 use Rattle.console.specs.declared.script.Call.{Call}
 use Rattle.console.specs.declared.script.Call.TheVariants as Ca
 use Rattle.console.specs.declared.script.Line.{Line}
-use Rattle.console.specs.declared.script.NumberRead.{NumberRead}
-use Rattle.console.specs.declared.script.NumberRead.TheVariants as Nu
 
 -- what stands before a comment, which begins with #
 unfoldable pub before_comment : List ℕ → List ℕ
@@ -54,8 +52,8 @@ unfoldable pub is_number : List ℕ → Bool
 is_number w = leb 1 (length w) && (all is_digit w && leb (decimal w) 4294967295)
 
 -- the number that a word is
-unfoldable pub number_of : List ℕ → NumberRead
-number_of w = cond (is_number w) (Nu.Value (decimal w)) Nu.Bad
+unfoldable pub number_of : List ℕ → Option ℕ
+number_of w = cond (is_number w) (Some (decimal w)) None
 
 -- a line with a call and no numbers
 unfoldable pub plain_line : Call → Line
@@ -130,10 +128,6 @@ moves (Ca.Wait ticks) = true
 moves Ca.Longest = false
 moves Ca.Unknown = false
 moves Ca.Number = false
-
--- the number of the next line; the count stops at a million
-abbrev pub next_number : ℕ → ℕ
-next_number n = cond (ltb n 1000000) (n + 1) n
 
 -- the numbers of a line's step, of which there are at most seventeen
 abbrev pub numbers_of : Line → List ℕ

@@ -37,11 +37,8 @@ pub fn signed_number(out: &mut impl Write, z: i32) -> io::Result<()> {
 // The first variables of sixteen, as many as are declared.
 pub fn variables(out: &mut impl Write, values: &[i32; 16], count: u8) -> io::Result<()> {
     text(out, b"  variables")?;
-    for i in 0..16 {
-        let value = values[i];
-        if i < count as usize {
-            signed_number(out, value)?;
-        }
+    for &value in values.iter().take(count as usize) {
+        signed_number(out, value)?;
     }
     line_end(out)
 }
@@ -49,11 +46,8 @@ pub fn variables(out: &mut impl Write, values: &[i32; 16], count: u8) -> io::Res
 // The first clocks of eight, as many as are declared.
 pub fn clocks(out: &mut impl Write, values: &[u32; 8], count: u8) -> io::Result<()> {
     text(out, b"  clocks")?;
-    for i in 0..8 {
-        let value = values[i];
-        if i < count as usize {
-            word(out, value)?;
-        }
+    for &value in values.iter().take(count as usize) {
+        word(out, value)?;
     }
     line_end(out)
 }
@@ -61,11 +55,8 @@ pub fn clocks(out: &mut impl Write, values: &[u32; 8], count: u8) -> io::Result<
 // The first of sixteen bytes under their name, as many as there are automata.
 pub fn automata(out: &mut impl Write, name: &[u8], values: &[u8; 16], count: u8) -> io::Result<()> {
     text(out, name)?;
-    for i in 0..16 {
-        let value = values[i];
-        if i < count as usize {
-            byte(out, value)?;
-        }
+    for &value in values.iter().take(count as usize) {
+        byte(out, value)?;
     }
     line_end(out)
 }
@@ -73,8 +64,8 @@ pub fn automata(out: &mut impl Write, name: &[u8], values: &[u8; 16], count: u8)
 // The numbers of the active states.
 pub fn states(out: &mut impl Write, active: &[bool; 48]) -> io::Result<()> {
     text(out, b"  active")?;
-    for s in 0..48 {
-        if active[s] {
+    for (s, &is_active) in active.iter().enumerate() {
+        if is_active {
             number(out, s as u64)?;
         }
     }

@@ -1,13 +1,13 @@
 // Scripts of calls, a line each: start, step 3 7, wait 5, longest. What follows # is a comment.
-ghost use Rattle.std.specs.Prelude.{◌≡◌, ◌-◌, IfOk, eqb};
+ghost use Rattle.std.specs.Prelude.{◌≡◌, ◌-◌, IfOk};
 ghost use Rattle.reading.specs.Places.{onward};
-ghost use Rattle.console.specs.Script.{is_space, words, same_word, is_digit, number_of, plain_line, shortened, step_line, wait_line, alone_line, call_line, line_of, is_call, next_number};
+ghost use Rattle.console.specs.Script.{is_space, words, same_word, is_digit, number_of, plain_line, shortened, step_line, wait_line, alone_line, call_line, line_of, is_call};
 ghost use Rattle.console.specs.Places.{place_of, ends_run, with_digit, with_number, words_found, WordFits};
 
 use crate::print;
-use reading::field::byte_at;
 use std::io;
 use std::io::Write;
+use window::tail;
 
 #[derive(Clone, Copy)]
 pub enum Call {
@@ -28,24 +28,10 @@ pub struct Line {
     pub count: usize,
 }
 
-// The first place of a byte, from a place on, or the end.
-pub fn find(s: &[u8], at: usize, b: u8) -> usize
-    ensures { result ≡ place_of (λ x. eqb x b) s.now at }
-{
-    let mut i = at;
-    while i < s.len() {
-        if s[i] == b {
-            return i;
-        }
-        i += 1;
-    }
-    i
-}
-
 pub fn is_space(b: u8) -> bool
     ensures { result ≡ is_space b }
 {
-    b == b' ' || b == b'\t' || b == b'\r'
+    matches!(b, b' ' | b'\t' | b'\r')
 }
 
 // Whether a byte ends a run of spaces, or one of other bytes.
@@ -60,41 +46,19 @@ fn ends_run(spaces: bool, b: u8) -> bool
 fn run_end(s: &[u8], at: usize, spaces: bool) -> usize
     ensures { result ≡ place_of (ends_run spaces) s.now at }
 {
-    let mut i = at;
-    while i < s.len() {
-        if ends_run(spaces, s[i]) {
-            return i;
-        }
-        i += 1;
-    }
-    i
+    let rest = tail(s, at);
+    let run = rest.iter().position(|b| ends_run(spaces, *b));
+    at + run.unwrap_or(rest.len())
 }
 
-// Where a word begins and ends.
-#[derive(Clone, Copy)]
-pub enum Word {
-    Part(usize, usize),
-    None,
-}
-
-// The next word from a place on.
-fn next_word(s: &[u8], at: usize) -> Word
+// Where the next word from a place on begins and ends.
+fn next_word(s: &[u8], at: usize) -> Option<(usize, usize)>
     ensures means { words_found s.now result ≡ words (onward s.now at) }
     ensures within { WordFits s.now at result }
 {
     let from = run_end(s, at, true);
     let to = run_end(s, from, false);
-    if from < to {
-        Word::Part(from, to)
-    } else {
-        Word::None
-    }
-}
-
-#[derive(Clone, Copy)]
-pub enum NumberRead {
-    Value(u32),
-    Bad,
+    if from < to { Some((from, to)) } else { None }
 }
 
 // One digit more; past the largest number the answer stays there.
@@ -110,57 +74,38 @@ pub fn with_digit(value: u64, digit: u8) -> u64
 pub fn is_digit(b: u8) -> bool
     ensures { result ≡ is_digit b }
 {
-    b >= b'0' && b <= b'9'
+    b.is_ascii_digit()
 }
 
 // The value of a digit.
 pub fn digit_value(b: u8) -> u8
     ensures { result ≡ b - 48 }
 {
-    if b < b'0' {
-        return 0;
-    }
-    b - b'0'
+    b.saturating_sub(b'0')
 }
 
 // The number that a word is.
-pub fn number(word: &[u8]) -> NumberRead
+pub fn number(word: &[u8]) -> Option<u32>
     ensures { result ≡ number_of word.now }
 {
-    if word.len() == 0 {
-        return NumberRead::Bad;
+    if word.is_empty() {
+        return None;
     }
     let mut value = 0;
-    let mut i = 0;
-    while i < word.len() {
-        let b = word[i];
+    for &b in word {
         if !is_digit(b) {
-            return NumberRead::Bad;
+            return None;
         }
         value = with_digit(value, digit_value(b));
-        i += 1;
     }
-    if value > 4294967295 {
-        return NumberRead::Bad;
-    }
-    NumberRead::Value(value as u32)
+    u32::try_from(value).ok()
 }
 
 // Whether two words are the same.
 fn same(a: &[u8], b: &[u8]) -> bool
     ensures { result ≡ same_word a.now b.now }
 {
-    if a.len() != b.len() {
-        return false;
-    }
-    let mut i = 0;
-    while i < a.len() {
-        if a[i] != byte_at(b, i) {
-            return false;
-        }
-        i += 1;
-    }
-    true
+    a == b
 }
 
 // A line with a call and no numbers.
@@ -178,7 +123,7 @@ pub fn plain(call: Call) -> Line
 fn short(n: u32) -> u16
     ensures { result ≡ shortened n }
 {
-    if n < 65535 { n as u16 } else { 65535 }
+    n.min(65535) as u16
 }
 
 // The list with one number more, if there is room.
@@ -201,87 +146,69 @@ fn step_of(s: &[u8], at: usize) -> Line
 {
     let mut line = plain(Call::Step);
     let mut place = at;
-    loop {
-        let w = next_word(s, place);
-        let Word::Part(from, to) = w else {
-            return line;
-        };
-        let n = number(&s[from..to]);
-        let NumberRead::Value(value) = n else {
+    while let Some((from, to)) = next_word(s, place) {
+        let Some(value) = number(&s[from..to]) else {
             return plain(Call::Number);
         };
         line = with_number(line, value);
         place = to;
     }
+    line
 }
 
 // The ticks of a wait: one number, and nothing after it.
 fn wait_of(s: &[u8], at: usize) -> Line
     ensures { result ≡ wait_line (words (onward s.now at)) }
 {
-    let w = next_word(s, at);
-    let Word::Part(from, to) = w else {
+    let Some((from, to)) = next_word(s, at) else {
         return plain(Call::Number);
     };
-    let n = number(&s[from..to]);
-    let NumberRead::Value(ticks) = n else {
+    let Some(ticks) = number(&s[from..to]) else {
         return plain(Call::Number);
     };
-    let more = next_word(s, to);
-    let Word::None = more else {
-        return plain(Call::Number);
-    };
-    plain(Call::Wait(ticks))
+    match next_word(s, to) {
+        None => plain(Call::Wait(ticks)),
+        Some(_) => plain(Call::Number),
+    }
 }
 
 // A start or the longest wait: nothing stands after it.
 fn alone(s: &[u8], at: usize, call: Call) -> Line
     ensures { result ≡ alone_line call (words (onward s.now at)) }
 {
-    let more = next_word(s, at);
-    let Word::None = more else {
-        return plain(Call::Unknown);
-    };
-    plain(call)
+    match next_word(s, at) {
+        None => plain(call),
+        Some(_) => plain(Call::Unknown),
+    }
 }
 
 // The call of a line without its comment.
 fn call_of(s: &[u8]) -> Line
     ensures { result ≡ call_line (words s.now) }
 {
-    let w = next_word(s, 0);
-    let Word::Part(from, to) = w else {
+    let Some((from, to)) = next_word(s, 0) else {
         return plain(Call::Nothing);
     };
     let word = &s[from..to];
     if same(word, b"step") {
-        return step_of(s, to);
+        step_of(s, to)
+    } else if same(word, b"wait") {
+        wait_of(s, to)
+    } else if same(word, b"start") {
+        alone(s, to, Call::Start)
+    } else if same(word, b"longest") {
+        alone(s, to, Call::Longest)
+    } else {
+        plain(Call::Unknown)
     }
-    if same(word, b"wait") {
-        return wait_of(s, to);
-    }
-    if same(word, b"start") {
-        return alone(s, to, Call::Start);
-    }
-    if same(word, b"longest") {
-        return alone(s, to, Call::Longest);
-    }
-    plain(Call::Unknown)
 }
 
 // The call of a line.
 pub fn read_line(s: &[u8]) -> Line
     ensures { result ≡ line_of s.now }
 {
-    let to = find(s, 0, b'#');
-    call_of(&s[0..to])
-}
-
-// The number of the next line.
-pub fn next_number(number: u64) -> u64
-    ensures { result ≡ next_number number }
-{
-    if number < 1000000 { number + 1 } else { number }
+    let to = s.iter().position(|b| *b == b'#').unwrap_or(s.len());
+    call_of(&s[..to])
 }
 
 fn mistake(out: &mut impl Write, number: u64, text: &[u8], what: &[u8]) -> io::Result<()> {
@@ -298,7 +225,7 @@ pub fn is_call(out: &mut impl Write, call: Call, text: &[u8], number: u64) -> io
     ensures { IfOk result (λ b. b ≡ is_call call) }
 {
     match call {
-        Call::Nothing => return Ok(false),
+        Call::Nothing => Ok(false),
         Call::Unknown => {
             mistake(
                 out,
@@ -306,7 +233,7 @@ pub fn is_call(out: &mut impl Write, call: Call, text: &[u8], number: u64) -> io
                 text,
                 b"' is no call; calls are start, step and numbers, wait and ticks, longest",
             )?;
-            return Ok(false);
+            Ok(false)
         }
         Call::Number => {
             mistake(
@@ -315,10 +242,12 @@ pub fn is_call(out: &mut impl Write, call: Call, text: &[u8], number: u64) -> io
                 text,
                 b"' lacks a number, has one too many, or has a word that is no number up to 4,294,967,295",
             )?;
-            return Ok(false);
+            Ok(false)
         }
-        _ => print::text(out, text)?,
+        _ => {
+            print::text(out, text)?;
+            print::line_end(out)?;
+            Ok(true)
+        }
     }
-    print::line_end(out)?;
-    Ok(true)
 }

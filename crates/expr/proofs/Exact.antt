@@ -1,17 +1,16 @@
 -- The value of an expression is the exact one where no operation in it leaves the range, and else none.
 use mathlib.Core.Path.{◌≡◌, refl, ap₂, ap, ◌∙◌}
 use mathlib.Core.Bool.{Bool, true, false, cond, ◌&&◌}
+use Rattle.std.specs.Prelude.{Option, Some, None}
 use lib.IntN.{ℤ, ◌+ℤ◌, ◌-ℤ◌, ◌*ℤ◌}
 use Rattle.numbers.specs.Integer.{inside, floor_div, floor_mod}
 use Rattle.numbers.specs.Value.{exactly, of_two, of_one}
-use Rattle.numbers.specs.declared.value.Value.{Value}
-use Rattle.numbers.specs.declared.value.Value.TheVariants as Va
 use Rattle.expr.specs.Expression.{constant, variable, sum, difference, product, quotient, remainder, value}
 use Rattle.expr.specs.Exact.{exact, all_inside, ValueIsExact}
 
 -- a number where a test holds
-abbrev number_if : Bool → ℤ → Value
-number_if b z = cond b (Va.Number z) Va.None
+abbrev number_if : Bool → ℤ → Option ℤ
+number_if b z = cond b (Some z) None
 
 two_numbers : (f : ℤ → ℤ → ℤ) (x y : ℤ) (a b : Bool) → of_two f (number_if a x) (number_if b y) ≡ number_if (a && (b && inside (f x y))) (f x y)
 unfolding exactly

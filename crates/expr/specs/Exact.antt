@@ -1,7 +1,6 @@
 -- The value of an expression as the published definition has it, in whole numbers, and what of it the range allows.
-use Rattle.std.specs.Prelude.{Bool, true, cond, ◌&&◌, List, ◌≡◌, ℤ, pos, ◌+ℤ◌, ◌-ℤ◌, ◌*ℤ◌, get_or}
+use Rattle.std.specs.Prelude.{Bool, true, cond, ◌&&◌, List, ◌≡◌, ℤ, pos, ◌+ℤ◌, ◌-ℤ◌, ◌*ℤ◌, get_or, Some, None}
 use Rattle.numbers.specs.Integer.{inside, floor_div, floor_mod}
-use Rattle.numbers.specs.declared.value.Value.TheVariants as Va
 use Rattle.expr.specs.Expression.{Expr, constant, variable, sum, difference, product, quotient, remainder, value}
 
 unfoldable pub exact : List ℤ → Expr → ℤ
@@ -25,4 +24,4 @@ all_inside vars (remainder a d) = all_inside vars a
 
 -- the value is the exact one where no operation leaves the range, and else none
 abbrev pub ValueIsExact : Type 0
-ValueIsExact = (vars : List ℤ) (e : Expr) → value vars e ≡ cond (all_inside vars e) (Va.Number (exact vars e)) Va.None
+ValueIsExact = (vars : List ℤ) (e : Expr) → value vars e ≡ cond (all_inside vars e) (Some (exact vars e)) None

@@ -1,79 +1,83 @@
-// A case as it is read from left to right: a name and a colon, the word of an operation, and its numbers, which are kept
-// as numbers of one, two and four bytes.
-#[derive(Clone, Copy)]
-pub struct Case {
-    // Whether the name is over, and the first letter of the operation, 0 before it.
-    pub named: bool,
-    pub code: u8,
-    pub bytes: [u8; 32],
-    pub shorts: [u16; 32],
-    pub words: [u32; 32],
-    pub count: usize,
-    // The number that is being read, if one is.
-    pub open: bool,
-    pub value: u32,
-}
+// A case as it is read from left to right: a name and a colon, the word of an operation, and its numbers, of which those past
+// the 32nd are left out.
+use std::alloc::{AllocError, Global};
 
-fn is_digit(b: u8) -> bool {
-    b >= b'0' && b <= b'9'
+#[derive(Drop)]
+pub struct Case {
+    // Whether the name is over, and the first letter of the operation, where it has begun.
+    pub named: bool,
+    pub letter: Option<u8>,
+    pub numbers: Vec<u32>,
+    // The number that is being read, if one is.
+    pub open: Option<u32>,
 }
 
 // One digit more, of a number of 32 bits.
 fn with_digit(value: u32, b: u8) -> u32 {
-    ((10 * (value as u64) + ((b % b'0') as u64)) % 4294967296) as u32
+    value.wrapping_mul(10).wrapping_add((b % b'0') as u32)
 }
 
 impl Case {
-    pub fn new() -> Self {
-        Self {
+    pub fn new(alloc: Global) -> Case {
+        Case {
             named: false,
-            code: 0,
-            bytes: [0; 32],
-            shorts: [0; 32],
-            words: [0; 32],
-            count: 0,
-            open: false,
-            value: 0,
+            letter: None,
+            numbers: Vec::new(alloc),
+            open: None,
         }
     }
 
-    pub fn with_name(mut self, b: u8) -> Self {
+    pub fn add_to_name(&mut self, b: u8) {
         self.named = b == b':';
-        self
     }
 
-    // The number that was being read is over. There is room for 32.
-    pub fn with_number(mut self) -> Self {
-        let count = self.count;
-        let value = self.value;
-        if self.open {
-            if count < 32 {
-                self.bytes[count] = (value % 256) as u8;
-                self.shorts[count] = (value % 65536) as u16;
-                self.words[count] = value;
-                self.count = count + 1;
+    // The number that was being read is over.
+    pub fn close_number(&mut self) -> Result<(), AllocError> {
+        if let Some(value) = self.open {
+            if self.numbers.len() < 32 {
+                self.numbers.push(value)?;
             }
         }
-        self.open = false;
-        self.value = 0;
-        self
+        self.open = None;
+        Ok(())
     }
 
-    fn with_letter(mut self, b: u8) -> Self {
-        if self.code == 0 {
-            if b != b' ' {
-                self.code = b;
-            }
+    fn add_letter(&mut self, b: u8) {
+        if self.letter.is_none() && b != b' ' {
+            self.letter = Some(b);
         }
-        self
     }
 
-    pub fn with_byte(mut self, b: u8) -> Self {
-        if is_digit(b) {
-            self.open = true;
-            self.value = with_digit(self.value, b);
-            return self;
+    pub fn add(&mut self, b: u8) -> Result<(), AllocError> {
+        if b.is_ascii_digit() {
+            self.open = Some(with_digit(self.open.unwrap_or(0), b));
+            return Ok(());
         }
-        self.with_number().with_letter(b)
+        self.close_number()?;
+        self.add_letter(b);
+        Ok(())
+    }
+
+    // The i-th number, 0 where there is none.
+    pub fn word(&self, i: usize) -> u32 {
+        self.numbers.get(i).copied().unwrap_or(0)
+    }
+
+    // The numbers, each taken as one of a byte.
+    pub fn bytes(&self, alloc: Global) -> Result<Vec<u8>, AllocError> {
+        let mut bytes = Vec::new(alloc);
+        for n in &self.numbers {
+            bytes.push((*n % 256) as u8)?;
+        }
+        Ok(bytes)
+    }
+
+    // The numbers, each taken as one of two bytes.
+    pub fn shorts(&self, alloc: Global) -> Result<Vec<u16>, AllocError> {
+        let mut shorts = Vec::new(alloc);
+        for n in &self.numbers {
+            shorts.push((*n % 65536) as u16)?;
+        }
+        Ok(shorts)
     }
 }

@@ -9,62 +9,52 @@ mod moves;
 mod show;
 
 use case::Case;
+use std::alloc::Global;
 use std::io;
 use std::io::Write;
 
 // Answers an operation, known by its first letter, on its numbers.
-fn show_operation(
-    out: &mut impl Write,
-    code: u8,
-    s: &[u8],
-    list: &[u16],
-    words: [u32; 32],
-) -> io::Result<()> {
-    match code {
+fn answer(out: &mut impl Write, alloc: Global, case: &Case) -> io::Result<()> {
+    let numbers = case.bytes(alloc)?;
+    let s = numbers.as_slice();
+    match case.letter.unwrap_or(0) {
         b'v' => expressions::show_value(out, s),
         b'e' => expressions::show_expression(out, s),
         b'g' => expressions::show_guard(out, s),
         b'a' => expressions::show_assigned(out, s), // the updates of a label
         b'l' => expressions::show_label(out, s),
-        b'p' => expressions::show_advance(out, words[0], words[1], words[2], words[3]),
-        b'w' => moves::show_wait(out, words[0], words[1], words[2]),
-        b'j' => moves::show_joined(out, words[0], words[1]),
-        b'r' => moves::show_reset(out, words[0]),
+        b'p' => expressions::show_advance(out, case),
+        b'w' => moves::show_wait(out, case.word(0), case.word(1), case.word(2)),
+        b'j' => moves::show_joined(out, case.word(0), case.word(1)),
+        b'r' => moves::show_reset(out, case.word(0)),
         b's' => moves::show_set(out, s),
         b'm' => moves::show_maximal(out, s),
-        _ => moves::show_known(out, list),
+        _ => moves::show_known(out, case.shorts(alloc)?.as_slice()),
     }
-}
-
-// No case has more than 32 numbers.
-fn answer(out: &mut impl Write, c: Case) -> io::Result<()> {
-    let bytes = c.bytes;
-    let shorts = c.shorts;
-    let words = c.words;
-    let count = c.count;
-    if count <= 32 {
-        show_operation(out, c.code, &bytes[0..count], &shorts[0..count], words)?;
-    }
-    show::text(out, b"\n")
 }
 
 // A byte more of a case: its name is shown as it is read, and the case is answered at the end of its line.
-fn read_on(out: &mut impl Write, c: Case, b: u8) -> io::Result<Case> {
-    if !c.named {
+fn read_on(out: &mut impl Write, alloc: Global, case: &mut Case, b: u8) -> io::Result<()> {
+    if !case.named {
         show::text(out, &[b])?;
-        return Ok(c.with_name(b));
+        case.add_to_name(b);
+        return Ok(());
     }
-    if b == b'\n' {
-        answer(out, c.with_number())?;
-        return Ok(Case::new());
+    if b != b'\n' {
+        case.add(b)?;
+        return Ok(());
     }
-    Ok(c.with_byte(b))
+    case.close_number()?;
+    answer(out, alloc, case)?;
+    show::text(out, b"\n")?;
+    *case = Case::new(alloc);
+    Ok(())
 }
 
-fn answer_all(out: &mut impl Write, s: &[u8]) -> io::Result<()> {
-    let mut c = Case::new();
+fn answer_all(out: &mut impl Write, alloc: Global, s: &[u8]) -> io::Result<()> {
+    let mut case = Case::new(alloc);
     for b in s {
-        c = read_on(out, c, *b)?;
+        read_on(out, alloc, &mut case, *b)?;
     }
     Ok(())
 }
@@ -72,5 +62,5 @@ fn answer_all(out: &mut impl Write, s: &[u8]) -> io::Result<()> {
 fn main(rt: HostRuntime) -> io::Result<()> {
     let mut buffer = [0; 65536];
     let n = window::fill(&mut rt.stdin(), &mut buffer)?;
-    answer_all(&mut rt.stdout(), &buffer[..n])
+    answer_all(&mut rt.stdout(), rt.alloc(), &buffer[..n])
 }

@@ -17,10 +17,13 @@ fn first(x: u32, others: u32) -> [u32; 8] {
 // A wait from a value of the first clock, on which alone is a bound: whether the clocks stay within the limit, and
 // whether the bound is kept.
 pub fn show_wait(out: &mut impl Write, bound: u32, value: u32, ticks: u32) -> io::Result<()> {
-    let d = clock::later(1, ticks, first(value, 0));
-    let later = d.clocks;
-    truth(out, d.within)?;
-    truth(out, clock::keeps(first(bound, 4294967295), later))
+    let now = first(value, 0);
+    let later = clock::later(1, ticks, now);
+    truth(out, later.is_some())?;
+    truth(
+        out,
+        clock::keeps(first(bound, 4294967295), later.unwrap_or(now)),
+    )
 }
 
 // A bound on the first clock and none on the others, joined with the same bound on all.
@@ -50,8 +53,8 @@ fn member(s: &[u8], i: u8) -> Member {
 pub fn show_set(out: &mut impl Write, s: &[u8]) -> io::Result<()> {
     let mut m = [member(s, 0); 16];
     m[1] = member(s, 1);
-    let k = step::case_of(m, s.len() / 3, 1);
-    match k {
+    let count = (s.len() / 3).min(16);
+    match step::case_of(&m[..count], 1) {
         Case::Refused => text(out, b" refused"),
         Case::Allowed => text(out, b" allowed"),
         Case::Broadcast(channel) => {

@@ -1,21 +1,16 @@
 // Flattens the chart on standard input: writes the bytes of its network, or the number of the refusal and a line feed.
 #![tactic(auto)]
 
-use flattener::operation::Flattened;
+use flattener::operation::flatten;
 use std::io;
 use std::io::Write;
-
-fn write_refusal(out: &mut impl Write, k: u8) -> io::Result<()> {
-    writeln!(out, "{k}")
-}
 
 // Flattens a chart into a buffer of 65,536 bytes.
 fn answer(out: &mut impl Write, file: &[u8]) -> io::Result<()> {
     let mut buffer = [0; 65536];
-    let flattened = flattener::operation::flatten(file, &mut buffer);
-    match flattened {
-        Flattened::Length(length) => out.write_all(&buffer[0..length]),
-        Flattened::Refused(k) => write_refusal(out, k),
+    match flatten(file, &mut buffer) {
+        Ok(length) => out.write_all(&buffer[..length]),
+        Err(refusal) => writeln!(out, "{}", refusal.number()),
     }
 }
 

@@ -1,7 +1,7 @@
 -- Laws of tables of ascending sets: one more is put in, and another order of the same sets makes no difference.
-use mathlib.Core.Path.{◌≡◌, refl, sym, ap, ◌∙◌, subst}
+use mathlib.Core.Path.{◌≡◌, refl, sym, ap, ap₂, ◌∙◌, subst}
 use mathlib.Core.Bool.{Bool, true, false, cond}
-use mathlib.Core.Logic.{◌⊎◌, inl, inr, ⊎_elim}
+use mathlib.Core.Logic.{inr, ⊎_elim}
 use mathlib.Core.List.Memᴰ.{head as here}
 use mathlib.Core.List.Memᴰ.{tail as there}
 use mathlib.Core.List.{List, [], ◌∷◌, ◌++◌, map, append_assoc, map-append, Memᴰ as Mem}
@@ -12,18 +12,24 @@ use mathlib.Core.List.Memᴰ.{append_cases}
 use mathlib.Core.List.Memᴰ.{eq_of_singleton}
 use Prim.Native.Nat.{ℕ, zero, suc, ◌+◌, ◌-◌, ◌*◌, ◌^◌, ◌%◌, ◌≤◌, ◌<◌, min}
 use native.Mathlib.Omega.{arith}
-use native.Mathlib.Decide.{ℕ_discrete, dec_lt}
+use native.Mathlib.Decide.{dec_lt}
 use native.Mathlib.Nat.{min-eq_left, min-eq_right, one-mul, mod-eq_of_lt}
 use native.Mathlib.Numerals.{add-one}
-use borrow.Author.Tests.{eqb-true, eq-eqb, ne_eqb, lt-ltb, le-ltb}
-use lib.ListN.{length, get_or, set, take, drop, take-append-drop, length-append, length-set, length-map}
+use borrow.Author.Tests.{eqb-true, ne_eqb, lt-ltb, le-ltb}
+use lib.ListN.{length, get_or, set, take, drop, length-append, length-drop, length-set, length-map}
 use lib.Bits.{bit_or}
-use lib.Seq.{take-suc, take-suc-set, take-set-lt, drop-set-lt, take-take, get_or-take, length-take-le, take_all}
+use lib.Seq.{take-suc, take-set-lt, set-append_seam, take-take, length-take-le, take_all}
+use Rattle.std.proofs.Common.{Ok, Err}
+use Rattle.std.specs.List.{copy_within}
+use Rattle.std.specs.List.Sorted.{IsBinarySearchResult}
+use Rattle.std.specs.Ordering.{nat_cmp}
+use Rattle.std.proofs.lemmas.List.Sorted.{searched}
+use Rattle.std.proofs.lemmas.List.Edits.{take-paste, length-paste}
+use Rattle.std.proofs.lemmas.List.{drop-take}
 use Rattle.lists.specs.Lists.{has, ascending}
 use Rattle.lists.proofs.Ascending.{ascending_tail, ascending_above, ascending_once, ascending_same}
 use Rattle.lists.proofs.Lists.{get_d_mem}
 use Rattle.lists.proofs.Within.{Within, within_both, within_map}
-use Rattle.lists.proofs.Parts.{taken_next, taken_end}
 use Rattle.lists.proofs.Once.{within_length}
 use Rattle.lists.proofs.Pairwise.{map_once}
 use Rattle.lists.proofs.Bits.{has_one, has_low_lt}
@@ -31,12 +37,8 @@ use Rattle.flattening.specs.Flatten.{insert, sorted}
 use Rattle.flattening.proofs.Sums.{insert_by, sorted_by, sorted_at, sorted_ascending}
 use Rattle.flatten_alternatives.specs.Choosing.{Kept}
 
--- one element inserted, by its order to the first
+-- one element inserted where it is not the first, by its order to that
 module _ (x y : ℕ) (ys : List ℕ) where
-  insert_equal : x ≡ y → insert x (y ∷ ys) ≡ y ∷ ys
-  unfolding insert
-  insert_equal e = rw (eq-eqb x y e, insert)
-
   insert_less : x < y → insert x (y ∷ ys) ≡ x ∷ y ∷ ys
   unfolding insert
   insert_less h = rw (ne_eqb x y (λ e. omega arith), insert) (rw (lt-ltb x y h))
@@ -45,30 +47,22 @@ module _ (x y : ℕ) (ys : List ℕ) where
   unfolding insert
   insert_more h = rw (ne_eqb x y (λ e. omega arith), insert) (rw (le-ltb x y (omega arith)))
 
-insert_first : (y : ℕ) (ys : List ℕ) → ascending (y ∷ ys) ≡ true → insert y ys ≡ y ∷ ys
+-- between what is smaller and what is larger
+insert_at : (x : ℕ) (l : List ℕ) (i : ℕ) → i ≤ length l → ((k : ℕ) → k < i → get_or l k 0 < x) → ((k : ℕ) → i ≤ k → k < length l → x < get_or l k 0) → insert x l ≡ take i l ++ (x ∷ drop i l)
 unfolding insert
-insert_first y [] h = refl
-insert_first y (z ∷ zs) h = insert_less y z zs (ascending_above y (z ∷ zs) h (get_d_mem (z ∷ zs) 0 0 (omega arith)))
+insert_at x [] zero h f g = refl
+insert_at x (y ∷ ys) zero h f g = insert_less x y ys (g 0 (omega arith) (omega arith))
+insert_at x [] (suc i) h f g = absurd (omega arith)
+insert_at x (y ∷ ys) (suc i) h f g =
+    insert_more x y ys (f 0 (omega arith)) ∙ ap (λ (r : List ℕ). y ∷ r) (insert_at x ys i (omega arith) (λ k l. f (suc k) (omega arith)) (λ k l m. g (suc k) (omega arith) (omega arith)))
 
--- past a place before which all are smaller
-insert_place : (x : ℕ) (l : List ℕ) (i : ℕ) → ascending l ≡ true → i ≤ length l → (i ≡ 0) ⊎ (get_or l (i - 1) 0 < x) → insert x l ≡ take i l ++ insert x (drop i l)
-insert_place x l zero h k p = refl
-insert_place x [] (suc i) h k p = absurd (omega arith)
-insert_place x (y ∷ ys) (suc i) h k p =
-    insert_more x y ys (elim (ℕ_discrete i 0) [
-      | yes e ↦ subst (λ (j : ℕ). get_or (y ∷ ys) j 0 < x) e less
-      | no d ↦ let m = ascending_above y ys h (get_d_mem ys (i - 1) 0 (omega arith)) in omega (arith, m, before d)
-    ]) ∙ ap (λ (r : List ℕ). y ∷ r) (insert_place x ys i (ascending_tail y ys h) (omega arith) (elim (ℕ_discrete i 0) [ yes e ↦ inl e | no d ↦ inr (before d) ]))
-  where
-    less : get_or (y ∷ ys) i 0 < x
-    less = ⊎_elim (λ e. absurd (omega arith)) (λ q. subst (λ (j : ℕ). get_or (y ∷ ys) j 0 < x) (let z : suc i - 1 ≡ i = omega arith in z) q) p
-
-    before : (i ≡ 0 → ⊥) → get_or ys (i - 1) 0 < x
-    before d = subst (λ (j : ℕ). get_or (y ∷ ys) j 0 < x) (let z : i ≡ suc (i - 1) = omega arith in z) less
-
--- the element before the next place
-pub before_next : (l : List ℕ) (k x : ℕ) → get_or l k 0 < x → get_or l (k + 1 - 1) 0 < x
-before_next l k x h = subst (λ (j : ℕ). get_or l j 0 < x) (let z : k ≡ k + 1 - 1 = omega arith in z) h
+-- ascending numbers rise
+rising : (l : List ℕ) → ascending l ≡ true → (i j : ℕ) → i ≤ j → j < length l → get_or l i 0 ≤ get_or l j 0
+rising [] h i j p q = absurd (omega arith)
+rising (x ∷ xs) h zero zero p q = omega arith
+rising (x ∷ xs) h zero (suc j) p q = omega (arith, ascending_above x xs h (get_d_mem xs j 0 (omega arith)))
+rising (x ∷ xs) h (suc i) zero p q = absurd (omega arith)
+rising (x ∷ xs) h (suc i) (suc j) p q = rising xs (ascending_tail x xs h) i j (omega arith) (omega arith)
 
 -- lists with the same elements are sorted alike, and one with more is no shorter
 pub sorted_same : (xs ys : List ℕ) → Within xs ys → Within ys xs → sorted xs ≡ sorted ys
@@ -102,94 +96,71 @@ pub kept_none : (items : List ℕ) → length items ≡ 1024 → Kept items 0 []
 unfolding sorted
 kept_none items n = record { long = n; counted = refl; stand = λ h. refl }
 
--- a value on its way up through a table, to the place i
-pub record Walking (x : ℕ) (l items : List ℕ) (count i value : ℕ) : Type 0 where
-  pub long : length items ≡ 1024
-  pub so_far : insert x l ≡ take i items ++ insert value (drop i (take count items))
-  pub order : ascending (drop i (take count items)) ≡ true
-
-ascending_drop : (i : ℕ) (l : List ℕ) → ascending l ≡ true → ascending (drop i l) ≡ true
-ascending_drop zero l h = h
-ascending_drop (suc i) [] h = h
-ascending_drop (suc i) (x ∷ xs) h = ascending_drop i xs (ascending_tail x xs h)
-
-module _ (x : ℕ) (items : List ℕ) (count : ℕ) (room : count ≤ 1024) where
-  pub walking_first : (xs : List ℕ) (i : ℕ) → Kept items count xs → i ≤ count → (i ≡ 0) ⊎ (get_or items (i - 1) 0 < x) → Walking x (sorted xs) items count i x
-  walking_first xs i k h p =
-      let t = kept_at k room in
-      let at_place : (i ≡ 0) ⊎ (get_or (sorted xs) (i - 1) 0 < x) = elim (ℕ_discrete i 0) [
-        | yes e ↦ inl e
-        | no d ↦ ⊎_elim (λ e. inl e) (λ q. inr (subst (λ (n : ℕ). n < x) (sym (get_or-take count items (i - 1) 0 (omega arith)) ∙ ap (λ (l : List ℕ). get_or l (i - 1) 0) t.1) q)) p
-      ] in
-      record {
-        long = k.long;
-        so_far = insert_place x (sorted xs) i (sorted_ascending xs) (omega (arith, t.0)) at_place
-            ∙ ap (λ (l : List ℕ). take i l ++ insert x (drop i l)) (sym t.1) ∙ ap (λ (l : List ℕ). l ++ insert x (drop i (take count items))) (take-take i count items h);
-        order = ascending_drop i (take count items) (subst (λ (l : List ℕ). ascending l ≡ true) (sym t.1) (sorted_ascending xs));
-      }
-
-  module _ (l : List ℕ) (i value : ℕ) (w : Walking x l items count i value) where
-    next : i < count → drop i (take count items) ≡ get_or items i 0 ∷ drop (i + 1) (take count items)
-    next h = taken_next items count (omega (arith, w.long)) i 0 h
-
-    order_next : i < count → ascending (get_or items i 0 ∷ drop (i + 1) (take count items)) ≡ true
-    order_next h = subst (λ (l : List ℕ). ascending l ≡ true) (next h) w.order
-
-    pub walking_equal : i < count → value ≡ get_or items i 0 → insert x l ≡ take count items
-    walking_equal h e =
-        w.so_far ∙ ap (λ (r : List ℕ). take i items ++ insert value r) (next h) ∙ ap (λ (r : List ℕ). take i items ++ r) (insert_equal value _ _ e ∙ sym (next h))
-        ∙ ap (λ (r : List ℕ). r ++ drop i (take count items)) (sym (take-take i count items (omega arith))) ∙ take-append-drop i (take count items)
-
-    pub walking_pass : i < count → get_or items i 0 < value → Walking x l items count (i + 1) value
-    walking_pass h less =
-        let taken : take (i + 1) items ≡ take i items ++ (get_or items i 0 ∷ []) = rw add-one (take-suc items i 0 (omega (arith, w.long))) in
-        record {
-          long = w.long;
-          so_far = w.so_far ∙ ap (λ (r : List ℕ). take i items ++ insert value r) (next h) ∙ ap (λ (r : List ℕ). take i items ++ r) (insert_more value _ _ less)
-              ∙ sym (append_assoc (take i items) (get_or items i 0 ∷ []) _) ∙ ap (λ (r : List ℕ). r ++ insert value (drop (i + 1) (take count items))) (sym taken);
-          order = ascending_tail _ _ (order_next h);
-        }
-
-    pub walking_swap : i < count → value < get_or items i 0 → Walking x l (set items i value) count (i + 1) (get_or items i 0)
-    walking_swap h less =
-        let taken : take (i + 1) (set items i value) ≡ take i items ++ (value ∷ []) = rw add-one (take-suc-set items i value (omega (arith, w.long))) in
-        let rest : drop (i + 1) (take count (set items i value)) ≡ drop (i + 1) (take count items) = ap (drop (i + 1)) (take-set-lt count items i value h) ∙ drop-set-lt (i + 1) (take count items) i value (omega arith) in
-        record {
-          long = length-set items i value ∙ w.long;
-          so_far = w.so_far ∙ ap (λ (r : List ℕ). take i items ++ insert value r) (next h) ∙ ap (λ (r : List ℕ). take i items ++ r) (insert_less value _ _ less ∙ ap (λ (r : List ℕ). value ∷ r) (sym (insert_first _ _ (order_next h))))
-              ∙ sym (append_assoc (take i items) (value ∷ []) _) ∙ ap (λ (r : List ℕ). r ++ insert (get_or items i 0) (drop (i + 1) (take count items))) (sym taken)
-              ∙ ap (λ (r : List ℕ). take (i + 1) (set items i value) ++ insert (get_or items i 0) r) (sym rest);
-          order = subst (λ (l : List ℕ). ascending l ≡ true) (sym rest) (ascending_tail _ _ (order_next h));
-        }
-
-    pub walking_end : i ≤ count → count ≤ i → insert x l ≡ take count items ++ (value ∷ [])
-    unfolding insert
-    walking_end h k = w.so_far ∙ ap (λ (r : List ℕ). take i items ++ insert value r) (taken_end items count (omega (arith, w.long)) i k) ∙ ap (λ (n : ℕ). take n items ++ (value ∷ [])) (let z : i ≡ count = omega arith in z)
-
 insert_within : (x : ℕ) (xs : List ℕ) → length (sorted xs) ≤ length (sorted (x ∷ xs))
 unfolding sorted
 insert_within x xs = within_length (sorted xs) (insert x (sorted xs)) (ascending_once _ (sorted_ascending xs)) (λ z m. insert_by x (sorted xs) (inr m))
 
--- the table with one more, by the way that the walk ends
+-- the table with one more, by what a search for it answers
 module _ (x : ℕ) (xs items : List ℕ) (count : ℕ) where
   pub kept_still : Kept items count xs → 1024 < count → Kept items count (x ∷ xs)
   kept_still k h = let o = kept_over k h in kept_many k.long o.0 (omega (arith, o.1, insert_within x xs))
 
-  module _ (room : count ≤ 1024) (i value : ℕ) (w : Walking x (sorted xs) items count i value) where
-    pub kept_equal : i < count → value ≡ get_or items i 0 → Kept items count (x ∷ xs)
-    unfolding sorted
-    kept_equal h q = let e = walking_equal x items count room (sorted xs) i value w h q in kept_few w.long (sym (length-take-le count items (omega (arith, w.long))) ∙ ap length (sym e)) room (sym e)
+  -- a search for x answers where it stands, or where it would
+  module _ (room : count ≤ 1024) (k : Kept items count xs) (i : ℕ) where
+    stand : take count items ≡ sorted xs
+    stand = (kept_at k room).1
 
-    ended : i ≤ count → count ≤ i → length (insert x (sorted xs)) ≡ count + 1
-    ended h k = ap length (walking_end x items count room (sorted xs) i value w h k) ∙ (let z : length (take count items ++ (value ∷ [])) ≡ count + 1 = omega (arith, length-append (take count items) (value ∷ []), length-take-le count items (omega (arith, w.long))) in z)
+    rise : (i j : ℕ) → i ≤ j → j < length (take count items) → get_or (take count items) i 0 ≤ get_or (take count items) j 0
+    rise = rising (take count items) (subst (λ (l : List ℕ). ascending l ≡ true) (sym stand) (sorted_ascending xs))
 
-    pub kept_full : i ≤ count → count ≤ i → count ≡ 1024 → Kept items 1025 (x ∷ xs)
-    unfolding sorted
-    kept_full h k f = kept_many w.long refl (omega (arith, ended h k))
+    pub kept_found : IsBinarySearchResult (λ y. nat_cmp y x) (take count items) (Ok i) → Kept items count (x ∷ xs)
+    kept_found f =
+        let s = searched (take count items) x (Ok i) f rise in
+        let m : Mem x xs = sorted_at xs (subst (λ (l : List ℕ). Mem x l) stand (subst (λ (y : ℕ). Mem y (take count items)) s.1 (get_d_mem (take count items) i 0 s.0))) in
+        kept_same (x ∷ xs) k (λ z n. there n) (λ z n. ⊎_elim (λ e. subst (λ (y : ℕ). Mem y xs) (sym e) m) (λ n. n) (cases_cons n))
 
-    pub kept_more : i ≤ count → count ≤ i → (count ≡ 1024 → ⊥) → Kept (set items count value) (count + 1) (x ∷ xs)
-    unfolding sorted
-    kept_more h k f = kept_few (length-set items count value ∙ w.long) (sym (ended h k)) (omega arith) (rw add-one (take-suc-set items count value (omega (arith, w.long))) ∙ sym (walking_end x items count room (sorted xs) i value w h k))
+    module _ (f : IsBinarySearchResult (λ y. nat_cmp y x) (take count items) (Err i)) where
+      fits : i ≤ length (take count items)
+      fits = (searched (take count items) x (Err i) f rise).0
+
+      inserted : sorted (x ∷ xs) ≡ take i (take count items) ++ (x ∷ drop i (take count items))
+      unfolding sorted
+      inserted = let s = searched (take count items) x (Err i) f rise in ap (insert x) (sym stand) ∙ insert_at x (take count items) i s.0 s.1 s.2
+
+      longer : length (sorted (x ∷ xs)) ≡ count + 1
+      longer = ap length inserted ∙ omega (arith, fits, length-append (take i (take count items)) (x ∷ drop i (take count items)), length-take-le i (take count items) fits, length-drop i (take count items), length-take-le count items (omega (arith, k.long)))
+
+      pub kept_full : count ≡ 1024 → Kept items 1025 (x ∷ xs)
+      kept_full e = kept_many k.long refl (omega (arith, longer))
+
+      module _ (h : count ≡ 1024 → ⊥) {moved : List ℕ} (e : moved ≡ copy_within items i count (i + 1)) where
+        few : i ≤ count
+        few = omega (arith, fits, length-take-le count items (omega (arith, k.long)))
+
+        front : take (i + 1) items ≡ take i (take count items) ++ (get_or items i 0 ∷ [])
+        front = rw (add-one, take-suc items i 0 (omega (arith, few, h, k.long))) (ap (λ (l : List ℕ). l ++ (get_or items i 0 ∷ [])) (sym (take-take i count items few)))
+
+        back : take (count - i) (drop i items) ≡ drop i (take count items)
+        back = sym (drop-take i (count - i) items) ∙ ap (λ (n : ℕ). drop i (take n items)) (let z : i + (count - i) ≡ count = omega (arith, few) in z)
+
+        moved_up : take (count + 1) moved ≡ take i (take count items) ++ (get_or items i 0 ∷ drop i (take count items))
+        moved_up =
+            ap (λ (n : ℕ). take n moved) (let z : count + 1 ≡ i + 1 + (count - i) = omega (arith, few) in z)
+            ∙ ap (take (i + 1 + (count - i))) e
+            ∙ take-paste items (i + 1) (drop i items) (count - i) (omega (arith, few, h, k.long)) (omega (arith, length-drop i items, k.long))
+            ∙ ap₂ ◌++◌ front back
+            ∙ append_assoc (take i (take count items)) (get_or items i 0 ∷ []) (drop i (take count items))
+
+        pub kept_more : Kept (set moved i x) (count + 1) (x ∷ xs)
+        kept_more = kept_few
+            (length-set moved i x ∙ ap length e ∙ length-paste items (i + 1) (drop i items) (count - i) (omega (arith, few, h, k.long)) (omega (arith, length-drop i items, k.long)) ∙ k.long)
+            (sym longer)
+            (omega arith)
+            (take-set-lt (count + 1) moved i x (omega (arith, few))
+            ∙ ap (λ (l : List ℕ). set l i x) moved_up
+            ∙ ap (λ (n : ℕ). set (take i (take count items) ++ (get_or items i 0 ∷ drop i (take count items))) n x) (sym (length-take-le i (take count items) fits))
+            ∙ set-append_seam (take i (take count items)) (get_or items i 0) (drop i (take count items)) x
+            ∙ sym inserted)
 
 -- an element in front, and at the end of the first part
 module _ (ps qs : List ℕ) where
@@ -219,19 +190,19 @@ module _ (from : List ℕ) (size set : ℕ) (xs ys : List ℕ) (source : Kept fr
   ))
 
   module _ (room : size ≤ 1024) (apart : (x : ℕ) → Mem x xs → bit_or x set ≡ x + set) where
-    pub each_next : (to : List ℕ) (total i : ℕ) → i < size → Kept to total (bit_or (get_or from i 0) set ∷ joined_to i) → Kept to total (joined_to (i + 1))
+    pub each_next : (to : List ℕ) (total i : ℕ) → i < length (take size from) → Kept to total (bit_or (get_or (take size from) i 0) set ∷ joined_to i) → Kept to total (joined_to (i + 1))
     each_next to total i h k =
         let t = kept_at source room in
         let w : ℕ = get_or (sorted xs) i 0 + set in
-        let is : get_or from i 0 ≡ get_or (sorted xs) i 0 = sym (get_or-take size from i 0 h) ∙ ap (λ (l : List ℕ). get_or l i 0) t.1 in
-        let one : bit_or (get_or from i 0) set ≡ w = ap (λ (x : ℕ). bit_or x set) is ∙ apart _ (sorted_at xs (get_d_mem (sorted xs) i 0 (omega (arith, t.0)))) in
-        let more : shifted (take (i + 1) (sorted xs)) ≡ shifted (take i (sorted xs)) ++ (w ∷ []) = rw (add-one, take-suc (sorted xs) i 0 (omega (arith, t.0)), map-append (λ x. x + set) (take i (sorted xs)) (get_or (sorted xs) i 0 ∷ [])) in
+        let l : i < length (sorted xs) = subst (λ (l : List ℕ). i < length l) t.1 h in
+        let one : bit_or (get_or (take size from) i 0) set ≡ w = ap (λ (l : List ℕ). bit_or (get_or l i 0) set) t.1 ∙ apart _ (sorted_at xs (get_d_mem (sorted xs) i 0 l)) in
+        let more : shifted (take (i + 1) (sorted xs)) ≡ shifted (take i (sorted xs)) ++ (w ∷ []) = rw (add-one, take-suc (sorted xs) i 0 l, map-append (λ x. x + set) (take i (sorted xs)) (get_or (sorted xs) i 0 ∷ [])) in
         subst (λ (l : List ℕ). Kept to total (l ++ ys)) (sym more) (kept_same _ (subst (λ (v : ℕ). Kept to total (v ∷ joined_to i)) one k)
         (to_end (shifted (take i (sorted xs))) ys w) (from_end (shifted (take i (sorted xs))) ys w))
 
-  pub each_last : (to : List ℕ) (total i : ℕ) → size ≤ 1024 → size ≤ i → Kept to total (joined_to i) → Kept to total (map (λ x. x + set) xs ++ ys)
+  pub each_last : (to : List ℕ) (total i : ℕ) → size ≤ 1024 → length (take size from) ≤ i → Kept to total (joined_to i) → Kept to total (map (λ x. x + set) xs ++ ys)
   each_last to total i room h k =
-      let all : take i (sorted xs) ≡ sorted xs = take_all i (sorted xs) (omega (arith, (kept_at source room).0)) in
+      let all : take i (sorted xs) ≡ sorted xs = take_all i (sorted xs) (subst (λ (l : List ℕ). length l ≤ i) (kept_at source room).1 h) in
       let half : (ps qs : List ℕ) → Within ps qs → Within (shifted ps ++ ys) (shifted qs ++ ys) =
       λ ps qs f. within_both (shifted ps) ys (shifted qs ++ ys) (λ z m. append_left ys (within_map (λ x. x + set) ps qs f z m)) (λ z m. append_right (shifted qs) m) in
       kept_same _ (subst (λ (l : List ℕ). Kept to total (shifted l ++ ys)) all k) (half (sorted xs) xs (λ z. sorted_at xs)) (half xs (sorted xs) (λ z. sorted_by xs))

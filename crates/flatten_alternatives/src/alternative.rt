@@ -23,11 +23,8 @@ fn with_each(from: &[u16; 1024], size: usize, set: u16, to: &mut [u16; 1024], co
         return 1025;
     }
     let mut total = count;
-    let mut i = 0;
-    while i < size {
-        let x = from[i];
-        total = with_number(to, total, x | set);
-        i += 1;
+    for x in &from[..size] {
+        total = with_number(to, total, *x | set);
     }
     total
 }
@@ -114,14 +111,12 @@ fn choose_sequential(
 {
     let own = set_of(numbers, s);
     let mut total = count;
-    let mut x = s + 1;
-    while x < Tree::STATES {
+    for x in s + 1..Tree::STATES {
         if is_child(parents, s, x) {
             total = choose(
                 parents, kinds, exits, numbers, exit, x, own, from, size, to, total,
             );
         }
-        x += 1;
     }
     total
 }
@@ -145,8 +140,7 @@ fn choose_parallel(
 {
     let mut joined = *from;
     let mut made = size;
-    let mut x = s + 1;
-    while x < Tree::STATES {
+    for x in s + 1..Tree::STATES {
         if is_child(parents, s, x) {
             let mut next = [0; 1024];
             made = choose(
@@ -154,7 +148,6 @@ fn choose_parallel(
             );
             joined = next;
         }
-        x += 1;
     }
     with_each(&joined, made, 0, to, count)
 }
@@ -192,9 +185,13 @@ pub fn alternatives(
 ) -> usize
     ensures { Lists tree fixed automata m exit items.old items.new result }
 {
-    let parents = tree.parents;
-    let kinds = fixed.kinds;
-    let exits = fixed.exits;
-    let numbers = automata.numbers;
-    chosen(&parents, &kinds, &exits, &numbers, exit, m as usize, items)
+    chosen(
+        &tree.parents,
+        &fixed.kinds,
+        &fixed.exits,
+        &automata.numbers,
+        exit,
+        m as usize,
+        items,
+    )
 }

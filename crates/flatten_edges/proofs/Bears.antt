@@ -10,7 +10,7 @@ use borrow.Author.Tests.{eq-eqb, ne_eqb, lt-ltb}
 use lib.Bits as Words
 use lib.Dec.{eqb, ltb}
 use lib.ListN.{length, get_or, set, take, replicate, length-map, length-set, length-replicate}
-use lib.Seq.{get_or-take, get_or-set_same, get_or-set_other}
+use lib.Seq.{get_or-set_same, get_or-set_other}
 use Rattle.lists.specs.Lists.{has, concat}
 use Rattle.labels.specs.Label.{Label}
 use Rattle.lists.proofs.Bools.{clash, not_yes, cond_yes, cond_no}
@@ -84,19 +84,17 @@ module _ (c : Chart) (p q : Place) (l : Label) (xs : List ℕ) (e : Ends) (s : S
         d ∙ ap (Words.bit_and tested) B.off_is ∙ needed_bits c exit tested small B.automata_few ∙ ap (λ (w : ℕ). on_values c w tested) (sym e) ∙ sym (cond_no 0 _ (ne_eqb by 255 (λ w. omega (arith, B.exit_known, e))))
   ]
 
-  pub set_more : (k tested by needed : ℕ) {h : Head} {b g j : List ℕ} {n m i : ℕ} → Adds b n g m (concat (set_edge c p q l transition exit) (take k xs)) → k < size → tested ≡ get_or sets k 0 → by ≡ exit_tested tested exit → needed ≡ Words.bit_and tested off
+  pub set_more : (k tested by needed : ℕ) {h : Head} {b g j : List ℕ} {n m i : ℕ} → Adds b n g m (concat (set_edge c p q l transition exit) (take k xs)) → k < length xs → tested ≡ get_or xs k 0 → by ≡ exit_tested tested exit → needed ≡ Words.bit_and tested off
       → ((c : Chart) (p q : Place) (l : Label) → Joins c p q e → Signalled l s → needed ≡ cond (eqb by 255) 0 (on_values c by tested) → h ≡ head_of (edge c p q transition by tested l))
       → ((e : Edge) → h ≡ head_of e → Adds g m j i (e ∷ [])) → Adds b n j i (concat (set_edge c p q l transition exit) (take (k + 1) xs))
-  set_more k tested by needed {g = g} {j = j} {m = m} {i = i} W z t y d H A =
-      let known : k < length xs = omega (arith, B.counted) in
-      let x : tested ≡ get_or xs k 0 = t ∙ sym (get_or-take size sets k 0 z) ∙ ap (λ (y : List ℕ). get_or y k 0) B.stand in
+  set_more k tested by needed {g = g} {j = j} {m = m} {i = i} W known x y d H A =
       let small : tested < 2 ^ length (sequentials c) = subst (λ (y : ℕ). y < 2 ^ length (sequentials c)) (sym x) (B.small _ (get_d_mem xs k 0 known)) in
       let value = needed_is tested by needed y d small in
       walk_more (set_edge c p q l transition exit) xs k 0 W known (subst (λ (w : ℕ). Adds g m j i (set_edge c p q l transition exit w)) x
       (A _ (H c p q l B.joins B.signals value ∙ ap (λ (w : ℕ). head_of (edge c p q transition w tested l)) y)))
 
-  pub set_all : (k : ℕ) {b g : List ℕ} {n m : ℕ} → Adds b n g m (concat (set_edge c p q l transition exit) (take k xs)) → size ≤ k → Adds b n g m (map (λ x. edge c p q transition (exit_tested x exit) x l) xs)
-  set_all k {b} {g} {n} {m} W z = subst (Adds b n g m) (map_ones (λ x. edge c p q transition (exit_tested x exit) x l) xs) (walk_all (set_edge c p q l transition exit) xs k W (omega (arith, B.counted)))
+  pub set_all : (k : ℕ) {b g : List ℕ} {n m : ℕ} → Adds b n g m (concat (set_edge c p q l transition exit) (take k xs)) → length xs ≤ k → Adds b n g m (map (λ x. edge c p q transition (exit_tested x exit) x l) xs)
+  set_all k {b} {g} {n} {m} W z = subst (Adds b n g m) (map_ones (λ x. edge c p q transition (exit_tested x exit) x l) xs) (walk_all (set_edge c p q l transition exit) xs k W z)
 
 module _ (c : Chart) (t : Tables) (exits homes : List ℕ) (T : Tabulated c t) (S : Spread c exits homes) (counts : Counts) (rest offsets : List ℕ) (L : Laid rest counts offsets c)
     (u : ℕ) (h : u < length c.transitions) (home : ℕ) (o : (transition_at c u).source ≡ home) (i j : ℕ) (q : Place) (f : i ≡ number c (child home)) (g : j ≡ number c q) (m : Mem q (all_places c)) {e : Ends} {s : Signals}

@@ -1,11 +1,14 @@
--- Laws of gathered edges: bytes copied to a place, one more edge, and no more room for one.
+-- Laws of gathered edges: one more edge, and no more room for one.
 use mathlib.Core.Path.{◌≡◌, refl, sym, ap, ap₂, ◌∙◌, subst}
 use mathlib.Core.List.{List, [], ◌∷◌, ◌++◌, append_assoc, append-nil}
-use Prim.Native.Nat.{ℕ, suc, ◌+◌, ◌*◌, ◌≤◌, ◌<◌}
+use Prim.Native.Nat.{ℕ, ◌+◌, ◌*◌, ◌≤◌, ◌<◌}
 use native.Mathlib.Omega.{arith}
 use native.Mathlib.Numerals.{add-one}
-use lib.ListN.{length, get_or, take, drop, set, length-set, length-append, take-append-drop}
-use lib.Seq.{take_all, take-suc, take-suc-set}
+use borrow.Author.Rules.{rules}
+use borrow.Rule.Slice.PartMut.{put_mid}
+use Rattle.std.proofs.lemmas.Slice.{take-put_mid, overwrites}
+use lib.ListN.{length, get_or, take, drop, length-append, take-append-drop}
+use lib.Seq.{take_all, take-suc}
 use Rattle.lists.specs.Lists.{concat}
 use Rattle.lists.proofs.Concat.{concat_append, concat_single}
 use Rattle.network_records.specs.Network.{Edge}
@@ -13,28 +16,6 @@ use Rattle.flattening.specs.File.{out2}
 use Rattle.flatten_edges.specs.declared.head.Head.{Head}
 use Rattle.flatten_edges.specs.Gathering.{head_of, head_bytes, Gathered}
 use Rattle.flatten_edges.specs.Adding.{Adds}
-
--- l is s with the first k of the bytes written from a place on; past them nothing is said
-pub record Copied (s l : List ℕ) (at : ℕ) (bytes : List ℕ) (k : ℕ) : Type 0 where
-  pub long : length l ≡ length s
-  pub done : take (at + k) l ≡ take at s ++ take k bytes
-
-module _ (s : List ℕ) (at : ℕ) (bytes : List ℕ) where
-  pub copied_none : Copied s s at bytes 0
-  copied_none = record { long = refl; done = ap (λ (n : ℕ). take n s) (let z : at + 0 ≡ at = omega arith in z) ∙ sym (append-nil (take at s)) }
-
-  pub copied_more : (l : List ℕ) (k v : ℕ) → Copied s l at bytes k → k < length bytes → at + k < length s → v ≡ get_or bytes k 0 → Copied s (set l (at + k) v) at bytes (k + 1)
-  copied_more l k v C h i e = record {
-    long = length-set l (at + k) v ∙ C.long;
-    done = ap (λ (n : ℕ). take n (set l (at + k) v)) (let z : at + (k + 1) ≡ suc (at + k) = omega arith in z)
-        ∙ take-suc-set l (at + k) v (omega (arith, C.long))
-        ∙ ap (λ (x : List ℕ). x ++ (v ∷ [])) C.done
-        ∙ append_assoc (take at s) (take k bytes) (v ∷ [])
-        ∙ ap (λ (x : List ℕ). take at s ++ x) (ap (λ (x : ℕ). take k bytes ++ (x ∷ [])) e ∙ sym (take-suc bytes k 0 h) ∙ ap (λ (n : ℕ). take n bytes) (sym (add-one k)));
-  }
-
-  pub copied_all : (l : List ℕ) (k : ℕ) → Copied s l at bytes k → k ≡ length bytes → take (at + length bytes) l ≡ take at s ++ bytes
-  copied_all l k C e = ap (λ (n : ℕ). take (at + n) l) (sym e) ∙ C.done ∙ ap (λ (x : List ℕ). take at s ++ x) (take_all k bytes (omega arith))
 
 pub length_head : (h : Head) → length (head_bytes h) ≡ 13
 unfolding head_bytes out2
@@ -68,12 +49,15 @@ adds_then {k = k} {j = j} {xs = xs} {ys = ys} A B = record {
   after = λ h es G. subst (λ (x : List Edge). Gathered k j x) (append_assoc es xs ys) (B.after (A.long h) (es ++ xs) (A.after h es G));
 }
 
--- one edge added, by its bytes
-pub adds_one : (s l : List ℕ) (n k : ℕ) (h : Head) (bytes : List ℕ) (e : Edge) → bytes ≡ head_bytes h → n < 1024 → 13 ≤ k → k ≤ 13 → (length s ≡ 13312 → Copied s l (13 * n) bytes k) → h ≡ head_of e → Adds s n l (n + 1) (e ∷ [])
-adds_one s l n k h bytes e b few a z C same = record {
-  long = λ i. (C i).long ∙ i;
-  after = λ i es G. gathered_more s l n h es e G few same (subst (λ (x : List ℕ). take (13 * n + length x) l ≡ take (13 * n) s ++ x) b (copied_all s (13 * n) bytes l k (C i) (omega (arith, ap length b, length_head h))));
-}
+-- one edge added, its k bytes written over those after the others
+pub adds_one : (s : List ℕ) (n k : ℕ) (h : Head) (bytes : List ℕ) (e : Edge) → bytes ≡ head_bytes h → n < 1024 → k ≡ 13 → h ≡ head_of e → Adds s n (put_mid (13 * n) k s bytes) (n + 1) (e ∷ [])
+adds_one s n k h bytes e b few z same =
+    let size : length bytes ≡ 13 = ap length b ∙ length_head h in
+    record {
+      long = λ i. let fits : 13 * n + k ≤ length s = omega arith in let l : length (put_mid (13 * n) k s bytes) ≡ length s = search (rules, overwrites) in l ∙ i;
+      after = λ i es G. gathered_more s _ n h es e G few same
+          (take-put_mid (13 * n) k s bytes (13 * n + length (head_bytes h)) (ap (λ (x : List ℕ). 13 * n + length x) (sym b)) (omega arith) ∙ ap (λ (x : List ℕ). take (13 * n) s ++ x) b);
+    }
 
 pub adds_full : (s : List ℕ) (n : ℕ) (e : Edge) → 1024 ≤ n → Adds s n s 1025 (e ∷ [])
 adds_full s n e full = record { long = λ i. i; after = λ i es G. gathered_full s s n es e G full }

@@ -6,7 +6,7 @@ use mathlib.Core.List.{List, [], ◌∷◌, map}
 use Prim.Native.Nat.{ℕ, ◌+◌, ◌≤◌, ◌<◌}
 use native.Mathlib.Omega.{arith}
 use native.Mathlib.Decide.{ℕ_discrete}
-use borrow.Author.Tests.{eqb-true, eq-eqb}
+use borrow.Author.Tests.{eqb-true, eq-eqb, ne_eqb}
 use lib.Dec.{eqb}
 use lib.ListN.{length, get_or, take, drop, drop_of_length-le}
 use Rattle.lists.specs.Lists.{has, concat, position}
@@ -91,6 +91,12 @@ module _ (c : Chart) (parents entries : List ℕ) (E : Entering c parents entrie
     where
       lower : (p : ℕ) → under c d p ≡ true → under c p x ≡ true → d ≤ p
       lower p v w = under_le c tree d p (omega (arith, under_le c tree p x h w)) v
+
+  pub enter_end_yes : (x : ℕ) {m : ℕ} {b : Bool} → x < size c → x ≤ d → x ≡ d → m ≡ get_or entries x 0 → b ≡ has m e → b ≡ entered c d e x
+  enter_end_yes x h l y f g = g ∙ ap (λ (i : ℕ). has i e) f ∙ sym (enter_end x h l ∙ rw (eq-eqb x d y))
+
+  pub enter_end_no : (x : ℕ) → x < size c → x ≤ d → x ≢ d → eqb x d ≡ entered c d e x
+  enter_end_no x h l n = ne_eqb x d n ∙ sym (enter_end x h l ∙ rw (ne_eqb x d n))
 
 -- the columns of pairs at k
 module _ (ps : List Pair) (states marks : List ℕ) (n : ℕ) (C : PairColumns ps states marks n) (k : ℕ) (h : k < n) (d : Pair) where

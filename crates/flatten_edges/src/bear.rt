@@ -16,7 +16,8 @@ use chart_tree::table::Tree;
 use flatten_alternatives::alternative::alternatives;
 use flatten_places::automaton::Automata;
 use flatten_places::fixed::Fixed;
-use flatten_places::walk::{Tables, of_transition};
+use flatten_places::walk::Tables;
+use reading::field::byte_at;
 
 // What a transition's label has before its body.
 fn signals_of(rest: &[u8], offsets: &[u32], t: u8) -> Signals
@@ -55,13 +56,10 @@ fn bear_each(
         return count;
     }
     let mut n = count;
-    let mut k = 0;
-    while k < size {
-        let tested = sets[k];
+    for &tested in &sets[..size] {
         let by = exit_tested(tested, exit);
         let h = bearing_head(e, s, transition, by, tested, tested & off);
         n = push(heads, n, h);
-        k += 1;
     }
     n
 }
@@ -111,24 +109,18 @@ pub fn bear(
     if count > 1024 {
         return 1025;
     }
-    let transitions = t.transitions;
-    let sources = transitions.sources;
-    let left_by = transitions.exits;
-    let initials = t.initials;
-    let e = joining(exits, homes, &initials, i, j);
+    let e = joining(exits, homes, &t.initials, i, j);
     let s = signals_of(rest, offsets, u);
-    let exit = of_transition(&left_by, u);
+    let exit = byte_at(&t.transitions.exits, u as usize);
     if exit == 255 {
         return push(heads, count, bearing_head(e, s, u, 255, 0, 0));
     }
-    let tree = t.tree;
-    let automata = t.automata;
-    let off = start_off(exits, &initials, automata.count, exit);
+    let off = start_off(exits, &t.initials, t.automata.count, exit);
     let size = sets_by(
-        tree,
+        t.tree,
         t.fixed,
-        automata,
-        of_transition(&sources, u),
+        t.automata,
+        byte_at(&t.transitions.sources, u as usize),
         exit,
         sets,
         listed,

@@ -1,5 +1,5 @@
 // The edges of the network, place by place.
-ghost use Rattle.std.specs.Prelude.{◌≡◌, length};
+ghost use Rattle.std.specs.Prelude.{◌≡◌, ◌&&◌, eqb, length};
 ghost use mathlib.Core.List.{List, Memᴰ as Mem};
 ghost use Rattle.lists.specs.Lists.{position};
 ghost use Rattle.chart_records.specs.Chart.{Chart, parent_of};
@@ -18,23 +18,28 @@ use crate::hear::{hear_entries, hear_exits};
 use crate::source::from_source;
 use flatten_places::pair::channel_of;
 use flatten_places::place::Places;
-use flatten_places::walk::{Tables, of_automaton, of_place, of_state, of_transition};
+use flatten_places::walk::Tables;
 use reading::field::byte_at;
+
+// Whether two pairs, each a state and a mark, are the same.
+fn is_same(state: u8, mark: u8, s: u8, m: u8) -> bool
+    ensures { result ≡ (eqb state s && eqb mark m) }
+{
+    state == s && mark == m
+}
 
 // Where a pair stands in the columns of pairs, of which there are so many.
 fn pair_position(states: &[u8; 64], marks: &[u8; 64], pairs: u8, state: u8, mark: u8) -> u8
     ensures { (ps : List Pair) (p : Pair) → PairColumns ps states.now marks.now pairs → state ≡ p.state → mark ≡ p.mark → result ≡ position (same_pair p) ps }
 {
-    let mut k = 0;
-    while k < pairs {
+    for k in 0..pairs {
         let s = byte_at(states, k as usize);
         let m = byte_at(marks, k as usize);
-        if (state == s) & (mark == m) {
+        if is_same(state, mark, s, m) {
             return k;
         }
-        k += 1;
     }
-    k
+    pairs
 }
 
 // The edges from the idle parent q of s, whose number is i, to s.
@@ -52,18 +57,25 @@ fn to_child(
         → Mem (idle q) (all_places c) → i ≡ number c (idle q) → Mem (child s) (all_places c) → parent_of c s ≡ q
         → Adds heads.old count heads.new result (entry_edges c q s) }
 {
-    let tree = t.tree;
-    let parents = tree.parents;
-    let entries = tree.entries;
-    let enters = t.enters;
-    let states = enters.states;
-    let marks = enters.marks;
-    let numbers = t.numbers;
-    let initials = t.initials;
-    let e = joining(exits, homes, &initials, i, of_state(&numbers, s));
-    let pairs = enters.count;
+    let e = joining(
+        exits,
+        homes,
+        &t.initials,
+        i,
+        byte_at(&t.numbers, s as usize),
+    );
     hear_entries(
-        heads, count, e, &parents, &entries, q, s, &states, &marks, pairs, t.channels,
+        heads,
+        count,
+        e,
+        &t.tree.parents,
+        &t.tree.entries,
+        q,
+        s,
+        &t.enters.states,
+        &t.enters.marks,
+        t.enters.count,
+        t.channels,
     )
 }
 
@@ -79,15 +91,11 @@ fn from_idle(
 ) -> u16
     ensures { (c : Chart) → Tabulated c t → Spread c exits.now homes.now → Mem (idle q) (all_places c) → i ≡ number c (idle q) → Adds heads.old count heads.new result (from_place c (idle q)) }
 {
-    let tree = t.tree;
-    let parents = tree.parents;
     let mut n = count;
-    let mut s = 0;
-    while s < tree.states {
-        if of_state(&parents, s) == q {
+    for s in 0..t.tree.states {
+        if byte_at(&t.tree.parents, s as usize) == q {
             n = to_child(heads, n, t, exits, homes, i, q, s);
         }
-        s += 1;
     }
     n
 }
@@ -107,13 +115,20 @@ fn from_pre(
         → Mem (pre p) (all_places c) → i ≡ number c (pre p) → state ≡ p.state → mark ≡ p.mark
         → Adds heads.old count heads.new result (from_place c (pre p)) }
 {
-    let enters = t.enters;
-    let states = enters.states;
-    let marks = enters.marks;
-    let numbers = t.numbers;
-    let initials = t.initials;
-    let e = joining(exits, homes, &initials, i, of_state(&numbers, state));
-    let k = pair_position(&states, &marks, enters.count, state, mark);
+    let e = joining(
+        exits,
+        homes,
+        &t.initials,
+        i,
+        byte_at(&t.numbers, state as usize),
+    );
+    let k = pair_position(
+        &t.enters.states,
+        &t.enters.marks,
+        t.enters.count,
+        state,
+        mark,
+    );
     push(heads, count, own_head(e, 1, channel_of(t.channels, k)))
 }
 
@@ -129,20 +144,23 @@ fn from_post(
 ) -> u16
     ensures { (c : Chart) → Tabulated c t → Spread c exits.now homes.now → Mem (post u) (all_places c) → i ≡ number c (post u) → Adds heads.old count heads.new result (from_place c (post u)) }
 {
-    let transitions = t.transitions;
-    let sources = transitions.sources;
-    let left_by = transitions.exits;
-    let enters = t.enters;
-    let leaves = t.leaves;
-    let states = leaves.states;
-    let marks = leaves.marks;
-    let arrivals = t.arrivals;
-    let initials = t.initials;
-    let e = joining(exits, homes, &initials, i, of_transition(&arrivals, u));
-    let source = of_transition(&sources, u);
-    let exit = of_transition(&left_by, u);
-    let k = pair_position(&states, &marks, leaves.count, source, exit);
-    let before = channel_of(t.channels, enters.count);
+    let e = joining(
+        exits,
+        homes,
+        &t.initials,
+        i,
+        byte_at(&t.arrivals, u as usize),
+    );
+    let source = byte_at(&t.transitions.sources, u as usize);
+    let exit = byte_at(&t.transitions.exits, u as usize);
+    let k = pair_position(
+        &t.leaves.states,
+        &t.leaves.marks,
+        t.leaves.count,
+        source,
+        exit,
+    );
+    let before = channel_of(t.channels, t.enters.count);
     push(heads, count, own_head(e, 1, channel_of(before, k)))
 }
 
@@ -160,30 +178,21 @@ fn to_idle(
         → Mem (child s) (all_places c) → i ≡ number c (child s)
         → Adds heads.old count heads.new result (exit_edges c s (parent_of c s)) }
 {
-    let tree = t.tree;
-    let parents = tree.parents;
-    let enters = t.enters;
-    let leaves = t.leaves;
-    let states = leaves.states;
-    let marks = leaves.marks;
-    let below = t.below;
-    let firsts = t.firsts;
-    let initials = t.initials;
-    let q = of_state(&parents, s);
-    let low = of_state(&below, s);
-    let first = of_automaton(&firsts, of_place(homes, i));
-    let e = joining(exits, homes, &initials, i, first);
-    let before = channel_of(t.channels, enters.count);
+    let q = byte_at(&t.tree.parents, s as usize);
+    let low = byte_at(&t.below, s as usize);
+    let first = byte_at(&t.firsts, byte_at(homes, i as usize) as usize);
+    let e = joining(exits, homes, &t.initials, i, first);
+    let before = channel_of(t.channels, t.enters.count);
     hear_exits(
         heads,
         count,
         e,
-        &parents,
+        &t.tree.parents,
         low,
         q,
-        &states,
-        &marks,
-        leaves.count,
+        &t.leaves.states,
+        &t.leaves.marks,
+        t.leaves.count,
         before,
     )
 }
@@ -250,23 +259,17 @@ pub fn all_edges(
 ) -> u16
     ensures { (c : Chart) (n : Counts) → Tabulated c t → Listed c (all_places c) places → Laid rest.now n offsets.now c → length heads.old ≡ 13312 → Gathered heads.new result (flatten c).edges }
 {
-    let kinds = places.kinds;
-    let values = places.values;
-    let marks = places.marks;
-    let homes = places.automata;
-    let exits = places.exits;
     let mut n = 0;
-    let mut i = 0;
-    while i < places.count {
-        let kind = of_place(&kinds, i);
-        let value = of_place(&values, i);
-        let mark = of_place(&marks, i);
+    for i in 0..places.count {
+        let kind = byte_at(&places.kinds, i as usize);
+        let value = byte_at(&places.values, i as usize);
+        let mark = byte_at(&places.marks, i as usize);
         n = from_place(
             heads,
             n,
             t,
-            &exits,
-            &homes,
+            &places.exits,
+            &places.automata,
             rest,
             offsets,
             places.count,
@@ -278,7 +281,6 @@ pub fn all_edges(
         if n > 1024 {
             return 1025;
         }
-        i += 1;
     }
     n
 }

@@ -107,9 +107,7 @@ pub fn start_off(exits: &[u8; 192], initials: &[u8; 16], automata: u8, exit: u8)
         return 0;
     }
     let mut off = 0;
-    let mut a = automata;
-    while a > 0 {
-        a -= 1;
+    for a in (0..automata).rev() {
         let first = byte_at(initials, a as usize);
         let at = byte_at(exits, first as usize);
         off = with_low(off, !has(at as u32, exit as u32));

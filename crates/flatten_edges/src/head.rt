@@ -54,12 +54,7 @@ pub fn push(heads: &mut [u8; 13312], count: u16, h: Head) -> u16
     if count >= 1024 {
         return 1025;
     }
-    let bytes = bytes_of(h);
-    let at = 13 * (count as usize);
-    let mut k = 0;
-    while k < 13 {
-        heads[at + k] = bytes[k];
-        k += 1;
-    }
+    let at = Head::SIZE * (count as usize);
+    heads[at..at + Head::SIZE].copy_from_slice(&bytes_of(h));
     count + 1
 }

@@ -22,6 +22,7 @@ fn enters(parents: &[u8; 48], entries: &[u16; 48], d: u8, e: u8, s: u8) -> bool
 {
     let top = d as usize;
     let mut x = s as usize;
+    // Kept: it climbs from parent to parent, and counts no index.
     while x > top {
         if !has(marks_at(entries, x) as u32, e as u32) {
             return false;
@@ -32,7 +33,7 @@ fn enters(parents: &[u8; 48], entries: &[u16; 48], d: u8, e: u8, s: u8) -> bool
         }
         x = above;
     }
-    (x == top) & has(marks_at(entries, x) as u32, e as u32)
+    x == top && has(marks_at(entries, x) as u32, e as u32)
 }
 
 // An edge that hears a channel, if it does.
@@ -74,13 +75,11 @@ pub fn hear_entries(
 {
     let own = marks_at(entries, s as usize);
     let mut n = count;
-    let mut k = 0;
-    while k < pairs {
+    for k in 0..pairs {
         let d = byte_at(states, k as usize);
         let mark = byte_at(marks, k as usize);
         let heard = hears_entry(parents, entries, own, q, d, mark);
         n = push_if(heads, n, heard, e, channel_of(before, k));
-        k += 1;
     }
     n
 }
@@ -112,13 +111,11 @@ pub fn hear_exits(
         → Adds heads.old count heads.new result (exit_edges c s q) }
 {
     let mut n = count;
-    let mut k = 0;
-    while k < pairs {
+    for k in 0..pairs {
         let m = byte_at(states, k as usize);
         let mark = byte_at(marks, k as usize);
         let heard = hears_exit(parents, below, q, m, mark);
         n = push_if(heads, n, heard, e, channel_of(before, k));
-        k += 1;
     }
     n
 }

@@ -12,7 +12,8 @@ ghost use Rattle.flatten_edges.specs.Sourcing.{Sourced, Least, BearsAll};
 
 use crate::bear::bear;
 use flatten_places::transition::Transitions;
-use flatten_places::walk::{Tables, of_transition};
+use flatten_places::walk::Tables;
+use reading::field::byte_at;
 
 // The transitions from a state, ascending.
 #[derive(Clone, Copy)]
@@ -30,13 +31,11 @@ fn transitions_from(sources: &[u8; 64], count: u8, s: u8) -> Sources
     if count > 64 {
         return Sources { items, count: 0 };
     }
-    let mut t = 0;
-    while t < count {
+    for t in 0..count {
         items[n as usize] = t;
-        if of_transition(sources, t) == s {
+        if byte_at(sources, t as usize) == s {
             n += 1;
         }
-        t += 1;
     }
     Sources { items, count: n }
 }
@@ -48,7 +47,7 @@ fn lower(best: u8, from: u8, d: u8) -> u8
     if d < from {
         return best;
     }
-    if d < best { d } else { best }
+    best.min(d)
 }
 
 // The least place from a number on where one of these transitions departs to; 255 if there is none.
@@ -56,12 +55,10 @@ fn next_departure(departures: &[u8; 64], items: &[u8; 64], count: u8, from: u8) 
     ensures { Least departures.now items.now count from result }
 {
     let mut best = 255;
-    let mut k = 0;
-    while k < count {
-        let u = of_transition(items, k);
-        let d = of_transition(departures, u);
+    for k in 0..count {
+        let u = byte_at(items, k as usize);
+        let d = byte_at(departures, u as usize);
         best = lower(best, from, d);
-        k += 1;
     }
     best
 }
@@ -86,17 +83,14 @@ fn to_place(
         heads.old count heads.new result
         sets.old listed.old sets.new listed.new }
 {
-    let departures = t.departures;
     let mut n = count;
-    let mut k = 0;
-    while k < size {
-        let u = of_transition(items, k);
-        if of_transition(&departures, u) == j {
+    for k in 0..size {
+        let u = byte_at(items, k as usize);
+        if byte_at(&t.departures, u as usize) == j {
             n = bear(
                 heads, n, t, exits, homes, rest, offsets, i, j, u, sets, listed,
             );
         }
-        k += 1;
     }
     n
 }
@@ -118,19 +112,15 @@ pub fn from_source(
         → Laid rest.now counts offsets.now c → places ≡ length (all_places c) → i ≡ number c (child s)
         → Adds heads.old count heads.new result (concat (bearing_all c s) (all_places c)) }
 {
-    let transitions = t.transitions;
-    let sources = transitions.sources;
-    let departures = t.departures;
-    let mine = transitions_from(&sources, transitions.count, s);
-    let items = mine.items;
-    let size = mine.count;
+    let mine = transitions_from(&t.transitions.sources, t.transitions.count, s);
     let mut n = count;
-    let mut j = next_departure(&departures, &items, size, 0);
+    let mut j = next_departure(&t.departures, &mine.items, mine.count, 0);
     if j >= places {
         return count;
     }
     let mut sets = [0; 1024];
     let mut listed = [255, 0]; // no exit's
+    // Kept: it goes from departure to departure, and passes over the places between them.
     while j < places {
         n = to_place(
             heads,
@@ -140,8 +130,8 @@ pub fn from_source(
             homes,
             rest,
             offsets,
-            &items,
-            size,
+            &mine.items,
+            mine.count,
             i,
             j,
             &mut sets,
@@ -150,7 +140,7 @@ pub fn from_source(
         if n > 1024 {
             return 1025;
         }
-        j = next_departure(&departures, &items, size, j + 1);
+        j = next_departure(&t.departures, &mine.items, mine.count, j + 1);
     }
     n
 }

@@ -26,7 +26,7 @@ use Rattle.flattening.proofs.Automata.{automaton_of_region}
 use Rattle.flattening.proofs.Numbers.{pre_pairs}
 use Rattle.flattening.proofs.Channels.{enter_pairs_at}
 use Rattle.flatten_places.specs.Tables.{Chartered, AtExits, Columned, Automated, Paired, Listed, kind_of, value_of, mark_of, exits_at}
-use Rattle.flatten_places.specs.Filling.{ListedTo, Wide, table_of, Rowed, leaving}
+use Rattle.flatten_places.specs.Filling.{ListedTo, Wide, Rowed, leaving}
 use Rattle.flatten_places.specs.declared.automaton.Automata.{Automata}
 use Rattle.flatten_places.specs.declared.pair.Pairs.{Pairs}
 use Rattle.flatten_places.specs.declared.place.Places.{Places}
@@ -49,34 +49,39 @@ module _ (c : Chart) (whole : List Place) where
   pub listed_all : (p : Places) → ListedTo c whole [] p → Listed c whole p
   listed_all p L = subst (λ (l : List Place). Listed c l p) (sym (L.split ∙ append-nil L.seen)) L.listed
 
-  -- five columns of 192 places
-  module _ (kinds values marks automata exits : List ℕ) (n : ℕ) where
-    pub listed_more : (x : Place) (rest : List Place) → ListedTo c whole (x ∷ rest) (table_of kinds values marks automata exits n) → length whole ≤ 192 → (r : Row) → Rowed c x r
-        → ListedTo c whole rest (table_of (set kinds n r.kind) (set values n r.value) (set marks n r.mark) (set automata n r.automaton) (set exits n r.exits) (n + 1))
-    listed_more x rest L f r R =
-        let k = L.listed in
-        let room = listed_room (table_of kinds values marks automata exits n) x rest L in
-        let w = L.wide in
-        record {
-          wide = record {
-            kinds = length-set kinds n _ ∙ w.kinds;
-            values = length-set values n _ ∙ w.values;
-            marks = length-set marks n _ ∙ w.marks;
-            automata = length-set automata n _ ∙ w.automata;
-            exits = length-set exits n _ ∙ w.exits;
-          };
-          seen = L.seen ++ (x ∷ []);
-          split = L.split ∙ sym (append_assoc L.seen (x ∷ []) rest);
-          listed = record {
-            count = omega (arith, k.count, length-append L.seen (x ∷ []));
-            few = omega (arith, k.count, length-append L.seen (x ∷ []));
-            kinds = field_more kind_of L.seen x kinds _ n k.kinds k.count (omega (arith, w.kinds)) R.kind;
-            values = field_more value_of L.seen x values _ n k.values k.count (omega (arith, w.values)) R.value;
-            marks = field_more mark_of L.seen x marks _ n k.marks k.count (omega (arith, w.marks)) R.mark;
-            automata = field_more (λ x. automaton c (place_home c x)) L.seen x automata _ n k.automata k.count (omega (arith, w.automata)) R.automaton;
-            exits = field_more (exits_at c) L.seen x exits _ n k.exits k.count (omega (arith, w.exits)) R.exits;
-          };
-        }
+  pub listed_more : (p : Places) (x : Place) (rest : List Place) → ListedTo c whole (x ∷ rest) p → length whole ≤ 192 → (r : Row) → Rowed c x r
+      → ListedTo c whole rest (record {
+        kinds = set p.kinds p.count r.kind;
+        values = set p.values p.count r.value;
+        marks = set p.marks p.count r.mark;
+        automata = set p.automata p.count r.automaton;
+        exits = set p.exits p.count r.exits;
+        count = p.count + 1;
+      })
+  listed_more p x rest L f r R =
+      let k = L.listed in
+      let room = listed_room p x rest L in
+      let w = L.wide in
+      record {
+        wide = record {
+          kinds = length-set p.kinds p.count _ ∙ w.kinds;
+          values = length-set p.values p.count _ ∙ w.values;
+          marks = length-set p.marks p.count _ ∙ w.marks;
+          automata = length-set p.automata p.count _ ∙ w.automata;
+          exits = length-set p.exits p.count _ ∙ w.exits;
+        };
+        seen = L.seen ++ (x ∷ []);
+        split = L.split ∙ sym (append_assoc L.seen (x ∷ []) rest);
+        listed = record {
+          count = omega (arith, k.count, length-append L.seen (x ∷ []));
+          few = omega (arith, k.count, length-append L.seen (x ∷ []));
+          kinds = field_more kind_of L.seen x p.kinds _ p.count k.kinds k.count (omega (arith, w.kinds)) R.kind;
+          values = field_more value_of L.seen x p.values _ p.count k.values k.count (omega (arith, w.values)) R.value;
+          marks = field_more mark_of L.seen x p.marks _ p.count k.marks k.count (omega (arith, w.marks)) R.mark;
+          automata = field_more (λ x. automaton c (place_home c x)) L.seen x p.automata _ p.count k.automata k.count (omega (arith, w.automata)) R.automaton;
+          exits = field_more (exits_at c) L.seen x p.exits _ p.count k.exits k.count (omega (arith, w.exits)) R.exits;
+        };
+      }
 
 -- what a place is at
 no_exits : bits_of (λ e. false) 8 ≡ 0
@@ -171,10 +176,10 @@ module _ (c : Chart) {p : Pairs} (P : Paired (enter_pairs c) p) (i : ℕ) (h : i
     pres_no e = ap (λ (l : List Pair). map pre l ++ rest) (keep_left (λ x. is_child c q x.state) next e)
 
   -- the code's test
-  pub pre_test : {t : Tree} → Tabled c t → {parents : List ℕ} → t.parents ≡ parents → (q s : ℕ) → s ≡ get_or p.states i 0 → (not (eqb s 0) && eqb (get_or parents s 0) q) ≡ is_child c q (pair_at c i).state
-  pre_test {t} T g q s e =
+  pub pre_test : {t : Tree} → Tabled c t → (q s : ℕ) → s ≡ get_or p.states i 0 → (not (eqb s 0) && eqb (get_or t.parents s 0) q) ≡ is_child c q (pair_at c i).state
+  pre_test {t} T q s e =
       let z : s ≡ (pair_at c i).state = e ∙ pair_state in
-      ap (λ (l : List ℕ). not (eqb s 0) && eqb (get_or l s 0) q) (sym g) ∙ child_test T q s (omega (arith, T.count, (enter_pairs_at c pair_mem).0)) ∙ ap (is_child c q) z
+      child_test T q s (omega (arith, T.count, (enter_pairs_at c pair_mem).0)) ∙ ap (is_child c q) z
 
   pub pre_row_at : (q a s m : ℕ) → is_child c q (pair_at c i).state ≡ true → a ≡ automaton c q → s ≡ get_or p.states i 0 → m ≡ get_or p.marks i 0 → Rowed c (pre (pair_at c i)) (record { kind = 2; value = s; mark = m; automaton = a; exits = 0 })
   pre_row_at q a s m k n e f = pre_row c q a s m (pair_at c i) (e ∙ pair_state) (f ∙ pair_mark) (eqb-true (parent_of c (pair_at c i).state) q (and_r (not (eqb (pair_at c i).state 0)) _ k)) n
@@ -212,12 +217,11 @@ home_at {c} {t} {u} h T C i l =
     let s = C.source i k in
     ap (λ (x : ℕ). get_or t.parents x 0) s ∙ parent_of_lem T (transition_at c i).source (omega (arith, T.count, r.source_known))
 
-pub post_test : {c : Chart} {t : Tree} {u : Transitions} → Chartered c → Tabled c t → {parents : List ℕ} → t.parents ≡ parents → Columned c u
-    → (q i : ℕ) → i < u.count → (eqb (get_or parents (get_or u.sources i 0) 0) q && not (eqb (get_or u.exits i 0) 255)) ≡ leaves_home c q i
+pub post_test : {c : Chart} {t : Tree} {u : Transitions} → Chartered c → Tabled c t → Columned c u
+    → (q i : ℕ) → i < u.count → (eqb (get_or t.parents (get_or u.sources i 0) 0) q && not (eqb (get_or u.exits i 0) 255)) ≡ leaves_home c q i
 unfolding has_exit
-post_test {c} {t} {u} h T g C q i l =
-    ap (λ (x : List ℕ). eqb (get_or x (get_or u.sources i 0) 0) q && not (eqb (get_or u.exits i 0) 255)) (sym g)
-    ∙ ap₂ (λ (x y : ℕ). eqb x q && not (eqb y 255)) (home_at h T C i l) (C.exit i (omega (arith, C.count)))
+post_test {c} {t} {u} h T C q i l =
+    ap₂ (λ (x y : ℕ). eqb x q && not (eqb y 255)) (home_at h T C i l) (C.exit i (omega (arith, C.count)))
 
 pub post_row_at : (c : Chart) (q a i : ℕ) → leaves_home c q i ≡ true → a ≡ automaton c q → Rowed c (post i) (record { kind = 3; value = i; mark = 0; automaton = a; exits = 0 })
 post_row_at c q a i e n = post_row c q a i (eqb-true (home c i) q (and_l (eqb (home c i) q) _ e)) n

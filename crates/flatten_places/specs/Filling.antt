@@ -55,10 +55,6 @@ names states marks s m t = eqb (get_or states t 0) s && eqb (get_or marks t 0) m
 pub record Named (states marks : List ℕ) (n : ℕ) (l : List ℕ) : Type 0 where
   pub marked : (s m : ℕ) → s < 48 → m < 16 → has (get_or l s 0) m ≡ any (names states marks s m) (below n)
 
--- the table of places with these columns
-abbrev pub table_of : List ℕ → List ℕ → List ℕ → List ℕ → List ℕ → ℕ → Places
-table_of kinds values marks automata exits count = record { kinds = kinds; values = values; marks = marks; automata = automata; exits = exits; count = count }
-
 -- what the table holds of a place
 pub record Rowed (c : Chart) (x : Place) (r : Row) : Type 0 where
   pub kind : r.kind ≡ kind_of x

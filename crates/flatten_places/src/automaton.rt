@@ -54,14 +54,11 @@ fn with_automaton(a: Automata, s: u8) -> Automata
 pub fn automata_of(tree: Tree) -> Automata
     ensures { (c : Chart) → Tabled c tree → length (sequentials c) ≤ 16 → Automated c result }
 {
-    let kinds = tree.kinds;
     let mut automata = no_automata();
-    let mut s = 0;
-    while s < tree.states {
-        if byte_at(&kinds, s as usize) == 1 {
+    for s in 0..tree.states {
+        if byte_at(&tree.kinds, s as usize) == 1 {
             automata = with_automaton(automata, s);
         }
-        s += 1;
     }
     automata
 }

@@ -1,6 +1,7 @@
 // What is marked below states. One pass, `gathered`, serves all tables of bits: the exits marked below a state, the kinds below it
-// and the exits barred there (fixed.rt). The rows of bounds are joined by a pass of the same shape, `own_bounds` of
-// flatten_tables: there are no generics by which one loop could serve both.
+// and the exits barred there (fixed.rt). `own_bounds` of flatten_tables goes over the states in the same order, but joins rows of
+// bounds, and those only of some states with those of some parents: one function for both would take what each adds as a closure,
+// with a contract longer than the loop.
 ghost use Rattle.std.specs.Prelude.{◌≡◌, length};
 ghost use Rattle.chart_records.specs.Chart.{Chart};
 ghost use Rattle.chart_tree.specs.Table.{Rooted, Tabled};
@@ -15,15 +16,12 @@ pub fn gathered(parents: [u8; 48], states: u8, marks: [u8; 48]) -> [u8; 48]
     ensures { (c : Chart) → Rooted c parents → states ≡ length c.states → Gathered c marks result }
 {
     let mut below = marks;
-    let mut s = states;
-    if s > 48 {
+    if states > 48 {
         return below;
     }
-    while s > 1 {
-        s -= 1;
-        let x = s as usize;
-        let above = (parents[x] % 48) as usize;
-        below[above] = below[above] | below[x];
+    for s in (1..states as usize).rev() {
+        let above = (parents[s] % 48) as usize;
+        below[above] |= below[s];
     }
     below
 }
@@ -32,7 +30,5 @@ pub fn gathered(parents: [u8; 48], states: u8, marks: [u8; 48]) -> [u8; 48]
 pub fn marked_below(tree: Tree) -> [u8; 48]
     ensures { (c : Chart) → Chartered c → Tabled c tree → MarkedBelow c result }
 {
-    let parents = tree.parents;
-    let exits = tree.exits;
-    gathered(parents, tree.states, exits)
+    gathered(tree.parents, tree.states, tree.exits)
 }

@@ -49,16 +49,13 @@ fn fixed_kind(kind: u8, inner: u8) -> u8
 pub fn fixed_of(tree: Tree) -> Fixed
     ensures { (c : Chart) → Chartered c → Tabled c tree → FixedIn c result }
 {
-    let parents = tree.parents;
-    let whole = tree.kinds;
-    let marked = tree.exits;
-    let inner = gathered(parents, tree.states, whole);
-    let bars = bars_of(whole, marked);
-    let barred = gathered(parents, tree.states, bars);
+    let inner = gathered(tree.parents, tree.states, tree.kinds);
+    let bars = bars_of(tree.kinds, tree.exits);
+    let barred = gathered(tree.parents, tree.states, bars);
     let mut kinds = [0; 48];
     let mut exits = [0; 48];
     for s in 0..48 {
-        kinds[s] = fixed_kind(whole[s], inner[s]);
+        kinds[s] = fixed_kind(tree.kinds[s], inner[s]);
         exits[s] = barred[s] ^ 255;
     }
     Fixed { kinds, exits }

@@ -8,6 +8,7 @@ ghost use Rattle.flatten_places.specs.Filling.{PairedTo, pairs_of, Named};
 
 use crate::transition::Transitions;
 use chart_tree::table::marks_at;
+use lists::mark::has;
 use reading::field::byte_at;
 
 #[derive(Clone, Copy)]
@@ -51,12 +52,10 @@ fn with_pairs(p: Pairs, s: u8, marks: u16, width: u8) -> Pairs
     ensures { (whole rest : List Pair) → PairedTo whole (pairs_of s marks (below width) ++ rest) p → length whole ≤ 64 → PairedTo whole rest result }
 {
     let mut next = p;
-    let mut m = 0;
-    while m < width {
-        if lists::mark::has(marks as u32, m as u32) {
+    for m in 0..width {
+        if has(marks as u32, m as u32) {
             next = with_pair(next, s, m);
         }
-        m += 1;
     }
     next
 }
@@ -66,13 +65,11 @@ fn pairs_with(named: &[u16], states: u8, width: u8) -> Pairs
     ensures { (ps : List Pair) → ps ≡ pairs (λ s. has (get_or named.now s 0)) width (below states) → length ps ≤ 64 → Paired ps result }
 {
     let mut next = no_pairs();
-    let mut s = 0;
-    while s < states {
+    for s in 0..states {
         let marks = marks_at(named, s as usize);
         if marks != 0 {
             next = with_pairs(next, s, marks, width);
         }
-        s += 1;
     }
     next
 }
@@ -93,14 +90,12 @@ fn marks_named(states: &[u8], marks: &[u8], count: u8) -> [u16; 48]
     ensures { Named states.now marks.now count result }
 {
     let mut named = [0; 48];
-    let mut t = 0;
-    while t < count {
+    for t in 0..count {
         let s = byte_at(states, t as usize) as usize;
         let m = byte_at(marks, t as usize);
         if s < 48 {
             named[s] = with_mark(named[s], m);
         }
-        t += 1;
     }
     named
 }
@@ -109,9 +104,11 @@ fn marks_named(states: &[u8], marks: &[u8], count: u8) -> [u16; 48]
 pub fn enter_pairs(transitions: Transitions, states: u8, entries: u8) -> Pairs
     ensures { (c : Chart) → Columned c transitions → states ≡ length c.states → states ≤ 48 → entries ≡ c.entries → entries ≤ 16 → Paired (enter_pairs c) result }
 {
-    let destinations = transitions.destinations;
-    let marks = transitions.entries;
-    let named = marks_named(&destinations, &marks, transitions.count);
+    let named = marks_named(
+        &transitions.destinations,
+        &transitions.entries,
+        transitions.count,
+    );
     pairs_with(&named, states, entries)
 }
 
@@ -119,9 +116,7 @@ pub fn enter_pairs(transitions: Transitions, states: u8, entries: u8) -> Pairs
 pub fn exit_pairs(transitions: Transitions, states: u8, exits: u8) -> Pairs
     ensures { (c : Chart) → Columned c transitions → states ≡ length c.states → states ≤ 48 → exits ≡ c.exits → exits ≤ 8 → Paired (exit_pairs c) result }
 {
-    let sources = transitions.sources;
-    let marks = transitions.exits;
-    let named = marks_named(&sources, &marks, transitions.count);
+    let named = marks_named(&transitions.sources, &transitions.exits, transitions.count);
     pairs_with(&named, states, exits)
 }
 

@@ -5,13 +5,13 @@ ghost use Rattle.chart_records.specs.Tree.{children};
 ghost use Rattle.chart_tree.specs.Table.{Tabled};
 ghost use Rattle.flattening.specs.Flatten.{Place, child, pre, post, pairs, enters_by, places, all_places, automaton, enter_pairs};
 ghost use Rattle.flatten_places.specs.Tables.{Chartered, FixedIn, Columned, Automated, Paired, Listed};
-ghost use Rattle.flatten_places.specs.Filling.{table_of, Puts, Rowed, leaving};
+ghost use Rattle.flatten_places.specs.Filling.{Puts, Rowed, leaving};
 
 use crate::automaton::Automata;
 use crate::fixed::Fixed;
 use crate::pair::Pairs;
 use crate::transition::Transitions;
-use chart_tree::table::Tree;
+use chart_tree::table::{self, Tree};
 use reading::field::byte_at;
 
 // Of each place its kind, the state or transition that it stands for, the entry before which it is, its automaton, and
@@ -48,116 +48,66 @@ struct Row {
     exits: u8,
 }
 
-// One more place at the end of the columns; the answer is how many there are then.
-fn put(
-    kinds: &mut [u8; 192],
-    values: &mut [u8; 192],
-    marks: &mut [u8; 192],
-    automata: &mut [u8; 192],
-    exits: &mut [u8; 192],
-    count: u8,
-    row: Row,
-) -> u8
-    ensures { (c : Chart) (x : Place) → Rowed c x row
-        → Puts c (x ∷ []) []
-        (table_of kinds.old values.old marks.old automata.old exits.old count)
-        (table_of kinds.new values.new marks.new automata.new exits.new result) }
+// One more place at the end.
+fn put(table: &mut Places, row: Row)
+    ensures { (c : Chart) (x : Place) → Rowed c x row → Puts c (x ∷ []) [] table.old table.new }
 {
-    let i = count as usize;
+    let i = table.count as usize;
     if i >= Places::COUNT {
-        return count;
+        return;
     }
-    kinds[i] = row.kind;
-    values[i] = row.value;
-    marks[i] = row.mark;
-    automata[i] = row.automaton;
-    exits[i] = row.exits;
-    count + 1
+    table.kinds[i] = row.kind;
+    table.values[i] = row.value;
+    table.marks[i] = row.mark;
+    table.automata[i] = row.automaton;
+    table.exits[i] = row.exits;
+    table.count += 1;
 }
 
 // Whether s is a child of q.
 pub fn is_child(parents: &[u8], q: u8, s: u8) -> bool
     ensures { result ≡ (not (eqb s 0) && eqb (get_or parents.now s 0) q) }
 {
-    (s != 0) & (byte_at(parents, s as usize) == q)
+    s != 0 && table::is_child(parents, q as usize, s as usize)
 }
 
 // The places of the children of q.
-fn put_children(
-    kinds: &mut [u8; 192],
-    values: &mut [u8; 192],
-    marks: &mut [u8; 192],
-    automata: &mut [u8; 192],
-    exits: &mut [u8; 192],
-    count: u8,
-    tree: Tree,
-    fixed: Fixed,
-    q: u8,
-    a: u8,
-) -> u8
+fn put_children(table: &mut Places, tree: Tree, fixed: Fixed, q: u8, a: u8)
     ensures { (c : Chart) → Tabled c tree → FixedIn c fixed → a ≡ automaton c q
-        → Puts c (map child (children c q)) []
-        (table_of kinds.old values.old marks.old automata.old exits.old count)
-        (table_of kinds.new values.new marks.new automata.new exits.new result) }
+        → Puts c (map child (children c q)) [] table.old table.new }
 {
-    let parents = tree.parents;
-    let left = fixed.exits;
-    let mut next = count;
-    let mut s = 0;
-    while s < tree.states {
-        if is_child(&parents, q, s) {
+    for s in 0..tree.states {
+        if is_child(&tree.parents, q, s) {
             let row = Row {
                 kind: Places::CHILD,
                 value: s,
                 mark: 0,
                 automaton: a,
-                exits: byte_at(&left, s as usize),
+                exits: byte_at(&fixed.exits, s as usize),
             };
-            next = put(kinds, values, marks, automata, exits, next, row);
+            put(table, row);
         }
-        s += 1;
     }
-    next
 }
 
 // The places before the entries of the children of q.
-fn put_pres(
-    kinds: &mut [u8; 192],
-    values: &mut [u8; 192],
-    marks: &mut [u8; 192],
-    automata: &mut [u8; 192],
-    exits: &mut [u8; 192],
-    count: u8,
-    tree: Tree,
-    enters: Pairs,
-    q: u8,
-    a: u8,
-) -> u8
+fn put_pres(table: &mut Places, tree: Tree, enters: Pairs, q: u8, a: u8)
     ensures { (c : Chart) → Tabled c tree → Paired (enter_pairs c) enters → a ≡ automaton c q
-        → Puts c (map pre (pairs (enters_by c) c.entries (children c q))) []
-        (table_of kinds.old values.old marks.old automata.old exits.old count)
-        (table_of kinds.new values.new marks.new automata.new exits.new result) }
+        → Puts c (map pre (pairs (enters_by c) c.entries (children c q))) [] table.old table.new }
 {
-    let parents = tree.parents;
-    let states = enters.states;
-    let entries = enters.marks;
-    let mut next = count;
-    let mut i = 0;
-    while i < enters.count {
-        let s = byte_at(&states, i as usize);
-        if is_child(&parents, q, s) {
+    for i in 0..enters.count {
+        let s = byte_at(&enters.states, i as usize);
+        if is_child(&tree.parents, q, s) {
             let row = Row {
                 kind: Places::PRE,
                 value: s,
-                mark: byte_at(&entries, i as usize),
+                mark: byte_at(&enters.marks, i as usize),
                 automaton: a,
                 exits: 0,
             };
-            next = put(kinds, values, marks, automata, exits, next, row);
+            put(table, row);
         }
-        i += 1;
     }
-    next
 }
 
 // Whether the transition t leaves a child of q by an exit.
@@ -165,34 +115,22 @@ fn is_left(parents: &[u8], sources: &[u8], exits: &[u8], q: u8, t: u8) -> bool
     ensures { result ≡ (eqb (get_or parents.now (get_or sources.now t 0) 0) q && not (eqb (get_or exits.now t 0) 255)) }
 {
     let s = byte_at(sources, t as usize) as usize;
-    (byte_at(parents, s) == q) & (byte_at(exits, t as usize) != 255)
+    byte_at(parents, s) == q && byte_at(exits, t as usize) != 255
 }
 
 // The places after the exits of the children of q.
-fn put_posts(
-    kinds: &mut [u8; 192],
-    values: &mut [u8; 192],
-    marks: &mut [u8; 192],
-    automata: &mut [u8; 192],
-    exits: &mut [u8; 192],
-    count: u8,
-    tree: Tree,
-    transitions: Transitions,
-    q: u8,
-    a: u8,
-) -> u8
+fn put_posts(table: &mut Places, tree: Tree, transitions: Transitions, q: u8, a: u8)
     ensures { (c : Chart) → Chartered c → Tabled c tree → Columned c transitions → a ≡ automaton c q
-        → Puts c (map post (leaving c q)) []
-        (table_of kinds.old values.old marks.old automata.old exits.old count)
-        (table_of kinds.new values.new marks.new automata.new exits.new result) }
+        → Puts c (map post (leaving c q)) [] table.old table.new }
 {
-    let parents = tree.parents;
-    let sources = transitions.sources;
-    let left = transitions.exits;
-    let mut next = count;
-    let mut t = 0;
-    while t < transitions.count {
-        if is_left(&parents, &sources, &left, q, t) {
+    for t in 0..transitions.count {
+        if is_left(
+            &tree.parents,
+            &transitions.sources,
+            &transitions.exits,
+            q,
+            t,
+        ) {
             let row = Row {
                 kind: Places::POST,
                 value: t,
@@ -200,32 +138,23 @@ fn put_posts(
                 automaton: a,
                 exits: 0,
             };
-            next = put(kinds, values, marks, automata, exits, next, row);
+            put(table, row);
         }
-        t += 1;
     }
-    next
 }
 
 // The places of the automaton a, that of the state q.
 fn put_places(
-    kinds: &mut [u8; 192],
-    values: &mut [u8; 192],
-    marks: &mut [u8; 192],
-    automata: &mut [u8; 192],
-    exits: &mut [u8; 192],
-    count: u8,
+    table: &mut Places,
     tree: Tree,
     fixed: Fixed,
     transitions: Transitions,
     enters: Pairs,
     q: u8,
     a: u8,
-) -> u8
+)
     ensures { (c : Chart) → Chartered c → Tabled c tree → FixedIn c fixed → Columned c transitions → Paired (enter_pairs c) enters → a ≡ automaton c q
-        → Puts c (places c q) []
-        (table_of kinds.old values.old marks.old automata.old exits.old count)
-        (table_of kinds.new values.new marks.new automata.new exits.new result) }
+        → Puts c (places c q) [] table.old table.new }
 {
     let row = Row {
         kind: Places::IDLE,
@@ -234,21 +163,10 @@ fn put_places(
         automaton: a,
         exits: 0, // an idle automaton is at no exit
     };
-    let n = put(kinds, values, marks, automata, exits, count, row);
-    let m = put_children(kinds, values, marks, automata, exits, n, tree, fixed, q, a);
-    let k = put_pres(kinds, values, marks, automata, exits, m, tree, enters, q, a);
-    put_posts(
-        kinds,
-        values,
-        marks,
-        automata,
-        exits,
-        k,
-        tree,
-        transitions,
-        q,
-        a,
-    )
+    put(table, row);
+    put_children(table, tree, fixed, q, a);
+    put_pres(table, tree, enters, q, a);
+    put_posts(table, tree, transitions, q, a);
 }
 
 // The places of all automata.
@@ -261,38 +179,17 @@ pub fn places_of(
 ) -> Places
     ensures { (c : Chart) → Chartered c → Tabled c tree → FixedIn c fixed → Columned c transitions → Automated c automata → Paired (enter_pairs c) enters → Listed c (all_places c) result }
 {
-    let states = automata.states;
-    let mut kinds = [0; 192];
-    let mut values = [0; 192];
-    let mut marks = [0; 192];
-    let mut owners = [0; 192];
-    let mut exits = [0; 192];
-    let mut count = 0;
-    let mut a = 0;
-    while a < automata.count {
-        let q = byte_at(&states, a as usize);
-        count = put_places(
-            &mut kinds,
-            &mut values,
-            &mut marks,
-            &mut owners,
-            &mut exits,
-            count,
-            tree,
-            fixed,
-            transitions,
-            enters,
-            q,
-            a,
-        );
-        a += 1;
+    let mut places = Places {
+        kinds: [0; 192],
+        values: [0; 192],
+        marks: [0; 192],
+        automata: [0; 192],
+        exits: [0; 192],
+        count: 0,
+    };
+    for a in 0..automata.count {
+        let q = byte_at(&automata.states, a as usize);
+        put_places(&mut places, tree, fixed, transitions, enters, q, a);
     }
-    Places {
-        kinds,
-        values,
-        marks,
-        automata: owners,
-        exits,
-        count,
-    }
+    places
 }

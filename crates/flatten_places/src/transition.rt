@@ -1,5 +1,5 @@
 // The transitions of a chart as columns.
-ghost use Rattle.std.specs.Prelude.{◌≤◌, min, ◌≡◌, length};
+ghost use Rattle.std.specs.Prelude.{◌≤◌, ◌≡◌, length};
 ghost use Rattle.chart_records.specs.Chart.{Chart};
 ghost use Rattle.chart_records.specs.Laid.{Laid};
 ghost use Rattle.flatten_places.specs.Tables.{Columned};
@@ -21,30 +21,21 @@ impl Transitions {
     pub const COUNT: usize = 64;
 }
 
-// A count of transitions, as far as there is a place for them.
-fn at_most_sixty_four(n: u8) -> u8
-    ensures { result ≡ min n 64 }
-{
-    if n < 64 { n } else { 64 }
-}
-
 // The columns of all transitions of a file.
 pub fn columns(rest: &[u8], counts: Counts, offsets: &[u32]) -> Transitions
     ensures { (c : Chart) → Laid rest.now counts offsets.now c → length c.transitions ≤ 64 → Columned c result }
 {
-    let count = at_most_sixty_four(counts.transitions);
+    let count = counts.transitions.min(64);
     let mut sources = [0; 64];
     let mut destinations = [0; 64];
     let mut exits = [0; 64];
     let mut entries = [0; 64];
-    let mut t = 0;
-    while t < count {
+    for t in 0..count {
         let i = t as usize;
         sources[i] = source_of(rest, offsets, t);
         destinations[i] = destination_of(rest, offsets, t);
         exits[i] = exit_of(rest, offsets, t);
         entries[i] = entry_of(rest, offsets, t);
-        t += 1;
     }
     Transitions {
         sources,

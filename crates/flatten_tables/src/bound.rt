@@ -1,5 +1,5 @@
 // The bounds of places. Tables have a row of eight bounds for each state.
-ghost use Rattle.std.specs.Prelude.{◌≡◌, true, suc, ◌<◌, length};
+ghost use Rattle.std.specs.Prelude.{◌≡◌, ◌&&◌, eqb, true, suc, ◌<◌, length};
 ghost use mathlib.Core.List.{Memᴰ};
 ghost use Rattle.chart_records.specs.Chart.{Chart};
 ghost use Rattle.chart_records.specs.Rules.{parents, entry_marks};
@@ -14,7 +14,7 @@ use chart_records::header::Counts;
 use chart_records::state::bounds_of;
 use chart_tree::entry::entered;
 use chart_tree::table::Tree;
-use clocks::clock::{join, join_tables};
+use clocks::clock::{NO_BOUND, join, join_tables};
 use flatten_places::fixed::Fixed;
 use flatten_places::place::Places;
 use flatten_places::transition::Transitions;
@@ -24,19 +24,21 @@ use reading::field::byte_at;
 fn state_bounds(rest: &[u8], counts: Counts) -> [[u32; 8]; 48]
     ensures { (c : Chart) → Stated rest.now counts c → RowsOf (bounds_at c) c result }
 {
-    let free = [4294967295; 8];
-    let mut table = [free; 48];
+    let mut table = [[NO_BOUND; 8]; 48];
     if counts.states > 48 {
         return table;
     }
-    let mut s = 0;
-    while s < counts.states {
-        let row = bounds_of(rest, counts, s);
-        let i = s as usize;
-        table[i] = row;
-        s += 1;
+    for s in 0..counts.states {
+        table[s as usize] = bounds_of(rest, counts, s);
     }
     table
+}
+
+// Whether a state is its parent's sensor, by the kinds of both: basic or plain, and below a parallel one.
+fn is_sensor(kind: u8, above: u8) -> bool
+    ensures { result ≡ (eqb kind 0 && eqb above 2) }
+{
+    kind == 0 && above == 2
 }
 
 // The bounds of each state joined with those of its sensors, deepest first: from the last state up each basic or plain
@@ -44,22 +46,14 @@ fn state_bounds(rest: &[u8], counts: Counts) -> [[u32; 8]; 48]
 fn own_bounds(rest: &[u8], counts: Counts, tree: Tree, fixed: Fixed) -> [[u32; 8]; 48]
     ensures { (c : Chart) → Stated rest.now counts c → Tabled c tree → parents c ≡ true → FixedIn c fixed → RowsOf (own c) c result }
 {
-    let parents = tree.parents;
-    let kinds = tree.kinds;
-    let inner = fixed.kinds;
     let mut table = state_bounds(rest, counts);
-    let mut s = tree.states;
-    if s > 48 {
+    if tree.states > 48 {
         return table;
     }
-    while s > 1 {
-        s -= 1;
-        let x = s as usize;
-        let p = (parents[x] % 48) as usize;
-        if (inner[x] == 0) & (kinds[p] == 2) {
-            let mine = table[x];
-            let above = table[p];
-            table[p] = join(mine, above);
+    for s in (1..tree.states as usize).rev() {
+        let p = (tree.parents[s] % 48) as usize;
+        if is_sensor(fixed.kinds[s], tree.kinds[p]) {
+            table[p] = join(table[s], table[p]);
         }
     }
     table
@@ -74,7 +68,7 @@ fn carried(parents: &[u8], kinds: &[u8], p: usize, mine: [u32; 8], above: [u32; 
     }
     let q = byte_at(parents, p) as usize;
     if byte_at(kinds, q) != 2 {
-        return [4294967295; 8];
+        return [NO_BOUND; 8];
     }
     join(mine, above)
 }
@@ -83,17 +77,12 @@ fn carried(parents: &[u8], kinds: &[u8], p: usize, mine: [u32; 8], above: [u32; 
 fn bounds_above(parents: &[u8], kinds: &[u8], rows: [[u32; 8]; 48]) -> [[u32; 8]; 48]
     ensures { (c : Chart) → Rooted c parents.now → Column (λ x. x.kind) c kinds.now → RowsOf (own c) c rows → RowsOf (above_of c) c result }
 {
-    let free = [4294967295; 8];
-    let mut table = [free; 48];
-    let mut s = 1;
-    while s < 48 {
+    let mut table = [[NO_BOUND; 8]; 48];
+    for s in 1..48 {
         let p = byte_at(parents, s) as usize;
         if p < s {
-            let mine = rows[p];
-            let above = table[p];
-            table[s] = carried(parents, kinds, p, mine, above);
+            table[s] = carried(parents, kinds, p, rows[p], table[p]);
         }
-        s += 1;
     }
     table
 }
@@ -103,9 +92,7 @@ pub fn joined_bounds(rest: &[u8], counts: Counts, tree: Tree, fixed: Fixed) -> [
     ensures { (c : Chart) → Stated rest.now counts c → Tabled c tree → parents c ≡ true → entry_marks c ≡ true → FixedIn c fixed → Bounded c tree result }
 {
     let own = own_bounds(rest, counts, tree, fixed);
-    let parents = tree.parents;
-    let kinds = tree.kinds;
-    let above = bounds_above(&parents, &kinds, own);
+    let above = bounds_above(&tree.parents, &tree.kinds, own);
     join_tables(own, above)
 }
 
@@ -115,10 +102,9 @@ fn row_at(rows: [[u32; 8]; 48], s: u8) -> [u32; 8]
 {
     let i = s as usize;
     if i >= 48 {
-        return [4294967295; 8];
+        return [NO_BOUND; 8];
     }
-    let row = rows[i];
-    row
+    rows[i]
 }
 
 // The joined bounds of all states that entering d by e enters.
@@ -126,13 +112,10 @@ fn pre_bounds(tree: Tree, rows: [[u32; 8]; 48], d: u8, e: u8) -> [u32; 8]
     ensures { (c : Chart) → Bounded c tree rows → result ≡ pre_bounds c (record { state = d; mark = e }) }
 {
     let set = entered(tree, d, e, [false; 48]);
-    let mut row = [4294967295; 8];
-    let mut k = 48;
-    while k > 0 {
-        k -= 1;
+    let mut row = [NO_BOUND; 8];
+    for k in (0..48).rev() {
         if set[k] {
-            let mine = rows[k];
-            let next = join(mine, row);
+            let next = join(rows[k], row);
             row = next;
         }
     }
@@ -145,7 +128,7 @@ fn arrival_bounds(tree: Tree, rows: [[u32; 8]; 48], transitions: Transitions, t:
 {
     let i = t as usize;
     if i >= Transitions::COUNT {
-        return [4294967295; 8];
+        return [NO_BOUND; 8];
     }
     let d = transitions.destinations[i];
     let e = transitions.entries[i];
@@ -175,5 +158,5 @@ pub fn place_bounds(
     if kind == Places::POST {
         return arrival_bounds(tree, rows, transitions, value);
     }
-    [4294967295; 8]
+    [NO_BOUND; 8]
 }

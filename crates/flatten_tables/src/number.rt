@@ -30,20 +30,15 @@ fn slot(kind: u8, value: u8, mark: u8) -> usize
 pub fn numbers_of(places: Places) -> [u8; 1024]
     ensures { (c : Chart) → Chartered c → Listed c (all_places c) places → Numbered c result }
 {
-    let kinds = places.kinds;
-    let values = places.values;
-    let marks = places.marks;
     let mut numbers = [0; 1024];
-    let mut i = 0;
-    while i < places.count {
-        let kind = byte_at(&kinds, i as usize);
-        let value = byte_at(&values, i as usize);
-        let mark = byte_at(&marks, i as usize);
+    for i in 0..places.count {
+        let kind = byte_at(&places.kinds, i as usize);
+        let value = byte_at(&places.values, i as usize);
+        let mark = byte_at(&places.marks, i as usize);
         let at = slot(kind, value, mark);
         if at < 1024 {
             numbers[at] = i;
         }
-        i += 1;
     }
     numbers
 }
@@ -80,11 +75,9 @@ fn departure_number(numbers: &[u8], t: u8, destination: u8, exit: u8, entry: u8)
 pub fn arrivals(transitions: Transitions, numbers: &[u8]) -> [u8; 64]
     ensures { (c : Chart) → Chartered c → Columned c transitions → Numbered c numbers.now → Arriving c result }
 {
-    let destinations = transitions.destinations;
-    let entries = transitions.entries;
     let mut reached = [0; 64];
     for i in 0..64 {
-        reached[i] = arrival_number(numbers, destinations[i], entries[i]);
+        reached[i] = arrival_number(numbers, transitions.destinations[i], transitions.entries[i]);
     }
     reached
 }
@@ -93,15 +86,16 @@ pub fn arrivals(transitions: Transitions, numbers: &[u8]) -> [u8; 64]
 pub fn departures(transitions: Transitions, numbers: &[u8]) -> [u8; 64]
     ensures { (c : Chart) → Chartered c → Columned c transitions → Numbered c numbers.now → Departing c result }
 {
-    let destinations = transitions.destinations;
-    let exits = transitions.exits;
-    let entries = transitions.entries;
     let mut reached = [0; 64];
-    let mut t = 0;
-    while t < 64 {
+    for t in 0..64 {
         let i = t as usize;
-        reached[i] = departure_number(numbers, t, destinations[i], exits[i], entries[i]);
-        t += 1;
+        reached[i] = departure_number(
+            numbers,
+            t,
+            transitions.destinations[i],
+            transitions.exits[i],
+            transitions.entries[i],
+        );
     }
     reached
 }
@@ -110,10 +104,9 @@ pub fn departures(transitions: Transitions, numbers: &[u8]) -> [u8; 64]
 pub fn firsts(automata: Automata, numbers: &[u8]) -> [u8; 16]
     ensures { (c : Chart) → Automated c automata → Numbered c numbers.now → Idling c result }
 {
-    let states = automata.states;
     let mut first = [0; 16];
     for a in 0..16 {
-        first[a] = number_at(numbers, Places::IDLE, states[a], 0);
+        first[a] = number_at(numbers, Places::IDLE, automata.states[a], 0);
     }
     first
 }
@@ -122,15 +115,11 @@ pub fn firsts(automata: Automata, numbers: &[u8]) -> [u8; 16]
 fn marked_child(tree: Tree, q: u8) -> u8
     ensures { (c : Chart) → Tabled c tree → result ≡ marked_child c q 0 }
 {
-    let parents = tree.parents;
-    let entries = tree.entries;
-    let mut s = 0;
-    while s < tree.states {
-        let marks = marks_at(&entries, s as usize) as u32;
-        if is_child(&parents, q, s) & has(marks, 0) {
+    for s in 0..tree.states {
+        let marks = marks_at(&tree.entries, s as usize) as u32;
+        if is_child(&tree.parents, q, s) && has(marks, 0) {
             return s;
         }
-        s += 1;
     }
     0
 }
@@ -151,10 +140,9 @@ pub fn initials(tree: Tree, automata: Automata, numbers: &[u8]) -> [u8; 16]
     ensures { (c : Chart) → Chartered c → Tabled c tree → Automated c automata → Numbered c numbers.now → Starting c result }
 {
     let active = start_active(tree);
-    let states = automata.states;
     let mut initial = [0; 16];
     for a in 0..16 {
-        initial[a] = initial_number(tree, &active, numbers, states[a]);
+        initial[a] = initial_number(tree, &active, numbers, automata.states[a]);
     }
     initial
 }

@@ -10,7 +10,8 @@ use lib.Dec.{leb}
 use lib.ListN.{length, get_or, take, drop, length-drop}
 use lib.Seq.{take-add, drop_at, drop-drop, length-take-le}
 use Rattle.reading.specs.Reading.{Fault, got, fault, Reader, ◌>>=◌, byte, byte2, such, framed, whole, recorded}
-use Rattle.labels.specs.Label.{Limits, Label, body, label}
+use Rattle.labels.specs.Label.{Label, body, label}
+use Rattle.labels.specs.declared.label.Limits.{Limits}
 use Rattle.reading.specs.Places.{onward}
 use Rattle.reading.proofs.Reading.{no_answer, next_at, bind_at, such_at, yield_at, got_value}
 use Rattle.reading.proofs.Places.{length_onward, onward_onward}

@@ -30,9 +30,6 @@ module _ {A : Type 0} (f : A → List ℕ) (xs : List A) (s : List ℕ) (at : �
   pub listing_more : (d : A) {t : List ℕ} {place i : ℕ} {u : List ℕ} {next : ℕ} → Listing f xs s at t place i → i < length xs → Wrote t place (f (get_or xs i d)) u next → Listing f xs s at u next (i + 1)
   listing_more d {i = i} l h w = record { few = omega arith; so_far = rw (concat_more f xs i d h) (wrote_then l.so_far w) }
 
-  pub listing_some : {t : List ℕ} {place i n : ℕ} → Listing f xs s at t place i → i ≤ n → n ≤ i → Wrote s at (concat f (take n xs)) t place
-  listing_some {t} {place} {i} {n} l h k = subst (λ (m : ℕ). Wrote s at (concat f (take m xs)) t place) (let z : i ≡ n = omega arith in z) l.so_far
-
   pub listing_all : {t : List ℕ} {place i : ℕ} → Listing f xs s at t place i → length xs ≤ i → Wrote s at (concat f xs) t place
   listing_all {t} {place} {i} l h = subst (λ (ys : List A). Wrote s at (concat f ys) t place) (take_all i xs h) l.so_far
 

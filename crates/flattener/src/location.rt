@@ -23,11 +23,8 @@ fn write_bounds(out: &mut [u8], at: usize, clocks: u8, bounds: [u32; 8]) -> usiz
         return at;
     }
     let mut place = at;
-    let mut i = 0;
-    while i < clocks {
-        let k = i as usize;
-        place = put_word(out, place, bounds[k] as usize);
-        i += 1;
+    for &bound in &bounds[..clocks as usize] {
+        place = put_word(out, place, bound as usize);
     }
     place
 }
@@ -89,8 +86,7 @@ pub fn write_locations(
         return at;
     }
     let mut place = at;
-    let mut i = 0;
-    while i < places.count {
+    for i in 0..places.count {
         let k = i as usize;
         let kind = places.kinds[k];
         let automaton = places.automata[k];
@@ -107,7 +103,6 @@ pub fn write_locations(
             initial,
             bounds,
         );
-        i += 1;
     }
     place
 }

@@ -8,7 +8,8 @@ ghost use Rattle.flattening.specs.Flatten.{flatten};
 ghost use Rattle.flatten_places.specs.Tables.{Chartered};
 ghost use Rattle.flatten_tables.specs.Summing.{Summed};
 ghost use Rattle.flatten_edges.specs.Gathering.{Gathered};
-ghost use Rattle.flattener.specs.Outcomes.{flattened_of, lent_after, network_for, Answered};
+ghost use Rattle.reading.specs.Verdict.{answer_of};
+ghost use Rattle.flattener.specs.Outcomes.{length_of, lent_after, network_for, Answered};
 
 use crate::output::{content_length, write_network};
 use chart::check::checked;
@@ -23,16 +24,10 @@ use flatten_places::transition::columns;
 use flatten_tables::bound::joined_bounds;
 use flatten_tables::summary::Summary;
 use flatten_tables::tabulate::{summary_of, tables_of};
-use reading::verdict::Verdict;
+use reading::refusal::Refusal;
 
-// The network's length in bytes, or the number of the refusal.
-#[derive(Clone, Copy)]
-pub enum Flattened {
-    Length(usize),
-    Refused(u8),
-}
-
-// The network of a chart whose edges are gathered: refused if there are too many, or if it does not fit.
+// The network of a chart whose edges are gathered: refused if there are too many, or if it does not fit. The answer of each
+// function here is the network's length in bytes.
 fn deliver(
     out: &mut [u8],
     summary: Summary,
@@ -40,23 +35,21 @@ fn deliver(
     edges: u16,
     rest: &[u8],
     offsets: &[u32],
-) -> Flattened
+) -> Result<usize, Refusal>
     ensures { (c : Chart) → Summed c summary → Ready rest.now summary.counts offsets.now summary.tree c
         → Gathered heads.now edges (flatten c).edges
         → Answered (network_for (length out.old) c) out.old result out.new }
 {
     if edges > 1024 {
-        return Flattened::Refused(15);
+        return Err(Refusal::ManyEdges);
     }
     let size = content_length(summary, heads, edges, rest, offsets);
     if out.len() < 5 + size {
-        return Flattened::Refused(16);
+        return Err(Refusal::ShortBuffer);
     }
-    let counts = summary.counts;
-    let tree = summary.tree;
-    let rows = joined_bounds(rest, counts, tree, summary.fixed);
+    let rows = joined_bounds(rest, summary.counts, summary.tree, summary.fixed);
     write_network(out, size, summary, rows, heads, edges, rest, offsets);
-    Flattened::Length(5 + size)
+    Ok(5 + size)
 }
 
 // Flattening a chart that passes the check.
@@ -66,7 +59,7 @@ fn flatten_checked(
     counts: Counts,
     offsets: &[u32],
     tree: Tree,
-) -> Flattened
+) -> Result<usize, Refusal>
     ensures { (c : Chart) → Chartered c → Ready rest.now counts offsets.now tree c → Answered (network_for (length out.old) c) out.old result out.new }
 {
     let transitions = columns(rest, counts, offsets);
@@ -83,17 +76,10 @@ fn flatten_checked(
 
 // The network of the chart in a file, written into the buffer lent. A refused call leaves the buffer as it was; bytes after
 // the network keep their values.
-pub fn flatten(file: &[u8], out: &mut [u8]) -> Flattened
-    ensures answer { result ≡ flattened_of (flatten_of file.now (length out.old)) }
+pub fn flatten(file: &[u8], out: &mut [u8]) -> Result<usize, Refusal>
+    ensures answer { answer_of result ≡ length_of (flatten_of file.now (length out.old)) }
     ensures bytes { out.new ≡ lent_after out.old (flatten_of file.now (length out.old)) }
 {
-    let f = checked(file);
-    let verdict = f.verdict;
-    if let Verdict::Refused(k) = verdict {
-        return Flattened::Refused(k);
-    }
-    let counts = f.counts;
-    let offsets = f.offsets;
-    let tree = f.tree;
-    flatten_checked(out, &file[3..file.len()], counts, &offsets, tree)
+    let f = checked(file)?;
+    flatten_checked(out, &file[3..], f.counts, &f.offsets, f.tree)
 }

@@ -75,10 +75,7 @@ pub fn write_network(
         → Wrote out.old 0 (network_bytes (flatten c)) out.new result }
 {
     let counts = summary.counts;
-    let tree = summary.tree;
-    let transitions = summary.transitions;
     let places = summary.places;
-    let initials = summary.initials;
     let at1 = put(out, 0, counts.version);
     let at2 = put_word(out, at1, size);
     let at3 = write_counts(
@@ -94,11 +91,11 @@ pub fn write_network(
         out,
         at3,
         counts.clocks,
-        tree,
+        summary.tree,
         rows,
-        transitions,
+        summary.transitions,
         places,
-        initials,
+        summary.initials,
     );
     write_edges(out, at4, heads, edges, rest, offsets)
 }

@@ -51,10 +51,8 @@ pub fn write_edges(
     ensures { (c : Chart) (es : List Edge) → Writable heads.now count rest.now offsets.now c es → Wrote out.old at (concat edge_record es) out.new result }
 {
     let mut place = at;
-    let mut i = 0;
-    while i < count {
+    for i in 0..count {
         place = write_edge(out, place, heads, i, rest, offsets);
-        i += 1;
     }
     place
 }
@@ -65,12 +63,10 @@ pub fn edges_length(heads: &[u8], count: u16, rest: &[u8], offsets: &[u32]) -> u
     ensures small { result < 8589934592 }
 {
     let mut sum = 0;
-    let mut i = 0;
-    while i < count {
+    for i in 0..count {
         let t = transition_at(heads, i);
         let size = body_size(rest, offsets, t) as usize;
         sum += 2 + Head::SIZE + size;
-        i += 1;
     }
     sum
 }

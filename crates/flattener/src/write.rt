@@ -34,22 +34,12 @@ pub fn put_word(out: &mut [u8], at: usize, n: usize) -> usize
 pub fn copy(out: &mut [u8], at: usize, from: &[u8], start: usize, size: usize) -> usize
     ensures { start + size ≤ length from.now → Wrote out.old at (part from.now start size) out.new result }
 {
-    if from.len() < size {
+    if from.len() < size || from.len() - size < start {
         return at;
     }
-    if from.len() - size < start {
+    if out.len() < size || out.len() - size < at {
         return at;
     }
-    if out.len() < size {
-        return at;
-    }
-    if out.len() - size < at {
-        return at;
-    }
-    let mut i = 0;
-    while i < size {
-        out[at + i] = from[start + i];
-        i += 1;
-    }
+    out[at..at + size].copy_from_slice(&from[start..start + size]);
     at + size
 }

@@ -16,7 +16,8 @@ use Rattle.reading.specs.Answer as answer
 use Rattle.reading.specs.Places.{onward}
 use Rattle.reading.specs.Reading.{got, yield, byte, byte2, byte4, many}
 use Rattle.reading.specs.Version.{is_version}
-use Rattle.labels.specs.Label.{Limits, limits, label}
+use Rattle.labels.specs.Label.{limits, label}
+use Rattle.labels.specs.declared.label.Limits.{Limits}
 use Rattle.clocks.specs.Clocks.{is_bound, clock_limit, no_bound, row}
 use Rattle.lists.proofs.Bools.{both, or_l, or_r, or_cases, implies_by}
 use Rattle.lists.proofs.Concat.{concat_length}

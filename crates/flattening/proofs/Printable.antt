@@ -14,7 +14,8 @@ use Rattle.lists.specs.Lists.{has, subset}
 use Rattle.reading.specs.Answer.{done}
 use Rattle.reading.specs.Answer as answer
 use Rattle.reading.specs.Reading.{yield, many}
-use Rattle.labels.specs.Label.{Limits, limits, Label, body, channel_fits}
+use Rattle.labels.specs.Label.{limits, Label, body, channel_fits}
+use Rattle.labels.specs.declared.label.Limits.{Limits}
 use Rattle.lists.proofs.Bools.{clash, and_l, and_r}
 use Rattle.lists.proofs.Lists.{map_at}
 use Rattle.lists.proofs.Bits.{has_bits, has_zero, bits_lt, has_low_lt, subset_by}

@@ -1,28 +1,17 @@
--- Laws of guards: a relation by its number, and the kind that decides how a guard goes on.
+-- Laws of guards: the kind that decides how a guard goes on.
 use mathlib.Core.Path.{◌≡◌, ◌∙◌}
-use mathlib.Core.Logic.{◌≢◌}
 use mathlib.Core.List.{List, [], ◌∷◌}
 use native.Mathlib.Omega.{arith}
 use borrow.Author.Tests.{ltb-true}
-use Prim.Native.Nat.{ℕ, zero, suc}
+use Prim.Native.Nat.{ℕ, zero, suc, ◌≤◌}
 use lib.Dec.{ltb}
 use lib.ListN.{get_or}
-use Rattle.reading.specs.Reading.{Fault, got, fault, yield, byte, such}
-use Rattle.numbers.specs.Relation.{lt, relations}
+use Rattle.reading.specs.Reading.{Fault, got, fault, byte, such}
 use Rattle.labels.specs.Guard.{relation, clock, ticks, data_guard, clock_guard, difference_guard, guard}
 use Rattle.reading.proofs.Places.{bind_got, bind_fault}
 use Rattle.reading.proofs.Reading.{such_at}
 use Rattle.reading.proofs.InFront.{InFront, yield_front, bind_front, such_front, byte_front, byte4_front}
 use Rattle.expr.proofs.Expressions.{expression_front}
-
-module _ (b : List ℕ) where
-  pub relation_got : {n : ℕ} {t : List ℕ} → such byte (λ n. ltb n 6) b ≡ got n t → relation b ≡ got (get_or relations n lt) t
-  unfolding relation yield
-  relation_got h = bind_got _ _ b h
-
-  pub relation_fault : {f : Fault} → such byte (λ n. ltb n 6) b ≡ fault f → relation b ≡ fault f
-  unfolding relation
-  relation_fault h = bind_fault _ _ b h
 
 -- what follows the kind
 module _ (clocks variables : ℕ) (b : List ℕ) {k : ℕ} {t : List ℕ} (h : such byte (λ k. ltb k 3) b ≡ got k t) where
@@ -34,9 +23,9 @@ module _ (clocks variables : ℕ) (b : List ℕ) {k : ℕ} {t : List ℕ} (h : s
   unfolding guard
   guard_clock e = bind_got _ _ b h ∙ rw e
 
-  pub guard_difference : k ≢ 0 → k ≢ 1 → guard clocks variables b ≡ difference_guard clocks t
+  pub guard_difference : 2 ≤ k → guard clocks variables b ≡ difference_guard clocks t
   unfolding guard
-  guard_difference n m = bind_got _ _ b h ∙ rw (let z : k ≡ 2 = omega (arith, ltb-true k 3 (such_at byte _ b h).0) in z)
+  guard_difference m = bind_got _ _ b h ∙ rw (let z : k ≡ 2 = omega (arith, ltb-true k 3 (such_at byte _ b h).0) in z)
 
 pub guard_fault : (clocks variables : ℕ) (b : List ℕ) {f : Fault} → such byte (λ k. ltb k 3) b ≡ fault f → guard clocks variables b ≡ fault f
 unfolding guard

@@ -10,7 +10,8 @@ use lib.ListN.{length}
 use Rattle.reading.specs.Reading.{got, yield, next, byte, many}
 use Rattle.labels.specs.Guard.{guard}
 use Rattle.updates.specs.Update.{Update, update, form_of, writes}
-use Rattle.labels.specs.Label.{Limits, Label, body, channel_fits, label, Body}
+use Rattle.labels.specs.declared.label.Limits.{Limits}
+use Rattle.labels.specs.Label.{Label, body, channel_fits, label, Body}
 use Rattle.reading.proofs.Places.{bind_got}
 use Rattle.reading.proofs.Reading.{next_at, bind_at, yield_at, yield_rest, such_at, many_at}
 use Rattle.reading.proofs.Lengths.{byte_consumes}

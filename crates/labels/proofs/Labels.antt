@@ -12,7 +12,8 @@ use Rattle.reading.specs.Reading.{got, byte, many}
 use Rattle.reading.specs.Places.{onward}
 use Rattle.labels.specs.Guard.{guard}
 use Rattle.updates.specs.Update.{Update, update, targets}
-use Rattle.labels.specs.Label.{Limits, Label, Body, body, label, body_once, assigns_once, sends, receives}
+use Rattle.labels.specs.declared.label.Limits.{Limits}
+use Rattle.labels.specs.Label.{Label, Body, body, label, body_once, assigns_once, sends, receives}
 use Rattle.lists.proofs.Bools.{parts, or_else, not_no, both}
 use Rattle.reading.proofs.Places.{bind_got}
 use Rattle.reading.proofs.InFront.{InFront, yield_front, bind_front, many_front, byte_front}

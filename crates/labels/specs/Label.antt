@@ -4,13 +4,9 @@ use Rattle.lists.specs.Lists.{all, distinct}
 use Rattle.reading.specs.Reading.{Reader, yield, next, ◌>>=◌, byte, such, many}
 use Rattle.labels.specs.Guard.{Guard, guard, holds}
 use Rattle.updates.specs.Update.{Update, update, targets}
+use Rattle.labels.specs.declared.label.Limits.{Limits}
 
--- what the labels of a file may hold: its version, and how many clocks and variables there are
-pub record Limits : Type 0 where
-  pub version : ℕ
-  pub clocks : ℕ
-  pub variables : ℕ
-
+-- what the labels of a file may hold: `Limits` is the code's type
 abbrev pub limits : ℕ → ℕ → ℕ → Limits
 limits version clocks variables = record { version = version; clocks = clocks; variables = variables }
 

@@ -2,28 +2,32 @@
 ghost use Rattle.std.specs.Prelude.{◌≡◌, ◌+◌, ◌^◌, ◌<◌, get_or};
 ghost use Rattle.reading.specs.Reading.{mapped, skipped};
 ghost use Rattle.expr.specs.Expression.{expression, value};
-ghost use Rattle.labels.specs.Guard.{ticks, data_guard, clock_guard, difference_guard, guard, holds};
-ghost use Rattle.reading.specs.Places.{onward, word_of, test_of, reached, test_reached};
+ghost use Rattle.labels.specs.Guard.{ticks, relation, data_guard, clock_guard, difference_guard, guard, holds};
+ghost use Rattle.reading.specs.Places.{onward, read_of, reached};
 
 use expr::expression;
-use expr::expression::ValueRead;
-use numbers::{signed, value};
+use numbers::relation::Relation;
+use numbers::{relation, value};
 use reading::field;
-use reading::field::{ByteRead, Fault, Reached, TestRead, WordRead};
+use reading::field::{Fault, Read};
 
 // A constant that a clock is compared with.
-fn read_ticks(s: &[u8], at: usize) -> WordRead
-    ensures { word_of s.now result ≡ ticks (onward s.now at) }
+fn read_ticks(s: &[u8], at: usize) -> Read<u32>
+    ensures { read_of s.now result ≡ ticks (onward s.now at) }
 {
-    let w = field::read_word(s, at);
-    let WordRead::Value(n, _) = w else {
-        return w;
-    };
+    let (n, next) = field::read_word(s, at)?;
     if n < 2147483648 {
-        w
+        Ok((n, next))
     } else {
-        WordRead::Fault(Fault::Range)
+        Err(Fault::Range)
     }
+}
+
+fn read_relation(s: &[u8], at: usize) -> Read<Relation>
+    ensures { read_of s.now result ≡ relation (onward s.now at) }
+{
+    let (code, next) = field::read_below(s, at, 6)?;
+    Ok((Relation::of(code), next))
 }
 
 fn wide(x: u32) -> u64
@@ -48,113 +52,64 @@ fn sum_of(time: u64, n: u32) -> u64
     time + n as u64
 }
 
-fn test_reached(t: TestRead) -> Reached
-    ensures { result ≡ test_reached t }
-{
-    match t {
-        TestRead::Value(_, next) => Reached::At(next),
-        TestRead::Fault(f) => Reached::Fault(f),
-    }
-}
-
 // What follows the kind of a guard on variables.
-fn read_data_guard(s: &[u8], at: usize, variables: u8) -> Reached
+fn read_data_guard(s: &[u8], at: usize, variables: u8) -> Result<usize, Fault>
     ensures { reached s.now tt result ≡ skipped (data_guard variables (onward s.now at)) }
 {
-    let k = field::read_byte_below(s, at, 6);
-    let ByteRead::Value(_, at1) = k else {
-        return Reached::Fault(field::byte_fault(k));
-    };
-    let a = expression::expression_at(s, at1, variables);
-    let Reached::At(at2) = a else {
-        return a;
-    };
+    let (_, at1) = read_relation(s, at)?;
+    let at2 = expression::expression_at(s, at1, variables)?;
     expression::expression_at(s, at2, variables)
 }
 
 // What follows the kind of a guard on one clock.
-fn clock_guard_holds(s: &[u8], at: usize, clocks: u8, times: [u32; 8]) -> TestRead
-    ensures { (vars : _) → test_of s.now result ≡ mapped (holds vars (times)) (clock_guard clocks (onward s.now at)) }
+fn clock_guard_holds(s: &[u8], at: usize, clocks: u8, times: [u32; 8]) -> Read<bool>
+    ensures { (vars : _) → read_of s.now result ≡ mapped (holds vars (times)) (clock_guard clocks (onward s.now at)) }
 {
-    let c = field::read_byte_below(s, at, clocks);
-    let ByteRead::Value(clock, at1) = c else {
-        return TestRead::Fault(field::byte_fault(c));
-    };
-    let k = field::read_byte_below(s, at1, 6);
-    let ByteRead::Value(relation, at2) = k else {
-        return TestRead::Fault(field::byte_fault(k));
-    };
-    let w = read_ticks(s, at2);
-    let WordRead::Value(n, at3) = w else {
-        return TestRead::Fault(field::word_fault(w));
-    };
-    TestRead::Value(
-        signed::compare_clocks(relation, time_of(times, clock), n as u64),
-        at3,
-    )
+    let (clock, at1) = field::read_below(s, at, clocks)?;
+    let (relation, at2) = read_relation(s, at1)?;
+    let (n, at3) = read_ticks(s, at2)?;
+    let holds = relation::compare_clocks(relation, time_of(times, clock), n as u64);
+    Ok((holds, at3))
 }
 
 // What follows the kind of a guard on the difference of two clocks.
-fn difference_guard_holds(s: &[u8], at: usize, clocks: u8, times: [u32; 8]) -> TestRead
-    ensures { (vars : _) → test_of s.now result ≡ mapped (holds vars (times)) (difference_guard clocks (onward s.now at)) }
+fn difference_guard_holds(s: &[u8], at: usize, clocks: u8, times: [u32; 8]) -> Read<bool>
+    ensures { (vars : _) → read_of s.now result ≡ mapped (holds vars (times)) (difference_guard clocks (onward s.now at)) }
 {
-    let c = field::read_byte_below(s, at, clocks);
-    let ByteRead::Value(first, at1) = c else {
-        return TestRead::Fault(field::byte_fault(c));
-    };
-    let d = field::read_byte_below(s, at1, clocks);
-    let ByteRead::Value(second, at2) = d else {
-        return TestRead::Fault(field::byte_fault(d));
-    };
-    let k = field::read_byte_below(s, at2, 6);
-    let ByteRead::Value(relation, at3) = k else {
-        return TestRead::Fault(field::byte_fault(k));
-    };
-    let w = read_ticks(s, at3);
-    let WordRead::Value(n, at4) = w else {
-        return TestRead::Fault(field::word_fault(w));
-    };
-    TestRead::Value(
-        signed::compare_clocks(
-            relation,
-            time_of(times, first),
-            sum_of(time_of(times, second), n),
-        ),
-        at4,
-    )
+    let (first, at1) = field::read_below(s, at, clocks)?;
+    let (second, at2) = field::read_below(s, at1, clocks)?;
+    let (relation, at3) = read_relation(s, at2)?;
+    let (n, at4) = read_ticks(s, at3)?;
+    let later = sum_of(time_of(times, second), n);
+    let holds = relation::compare_clocks(relation, time_of(times, first), later);
+    Ok((holds, at4))
 }
 
 // What follows the kind of a guard on variables.
-fn data_guard_holds(s: &[u8], at: usize, variables: u8, values: &[i32; 16]) -> TestRead
-    ensures { (times : _) → test_of s.now result ≡ mapped (holds values.now times) (data_guard variables (onward s.now at)) }
+fn data_guard_holds(s: &[u8], at: usize, variables: u8, values: &[i32; 16]) -> Read<bool>
+    ensures { (times : _) → read_of s.now result ≡ mapped (holds values.now times) (data_guard variables (onward s.now at)) }
 {
-    let k = field::read_byte_below(s, at, 6);
-    let ByteRead::Value(relation, at1) = k else {
-        return TestRead::Fault(field::byte_fault(k));
-    };
-    let v = expression::value_at(s, at1, variables, values);
-    let ValueRead::Value(x, at2) = v else {
-        return TestRead::Fault(expression::value_fault(v));
-    };
-    let w = expression::value_at(s, at2, variables, values);
-    let ValueRead::Value(y, at3) = w else {
-        return TestRead::Fault(expression::value_fault(w));
-    };
-    TestRead::Value(value::compare_values(relation, x, y), at3)
+    let (relation, at1) = read_relation(s, at)?;
+    let (x, at2) = expression::value_at(s, at1, variables, values)?;
+    let (y, at3) = expression::value_at(s, at2, variables, values)?;
+    Ok((value::compare_values(relation, x, y), at3))
 }
 
 // A guard, as a file is checked. No value is needed, and none is computed on variables.
-pub fn read_guard(s: &[u8], at: usize, clocks: u8, variables: u8) -> Reached
+pub fn read_guard(s: &[u8], at: usize, clocks: u8, variables: u8) -> Result<usize, Fault>
     ensures { reached s.now tt result ≡ skipped (guard clocks variables (onward s.now at)) }
 {
-    let b = field::read_byte_below(s, at, 3);
-    let ByteRead::Value(kind, from) = b else {
-        return Reached::Fault(field::byte_fault(b));
-    };
+    let (kind, from) = field::read_below(s, at, 3)?;
     match kind {
         0 => read_data_guard(s, from, variables),
-        1 => test_reached(clock_guard_holds(s, from, clocks, [0; 8])),
-        _ => test_reached(difference_guard_holds(s, from, clocks, [0; 8])),
+        1 => {
+            let (_, next) = clock_guard_holds(s, from, clocks, [0; 8])?;
+            Ok(next)
+        }
+        _ => {
+            let (_, next) = difference_guard_holds(s, from, clocks, [0; 8])?;
+            Ok(next)
+        }
     }
 }
 
@@ -166,13 +121,10 @@ pub fn guard_holds(
     variables: u8,
     values: &[i32; 16],
     times: [u32; 8],
-) -> TestRead
-    ensures { test_of s.now result ≡ mapped (holds values.now times) (guard clocks variables (onward s.now at)) }
+) -> Read<bool>
+    ensures { read_of s.now result ≡ mapped (holds values.now times) (guard clocks variables (onward s.now at)) }
 {
-    let b = field::read_byte_below(s, at, 3);
-    let ByteRead::Value(kind, from) = b else {
-        return TestRead::Fault(field::byte_fault(b));
-    };
+    let (kind, from) = field::read_below(s, at, 3)?;
     match kind {
         0 => data_guard_holds(s, from, variables, values),
         1 => clock_guard_holds(s, from, clocks, times),

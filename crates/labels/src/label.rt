@@ -7,50 +7,47 @@ ghost use Rattle.reading.specs.Reading.{got, byte, such, many, mapped, skipped};
 ghost use Rattle.labels.specs.Guard.{guard, holds};
 ghost use Rattle.updates.specs.Update.{update, targets, stays, assign};
 ghost use Rattle.labels.specs.Label.{limits, body_once, body, channel_fits, label, heading};
-ghost use Rattle.reading.specs.Places.{onward, byte_of, test_of, reached};
-ghost use Rattle.labels.specs.Headings.{label_of, label_fault};
+ghost use Rattle.reading.specs.Places.{onward, read_of, reached};
+ghost use Rattle.labels.specs.Headings.{label_of};
 
 use crate::guard;
 use reading::field;
-use reading::field::{ByteRead, Fault, Reached, TestRead};
+use reading::field::{Fault, Read};
 use updates::update;
-use updates::update::FormRead;
+use updates::update::NewValues;
+
+// What the labels of a file may hold: its version, and how many clocks and variables there are.
+#[derive(Clone, Copy)]
+pub struct Limits {
+    pub version: u8,
+    pub clocks: u8,
+    pub variables: u8,
+}
 
 // So many guards from a place on, as a file is checked.
-fn read_guards(s: &[u8], at: usize, count: u8, clocks: u8, variables: u8) -> Reached
+fn read_guards(s: &[u8], at: usize, count: u8, clocks: u8, variables: u8) -> Result<usize, Fault>
     ensures { reached s.now tt result ≡ skipped (many count (guard clocks variables) (onward s.now at)) }
 {
     let mut place = at;
-    let mut i = 0;
-    while i < count {
-        let q = guard::read_guard(s, place, clocks, variables);
-        let Reached::At(next) = q else {
-            return q;
-        };
-        place = next;
-        i += 1;
+    for _ in 0..count {
+        place = guard::read_guard(s, place, clocks, variables)?;
     }
-    Reached::At(place)
+    Ok(place)
 }
 
 // So many updates from a place on, as a file is checked: whether no variable is written twice.
-fn read_updates(s: &[u8], at: usize, count: u8, version: u8, variables: u8) -> TestRead
-    ensures { test_of s.now result ≡ mapped (λ us. distinct (targets us)) (many count (update version variables) (onward s.now at)) }
+fn read_updates(s: &[u8], at: usize, count: u8, version: u8, variables: u8) -> Read<bool>
+    ensures { read_of s.now result ≡ mapped (λ us. distinct (targets us)) (many count (update version variables) (onward s.now at)) }
 {
     let mut seen = [false; 256];
     let mut once = true;
     let mut place = at;
-    let mut i = 0;
-    while i < count {
-        let u = update::read_update(s, place, version, variables);
-        let FormRead::Form(form, next) = u else {
-            return TestRead::Fault(update::form_fault(u));
-        };
+    for _ in 0..count {
+        let (form, next) = update::read_update(s, place, version, variables)?;
         once = update::note(form, once, &mut seen);
         place = next;
-        i += 1;
     }
-    TestRead::Value(once, place)
+    Ok((once, place))
 }
 
 // Whether so many guards from a place on, which are known to be there, hold.
@@ -66,26 +63,17 @@ fn all_hold(
     ensures { (gs : _) (t : _) → many count (guard clocks variables) (onward s.now at) ≡ got gs t → result ≡ all (holds values.now times) gs }
 {
     let mut place = at;
-    let mut i = 0;
-    while i < count {
-        let h = guard::guard_holds(s, place, clocks, variables, values, times);
-        let TestRead::Value(holds, next) = h else {
+    for _ in 0..count {
+        let Ok((holds, next)) = guard::guard_holds(s, place, clocks, variables, values, times)
+        else {
             return false;
         };
         if !holds {
             return false;
         }
         place = next;
-        i += 1;
     }
     true
-}
-
-// The variables after some updates, and whether these stayed in the range.
-#[derive(Clone, Copy)]
-pub struct NewValues {
-    pub values: [i32; 16],
-    pub within: bool,
 }
 
 // The variables after so many updates from a place on, which are known to be there. All of them read `old`.
@@ -101,25 +89,18 @@ fn all_assigned(
     ensures within { (us : _) (t : _) → many count (update version variables) (onward s.now at) ≡ got us t → result.within ≡ all (stays old) us }
     ensures values { (us : _) (t : _) → many count (update version variables) (onward s.now at) ≡ got us t → result.values ≡ assign old us new }
 {
-    let mut within = true;
     let mut values = new;
+    let mut within = true;
     let mut place = at;
-    let mut i = 0;
-    while i < count {
-        let u = update::updated_at(s, place, version, variables, old, values);
-        let q = u.reached;
-        let Reached::At(next) = q else {
-            return NewValues {
-                within: false,
-                values: old,
-            };
+    for _ in 0..count {
+        let Ok((after, next)) = update::updated_at(s, place, version, variables, old, values) else {
+            return unassigned(new);
         };
-        within = within & u.within;
-        values = u.values;
+        values = after.values;
+        within = within & after.within;
         place = next;
-        i += 1;
     }
-    NewValues { within, values }
+    NewValues { values, within }
 }
 
 // The variables after no update.
@@ -144,26 +125,14 @@ fn keeps_rule(signal: u8, updates: u8, once: bool) -> bool
 }
 
 // The body of a label, as a file is checked: whether it keeps rule 13.
-fn read_body(s: &[u8], at: usize, version: u8, clocks: u8, variables: u8, signal: u8) -> TestRead
-    ensures { test_of s.now result ≡ mapped (body_once signal) (body (limits version clocks variables) (onward s.now at)) }
+fn read_body(s: &[u8], at: usize, limits: Limits, signal: u8) -> Read<bool>
+    ensures { read_of s.now result ≡ mapped (body_once signal) (body limits (onward s.now at)) }
 {
-    let g = field::read_byte(s, at);
-    let ByteRead::Value(guards, at1) = g else {
-        return TestRead::Fault(field::byte_fault(g));
-    };
-    let a = field::read_byte(s, at1);
-    let ByteRead::Value(updates, at2) = a else {
-        return TestRead::Fault(field::byte_fault(a));
-    };
-    let q = read_guards(s, at2, guards, clocks, variables);
-    let Reached::At(at3) = q else {
-        return TestRead::Fault(field::reached_fault(q));
-    };
-    let u = read_updates(s, at3, updates, version, variables);
-    let TestRead::Value(once, at4) = u else {
-        return u;
-    };
-    TestRead::Value(keeps_rule(signal, updates, once), at4)
+    let (guards, at1) = field::read_byte(s, at)?;
+    let (updates, at2) = field::read_byte(s, at1)?;
+    let at3 = read_guards(s, at2, guards, limits.clocks, limits.variables)?;
+    let (once, at4) = read_updates(s, at3, updates, limits.version, limits.variables)?;
+    Ok((keeps_rule(signal, updates, once), at4))
 }
 
 // 255 without a signal, and else one of the channels.
@@ -177,17 +146,14 @@ fn channel_fits(channels: u8, signal: u8, channel: u8) -> bool
     }
 }
 
-fn read_channel(s: &[u8], at: usize, channels: u8, signal: u8) -> ByteRead
-    ensures { byte_of s.now result ≡ such byte (channel_fits channels signal) (onward s.now at) }
+fn read_channel(s: &[u8], at: usize, channels: u8, signal: u8) -> Read<u8>
+    ensures { read_of s.now result ≡ such byte (channel_fits channels signal) (onward s.now at) }
 {
-    let b = field::read_byte(s, at);
-    let ByteRead::Value(channel, _) = b else {
-        return b;
-    };
+    let (channel, next) = field::read_byte(s, at)?;
     if channel_fits(channels, signal, channel) {
-        b
+        Ok((channel, next))
     } else {
-        ByteRead::Fault(Fault::Range)
+        Err(Fault::Range)
     }
 }
 
@@ -201,58 +167,22 @@ pub struct Label {
     pub once: bool,
 }
 
-#[derive(Clone, Copy)]
-pub enum LabelRead {
-    Label(Label, usize),
-    Fault(Fault),
-}
-
-pub fn label_fault(l: LabelRead) -> Fault
-    ensures { result ≡ label_fault l }
-{
-    match l {
-        LabelRead::Fault(f) => f,
-        LabelRead::Label(_, _) => Fault::Length,
-    }
-}
-
 // A label, as a file is checked.
-pub fn read_label(
-    s: &[u8],
-    at: usize,
-    version: u8,
-    clocks: u8,
-    variables: u8,
-    channels: u8,
-) -> LabelRead
-    ensures { label_of s.now result ≡ mapped heading (label (limits version clocks variables) channels (onward s.now at)) }
+pub fn read_label(s: &[u8], at: usize, limits: Limits, channels: u8) -> Read<Label>
+    ensures { label_of s.now result ≡ mapped heading (label limits channels (onward s.now at)) }
 {
-    let a = field::read_byte_below(s, at, 3);
-    let ByteRead::Value(signal, at1) = a else {
-        return LabelRead::Fault(field::byte_fault(a));
+    let (signal, at1) = field::read_below(s, at, 3)?;
+    let (channel, at2) = read_channel(s, at1, channels, signal)?;
+    let (resets, body) = field::read_marks(s, at2, limits.clocks)?;
+    let (once, next) = read_body(s, body, limits, signal)?;
+    let label = Label {
+        signal,
+        channel,
+        resets,
+        body,
+        once,
     };
-    let b = read_channel(s, at1, channels, signal);
-    let ByteRead::Value(channel, at2) = b else {
-        return LabelRead::Fault(field::byte_fault(b));
-    };
-    let m = field::read_marks(s, at2, clocks);
-    let ByteRead::Value(resets, body) = m else {
-        return LabelRead::Fault(field::byte_fault(m));
-    };
-    let u = read_body(s, body, version, clocks, variables, signal);
-    let TestRead::Value(once, next) = u else {
-        return LabelRead::Fault(field::test_fault(u));
-    };
-    LabelRead::Label(
-        Label {
-            signal,
-            channel,
-            resets,
-            body,
-            once,
-        },
-        next,
-    )
+    Ok((label, next))
 }
 
 // Whether the guards of a body, which is known to stand at a place, hold.
@@ -266,41 +196,28 @@ pub fn guards_hold(
 ) -> bool
     ensures { (w : _) (b : _) (t : _) → body (limits w clocks variables) (onward s.now at) ≡ got b t → result ≡ all (holds values.now times) b.guards }
 {
-    let g = field::read_byte(s, at);
-    let ByteRead::Value(guards, at1) = g else {
+    let Ok((guards, at1)) = field::read_byte(s, at) else {
         return false;
     };
-    let a = field::read_byte(s, at1);
-    let ByteRead::Value(_, at2) = a else {
+    let Ok((_, at2)) = field::read_byte(s, at1) else {
         return false;
     };
     all_hold(s, at2, guards, clocks, variables, values, times)
 }
 
 // The variables after the updates of a body, which is known to stand at a place. All of them read `old`.
-pub fn assigned(
-    s: &[u8],
-    at: usize,
-    version: u8,
-    clocks: u8,
-    variables: u8,
-    old: [i32; 16],
-    new: [i32; 16],
-) -> NewValues
-    ensures within { (b : _) (t : _) → body (limits version clocks variables) (onward s.now at) ≡ got b t → result.within ≡ all (stays old) b.updates }
-    ensures values { (b : _) (t : _) → body (limits version clocks variables) (onward s.now at) ≡ got b t → result.values ≡ assign old b.updates new }
+pub fn assigned(s: &[u8], at: usize, limits: Limits, old: [i32; 16], new: [i32; 16]) -> NewValues
+    ensures within { (b : _) (t : _) → body limits (onward s.now at) ≡ got b t → result.within ≡ all (stays old) b.updates }
+    ensures values { (b : _) (t : _) → body limits (onward s.now at) ≡ got b t → result.values ≡ assign old b.updates new }
 {
-    let g = field::read_byte(s, at);
-    let ByteRead::Value(guards, at1) = g else {
+    let Ok((guards, at1)) = field::read_byte(s, at) else {
         return unassigned(new);
     };
-    let a = field::read_byte(s, at1);
-    let ByteRead::Value(updates, at2) = a else {
+    let Ok((updates, at2)) = field::read_byte(s, at1) else {
         return unassigned(new);
     };
-    let q = read_guards(s, at2, guards, clocks, variables);
-    let Reached::At(at3) = q else {
+    let Ok(at3) = read_guards(s, at2, guards, limits.clocks, limits.variables) else {
         return unassigned(new);
     };
-    all_assigned(s, at3, updates, version, variables, old, new)
+    all_assigned(s, at3, updates, limits.version, limits.variables, old, new)
 }

@@ -11,16 +11,14 @@ use lib.Seq.{drop-cons}
 use Rattle.lists.specs.Lists.{all}
 use Rattle.lists.proofs.Lists.{get_d_map}
 use Rattle.lists.proofs.Bools.{cond_yes, cond_no}
-use Rattle.reading.specs.Answer.{Answer, refused}
-use Rattle.reading.specs.Verdict.{verdict_of, verdict_number, or_kept}
-use Rattle.reading.specs.declared.verdict.Verdict.{Verdict}
-use Rattle.reading.specs.declared.verdict.Verdict.TheVariants as Vd
-use Rattle.reading.proofs.Verdicts.{was_done, was_refused, verdict_done_at}
+use Rattle.reading.specs.Answer.{Answer, done, refused}
+use Rattle.std.specs.Prelude.{Result, Ok, Err}
+use Rattle.reading.specs.Verdict.{number, answer_of, verdict_of, verdict_number, or_kept}
+use Rattle.reading.specs.declared.refusal.Refusal.{Refusal}
+use Rattle.reading.proofs.Verdicts.{was_done, was_refused, verdict_done_at, verdict_refused_at}
 use Rattle.clocks.specs.Longest.{Tells}
 use Rattle.chart_records.specs.Rules.{chart_of}
 use Rattle.chart_moves.specs.declared.configuration.Configuration.{Configuration}
-use Rattle.chart_machine.specs.declared.operation.Outcome.{Outcome}
-use Rattle.chart_machine.specs.Outcomes.{outcome_of}
 use Rattle.library.specs.Numbers.{number_of}
 use Rattle.library.specs.Flags.{are_flags, flags_of, bytes_of, Lent, lent, configuration_of, lent_after, number_or, no_flags, flagged}
 
@@ -75,14 +73,14 @@ unfolding bytes_of
 byte_at_lem flags i e h = sym (get_d_map _ flags i false 0 (omega (arith, e, length_bytes flags)))
 
 -- the refusal of bytes that are no flags, by what the check says
-module _ (file : List ℕ) {v : Verdict} (h : v ≡ verdict_of (chart_of file)) where
-  pub no_flags_passed : v ≡ Vd.Done → 17 ≡ no_flags file
+module _ (file : List ℕ) where
+  pub no_flags_passed : done tt ≡ verdict_of (chart_of file) → 17 ≡ no_flags file
   unfolding no_flags
-  no_flags_passed e = sym (ap (number_or 17) (verdict_done_at (chart_of file) (sym h ∙ e)).1)
+  no_flags_passed e = sym (ap (number_or 17) (verdict_done_at (chart_of file) (sym e)).1)
 
-  pub no_flags_refused : {k : ℕ} → v ≡ Vd.Refused k → k ≡ no_flags file
+  pub no_flags_refused : {k : ℕ} → refused k ≡ verdict_of (chart_of file) → k ≡ no_flags file
   unfolding no_flags
-  no_flags_refused e = sym (ap (number_or 17) (was_refused (chart_of file) h e))
+  no_flags_refused e = sym (ap (number_or 17) (verdict_refused_at (chart_of file) (sym e)))
 
 -- what is answered to what is lent
 module _ {A : Type 0} (file : List ℕ) (l : Lent) (a : Answer A) where
@@ -125,23 +123,15 @@ module _ (file : List ℕ) (l : Lent) (op : Configuration → Answer ℕ) (befor
   told_no_flags h e = let w = sym (flagged_no file l (op (configuration_of l)) h) in
       (e ∙ ap (λ (a : Answer ℕ). verdict_number (verdict_of a)) w, ap (or_kept before) w)
 
--- of what a call answers on σ: what is stored of it
-module _ (σ : Configuration) (a : Answer Configuration) {o : Outcome} (h : o ≡ outcome_of σ a) (l : Lent) where
-  its_verdict : o.verdict ≡ verdict_of a
-  unfolding outcome_of
-  its_verdict = ap (λ (p : Outcome). p.verdict) h
-
-  its_configuration : o.configuration ≡ or_kept σ a
-  unfolding outcome_of
-  its_configuration = ap (λ (p : Outcome). p.configuration) h
-
-  pub stored_done : o.verdict ≡ Vd.Done → {bytes : List ℕ} → bytes ≡ bytes_of o.configuration.active
-      → (0 ≡ number_of a) × (lent bytes o.configuration.variables o.configuration.clocks ≡ lent_after l a)
+-- of what a call answers: what is stored of it
+module _ (a : Answer Configuration) (r : Result Configuration Refusal) (h : answer_of r ≡ a) (l : Lent) where
+  pub stored_done : {σ : Configuration} → r ≡ Ok σ → {bytes : List ℕ} → bytes ≡ bytes_of σ.active
+      → (0 ≡ number_of a) × (lent bytes σ.variables σ.clocks ≡ lent_after l a)
   unfolding number_of lent_after
-  stored_done e b =
-      let w = was_done a its_verdict σ its_configuration e in
-      (sym (ap number_of w), ap (λ (bs : List ℕ). lent bs o.configuration.variables o.configuration.clocks) b ∙ sym (ap (lent_after l) w))
+  stored_done {σ} e b =
+      let w = was_done a r h e in
+      (sym (ap number_of w), ap (λ (bs : List ℕ). lent bs σ.variables σ.clocks) b ∙ sym (ap (lent_after l) w))
 
-  pub stored_refused : {k : ℕ} → o.verdict ≡ Vd.Refused k → {r : ℕ} → r ≡ verdict_number o.verdict → (r ≡ number_of a) × (l ≡ lent_after l a)
+  pub stored_refused : {k : Refusal} → r ≡ Err k → {m : ℕ} → m ≡ number k → (m ≡ number_of a) × (l ≡ lent_after l a)
   unfolding number_of lent_after
-  stored_refused e n = (n ∙ ap verdict_number its_verdict, sym (ap (lent_after l) (was_refused a its_verdict e)))
+  stored_refused e q = let w = was_refused a r h e in (q ∙ sym (ap number_of w), sym (ap (lent_after l) w))

@@ -1,13 +1,13 @@
 -- Answers as numbers, and a network's configuration as the arrays that are lent.
 use Rattle.std.specs.Prelude.{ℕ, List, length, ℤ}
 use Rattle.reading.specs.Answer.{Answer, done, refused}
-use Rattle.reading.specs.Verdict.{verdict_of, verdict_number, or_kept}
+use Rattle.reading.specs.Verdict.{verdict_number, or_kept}
 use Rattle.network_moves.specs.Machine as network
 use Rattle.network_moves.specs.declared.configuration.Configuration as net
 
 -- 0, or the number of the refusal
 unfoldable pub number_of : {A : Type 0} → Answer A → ℕ
-number_of a = verdict_number (verdict_of a)
+number_of a = verdict_number a
 
 -- what is lent, after an operation: the result, or, where it is refused, what was lent
 unfoldable pub after : {A : Type 0} → A → Answer A → A

@@ -5,17 +5,16 @@ ghost use Rattle.clocks.specs.Longest.{Tells};
 ghost use Rattle.chart_records.specs.Rules.{chart_of};
 ghost use Rattle.chart_moves.specs.Machine.{start_of};
 ghost use Rattle.chart_moves.specs.declared.configuration.Configuration.{Configuration as Given};
-ghost use Rattle.chart_machine.specs.Outcomes.{outcome_of};
+ghost use Rattle.reading.specs.Verdict.{answer_of};
 ghost use Rattle.library.specs.Flags.{lent, lent_after, step_lent, wait_lent, longest_lent};
 ghost use Rattle.library.specs.Numbers.{number_of};
 
 use crate::flags::{are_flags, bytes_of, flags_of, no_flags};
 use chart::check::check;
 use chart_machine::operation;
-use chart_machine::operation::Outcome;
 use chart_moves::configuration::Configuration;
 use clocks::left::tell;
-use reading::verdict::{Verdict, number_of};
+use reading::refusal::{Refusal, number_of};
 
 // Whether a file holds a chart.
 #[unsafe(no_mangle)]
@@ -27,25 +26,25 @@ pub extern "C" fn figrummy_check_chart(file: &[u8]) -> u8
 
 // Stores what a call leads to, and tells its number. A refused call leaves what is lent as it was.
 fn store(
-    o: Outcome,
+    answer: Result<Configuration, Refusal>,
     active: &mut [u8; Configuration::STATES],
     variables: &mut [i32; Configuration::VARIABLES],
     clocks: &mut [u32; Configuration::CLOCKS],
 ) -> u8
-    ensures { (σ : Given) (a : Answer Given) → o ≡ outcome_of σ a → (result ≡ number_of a) × (lent active.new variables.new clocks.new ≡ lent_after (lent active.old variables.old clocks.old) a) }
+    ensures { (a : Answer Given) → answer_of answer ≡ a → (result ≡ number_of a) × (lent active.new variables.new clocks.new ≡ lent_after (lent active.old variables.old clocks.old) a) }
 {
-    let verdict = o.verdict;
-    let Verdict::Done = verdict else {
-        return number_of(verdict);
-    };
-    let c = o.configuration;
-    let states = c.active;
-    let values = c.variables;
-    let times = c.clocks;
-    *active = bytes_of(states);
-    *variables = values;
-    *clocks = times;
-    0
+    match answer {
+        Ok(c) => {
+            let states = c.active;
+            let values = c.variables;
+            let times = c.clocks;
+            *active = bytes_of(states);
+            *variables = values;
+            *clocks = times;
+            0
+        }
+        Err(refusal) => refusal.number(),
+    }
 }
 
 // The configuration in which a chart starts.

@@ -4,7 +4,7 @@ ghost use Rattle.library.specs.Flags.{are_flags, flags_of, bytes_of, no_flags};
 
 use chart::check::check;
 use chart_moves::configuration::Configuration;
-use reading::verdict::Verdict;
+use reading::refusal::Refusal;
 
 // Whether each byte is 0 or 1. No branch depends on a byte, so that the compiler makes vector instructions of the test.
 pub fn are_flags(bytes: [u8; Configuration::STATES]) -> bool
@@ -49,9 +49,8 @@ pub fn bytes_of(flags: [bool; Configuration::STATES]) -> [u8; Configuration::STA
 pub fn no_flags(file: &[u8]) -> u8
     ensures { result ≡ no_flags file.now }
 {
-    let verdict = check(file);
-    match verdict {
-        Verdict::Done => 17,
-        Verdict::Refused(k) => k,
+    match check(file) {
+        Ok(()) => Refusal::ChartConfiguration.number(),
+        Err(refusal) => refusal.number(),
     }
 }

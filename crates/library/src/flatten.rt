@@ -4,7 +4,7 @@ ghost use Rattle.flattening.specs.File.{flatten_of};
 ghost use Rattle.flattener.specs.Outcomes.{lent_after};
 ghost use Rattle.library.specs.Numbers.{number_of, length_after};
 
-use flattener::operation::{Flattened, flatten};
+use flattener::operation::flatten;
 
 // The network of the chart in a file, written into the buffer lent, and its length. Bytes after the network keep their
 // values.
@@ -14,12 +14,11 @@ pub extern "C" fn figrummy_flatten(file: &[u8], out: &mut [u8], size: &mut usize
     ensures size { size.new ≡ length_after size.old (flatten_of file.now (length out.old)) }
     ensures bytes { out.new ≡ lent_after out.old (flatten_of file.now (length out.old)) }
 {
-    let answer = flatten(file, out);
-    match answer {
-        Flattened::Length(n) => {
+    match flatten(file, out) {
+        Ok(n) => {
             *size = n;
             0
         }
-        Flattened::Refused(k) => k,
+        Err(refusal) => refusal.number(),
     }
 }

@@ -4,39 +4,38 @@ ghost use Rattle.reading.specs.Answer.{Answer};
 ghost use Rattle.clocks.specs.Longest.{Tells};
 ghost use Rattle.network_moves.specs.Machine.{start_of, step_of, wait_of, longest_of};
 ghost use Rattle.network_moves.specs.declared.configuration.Configuration.{Configuration as Given};
-ghost use Rattle.network_machine.specs.Answers.{outcome_of};
+ghost use Rattle.reading.specs.Verdict.{answer_of};
 ghost use Rattle.library.specs.Numbers.{number_of, after, network_parts as parts, network_stepped, network_waited};
 
 use clocks::left::tell;
 use network_machine::operation;
-use network_machine::outcome::{Outcome, number_of};
 use network_moves::configuration::Configuration;
-use reading::verdict::Verdict;
+use reading::refusal::Refusal;
 
 // Stores what a call leads to, and tells its number. A refused call leaves what is lent as it was.
 fn store(
-    m: Outcome,
+    answer: Result<Configuration, Refusal>,
     locations: &mut [u8; Configuration::AUTOMATA],
     flags: &mut [u8; Configuration::AUTOMATA],
     variables: &mut [i32; Configuration::VARIABLES],
     clocks: &mut [u32; Configuration::CLOCKS],
 ) -> u8
-    ensures { (σ : Given) (a : Answer Given) → m ≡ outcome_of σ a → (result ≡ number_of a) × (parts locations.new flags.new variables.new clocks.new ≡ after (parts locations.old flags.old variables.old clocks.old) a) }
+    ensures { (a : Answer Given) → answer_of answer ≡ a → (result ≡ number_of a) × (parts locations.new flags.new variables.new clocks.new ≡ after (parts locations.old flags.old variables.old clocks.old) a) }
 {
-    let verdict = m.verdict;
-    let Verdict::Done = verdict else {
-        return number_of(m);
-    };
-    let c = m.configuration;
-    let places = c.locations;
-    let marks = c.flags;
-    let values = c.variables;
-    let times = c.clocks;
-    *locations = places;
-    *flags = marks;
-    *variables = values;
-    *clocks = times;
-    0
+    match answer {
+        Ok(c) => {
+            let places = c.locations;
+            let marks = c.flags;
+            let values = c.variables;
+            let times = c.clocks;
+            *locations = places;
+            *flags = marks;
+            *variables = values;
+            *clocks = times;
+            0
+        }
+        Err(refusal) => refusal.number(),
+    }
 }
 
 // The configuration in which a network starts.

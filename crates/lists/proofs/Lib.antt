@@ -9,6 +9,7 @@ pub mod Images
 pub mod Lists
 pub mod Loops
 pub mod Once
+pub mod Options
 pub mod Pairwise
 pub mod Parts
 pub mod Position

@@ -1,5 +1,4 @@
-// Lists, bits of numbers and sets of marks: definitions and laws that every crate uses, tests of marks, and the least of two numbers.
+// Lists, bits of numbers and sets of marks: definitions and laws that every crate uses, tests of marks.
 #![tactic(auto)]
 
 pub mod mark;
-pub mod number;

@@ -4,26 +4,50 @@ use mathlib.Core.Bool.{Bool, true, false}
 use mathlib.Core.List.{List}
 use Prim.Native.Nat.{ℕ, ◌-◌, ◌≤◌, ◌<◌, ◌^◌}
 use native.Mathlib.Omega.{arith}
-use lib.ListN.{length, take, drop, replicate}
+use lib.ListN.{length, take, drop}
 use Rattle.lists.specs.Lists.{all}
 use Rattle.reading.specs.Reading.{Read, got, fault, yield, ◌>>◌, byte, byte2, many, recorded, skipped, mapped}
 use Rattle.reading.specs.Places.{onward, fault_of}
 use Rattle.reading.specs.Answer.{Answer, done, refused, unless, ◌>>=◌}
 use Rattle.reading.specs.declared.field.Fault.{Fault}
 use Rattle.reading.specs.declared.field.Fault.TheVariants as Fl
-use Rattle.reading.proofs.Places.{bind_got, bind_fault, next_got, next_fault, end_none, end_some, onward_onward, length_onward, part_onward}
+use Rattle.reading.proofs.Places.{bind_got, bind_fault, next_got, next_fault, end_none, end_some, onward_onward, length_onward, part_onward, handed_on}
 use Rattle.reading.proofs.Reading.{mapped_at, fault_at, many_at}
 use Rattle.network_records.specs.Network.{Location, Edge, Network, location, in_range, records, numbered, sound, counts_of, read_network, network_of}
 use Rattle.network_records.specs.Edges.{edge_in, keeps_once, EdgesAt}
 use Rattle.network_records.specs.Layout.{Laid}
-use Rattle.network.specs.Checks.{fault_number, sound_of, CheckedAs, FindingFits, ClearedIfRefused}
-use Rattle.network_records.specs.Headers.{HeaderFits}
+use Rattle.network.specs.Checks.{fault_number, sound_of, CheckedAs}
 use Rattle.network_records.specs.declared.header.Counts.{Counts}
-use Rattle.network_records.specs.declared.header.HeaderRead.{HeaderRead}
-use Rattle.network_records.specs.declared.header.HeaderRead.TheVariants as Hd
-use Rattle.network.specs.declared.check.Finding.{Finding}
-use Rattle.network.specs.declared.check.Finding.TheVariants as Fd
+use Rattle.std.specs.Prelude.{Option, Some, None, Result, Ok, Err, ok_or}
+use Rattle.std.specs.Result.{MatchResult, IsErrAnd}
+use Rattle.reading.specs.declared.refusal.Refusal.{Refusal}
+use Rattle.reading.specs.Verdict.{number}
 use Rattle.network_records.proofs.Records.{located}
+
+-- what `map_err` says of a result: it has the value, or the error that the new one is made of
+module _ {T E : Type 0} (D : Type 0) where
+  pub mapped_ok : (r : Result T E) (x : T) → MatchResult r (λ y. ◌≡◌ {A = Result T D} (Ok x) (Ok y)) (λ e. ⊥) → r ≡ Ok x
+  mapped_ok (Ok y) x h = cc
+  mapped_ok (Err e) x h = absurd h
+
+  pub mapped_err : (r : Result T E) (Q : E → Type 0) (d : D) → MatchResult r (λ y. ◌≡◌ {A = Result T D} (Err d) (Ok y)) Q → (e : E) × (r ≡ Err e) × Q e
+  mapped_err (Ok y) Q d h = cc
+  mapped_err (Err e) Q d h = (e, refl, h)
+
+-- what `ok_or` says of an option
+module _ {T E : Type 0} where
+  pub some_of : (o : Option T) (e : E) (x : T) → Ok x ≡ ok_or o e → o ≡ Some x
+  some_of (Some y) e x h = cc
+  some_of None e x h = cc
+
+  pub none_of : (o : Option T) (e d : E) → Err d ≡ ok_or o e → (o ≡ None) × (d ≡ e)
+  none_of (Some y) e d h = cc
+  none_of None e d h = (refl, cc)
+
+-- a refusal that is handed on
+pub refused_as : (rest offsets : List ℕ) {d : Answer Network} (v : Result Counts Refusal) (r : Refusal) → IsErrAnd v (λ x. x ≡ r) → d ≡ refused (number r)
+    → CheckedAs rest offsets d v
+refused_as rest offsets {d} v r h e = subst (CheckedAs rest offsets d) (sym (handed_on v h)) e
 
 sound_fault : {q : Read Network} (f : Fault) → q ≡ fault (fault_of f) → sound_of q ≡ refused (fault_number f)
 unfolding numbered ◌>>=◌
@@ -35,10 +59,10 @@ unfolding numbered ◌>>=◌
 sound_got h = rw h
 
 module _ (k : Counts) (rest : List ℕ) where
-  abbrev Locations : Read (List Location)
+  abbrev pub Locations : Read (List Location)
   Locations = many k.locations (recorded byte (location k.automata k.clocks)) (onward rest 8)
 
-  abbrev EdgesFrom : ℕ → Read (List Edge)
+  abbrev pub EdgesFrom : ℕ → Read (List Edge)
   EdgesFrom at = many k.edges (recorded byte2 (edge_in k)) (onward rest at)
 
   abbrev net : List Location → List Edge → Network
@@ -97,37 +121,15 @@ module _ (file : List ℕ) where
   network_sound {k} h = rw (h, onward_onward file 5 8)
 
   -- the check of the bytes after version and length is that of the file
-  pub checked_file : {k : Counts} → counts_of file ≡ done k → (offsets : List ℕ) (v : Finding)
+  pub checked_file : {k : Counts} → counts_of file ≡ done k → (offsets : List ℕ) (v : Result Counts Refusal)
       → CheckedAs (take (length file - 5) (drop 5 file)) offsets (sound_of (records k (onward (take (length file - 5) (drop 5 file)) 8))) v → CheckedAs (onward file 5) offsets (network_of file) v
   checked_file {k} e offsets v h =
       subst (λ (d : Answer Network). CheckedAs (onward file 5) offsets d v) (sym (network_sound e)) (subst (λ (p : List ℕ). CheckedAs p offsets (sound_of (records k (onward p 8))) v) (part_onward file 5) h)
 
-  pub header_fits : {q : HeaderRead} {k : Counts} → HeaderFits file q → q ≡ Hd.Counts k → (13 ≤ length file) × (length file - 5 < 2 ^ 32)
-  header_fits h e = subst (HeaderFits file) e h
-
   pub rest_fits : (13 ≤ length file) × (length file - 5 < 2 ^ 32) → length (take (length file - 5) (drop 5 file)) < 2 ^ 32
   rest_fits h = rw (part_onward file 5) (omega (arith, h, length_onward file 5))
 
-  -- a refusal, and the table that it leaves
-  module _ (offsets : List ℕ) {v : Finding} {m : ℕ} (e : v ≡ Fd.Refused m) where
-    pub refused_as : network_of file ≡ refused m → CheckedAs (onward file 5) offsets (network_of file) v
-    refused_as h = subst (CheckedAs (onward file 5) offsets (network_of file)) (sym e) h
-
-    pub refused_leaves : offsets ≡ replicate 1024 0 → FindingFits file v × ClearedIfRefused offsets v
-    refused_leaves z = (subst (FindingFits file) (sym e) tt, subst (ClearedIfRefused offsets) (sym e) z)
-
-  -- a file that is right keeps its table
-  pub right_leaves : (offsets : List ℕ) {v : Finding} {k : Counts} → v ≡ Fd.Counts k → 13 ≤ length file
-      → FindingFits file v × ClearedIfRefused offsets v
-  right_leaves offsets e l = (subst (FindingFits file) (sym e) l, subst (ClearedIfRefused offsets) (sym e) tt)
-
-  -- what the check of a file says of its network
-  module _ (offsets : List ℕ) {d : Answer Network} {v : Finding} where
-    pub found : {k : Counts} → CheckedAs (onward file 5) offsets d v → v ≡ Fd.Counts k → (n : Network) × (d ≡ done n) × Laid (take (length file - 5) (drop 5 file)) k offsets n
-    found {k} h e = let w = subst (CheckedAs (onward file 5) offsets d) e h in (w.0, w.1, subst (λ (p : List ℕ). Laid p k offsets w.0) (sym (part_onward file 5)) w.2)
-
-    pub not_found : {m : ℕ} → CheckedAs (onward file 5) offsets d v → v ≡ Fd.Refused m → d ≡ refused m
-    not_found h e = subst (CheckedAs (onward file 5) offsets d) e h
-
-  pub found_fits : {v : Finding} {k : Counts} → FindingFits file v → v ≡ Fd.Counts k → 13 ≤ length file
-  found_fits h e = subst (FindingFits file) e h
+  -- what the check of a file says of its network, in the bytes as a callee has them
+  pub found : (offsets : List ℕ) {d : Answer Network} {k : Counts} → CheckedAs (onward file 5) offsets d (Ok k)
+      → (n : Network) × (d ≡ done n) × Laid (take (length file - 5) (drop 5 file)) k offsets n
+  found offsets {k = k} h = (h.0, h.1, subst (λ (p : List ℕ). Laid p k offsets h.0) (sym (part_onward file 5)) h.2)

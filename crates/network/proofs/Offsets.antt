@@ -1,11 +1,10 @@
 -- The edges of a checked file, each at its offset.
 use mathlib.Core.Path.{◌≡◌, refl, sym, ap, ap₂, ◌∙◌}
-use mathlib.Core.Bool.{Bool, true, false, ◌&&◌, ◌||◌, or-false, and-false}
+use mathlib.Core.Bool.{Bool, true, false, ◌&&◌}
 use mathlib.Core.List.{List, [], ◌∷◌}
 use Prim.Native.Nat.{ℕ, ◌+◌, ◌-◌, ◌≤◌, ◌<◌}
 use native.Mathlib.Omega.{arith}
-use borrow.Author.Tests.{eq-eqb, ne_eqb, le-ltb}
-use lib.Dec.{ltb, eqb}
+use lib.Dec.{eqb}
 use lib.ListN.{length, get_or, drop, length-drop, drop_of_length-le}
 use Rattle.reading.specs.Reading.{got, byte2, recorded}
 use Rattle.reading.specs.Places.{onward}
@@ -69,17 +68,3 @@ module _ {rest : List ℕ} {k : Counts} {offsets : List ℕ} {n : Network} (L : 
       go [] l = refl
       go (e ∷ []) l = refl
       go (e ∷ (f ∷ es)) l = absurd (omega arith)
-
--- the order of lists of numbers, by the first that differ
-module _ {x y : ℕ} (xs ys : List ℕ) where
-  pub lex_first : (x ≡ y → ⊥) → lex_less (x ∷ xs) (y ∷ ys) ≡ ltb x y
-  unfolding lex_less
-  lex_first h = rw (ne_eqb x y h) (or-false (ltb x y))
-
-  pub lex_same : x ≡ y → lex_less (x ∷ xs) (y ∷ ys) ≡ lex_less xs ys
-  unfolding lex_less
-  lex_same h = rw (eq-eqb x y h, le-ltb x y (omega arith))
-
-pub lex_last : (x y : ℕ) → lex_less (x ∷ []) (y ∷ []) ≡ ltb x y
-unfolding lex_less
-lex_last x y = ap (λ (b : Bool). ltb x y || b) (and-false (eqb x y)) ∙ or-false (ltb x y)

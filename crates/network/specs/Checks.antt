@@ -1,15 +1,15 @@
 -- What the check of a file answers, and what it leaves in the table of offsets.
-use Rattle.std.specs.Prelude.{ℕ, ◌-◌, ◌≤◌, length, replicate, ◌≡◌, List}
+use Rattle.std.specs.Prelude.{ℕ, ◌≤◌, length, replicate, ◌≡◌, List, Result, Ok, Err}
 use Rattle.reading.specs.Reading.{Read}
 use Rattle.reading.specs.Answer.{Answer, done, refused, unless}
 use Rattle.reading.specs.Answer as answer
 use Rattle.reading.specs.declared.field.Fault.{Fault}
 use Rattle.reading.specs.declared.field.Fault.TheVariants as Fl
+use Rattle.reading.specs.declared.refusal.Refusal.{Refusal}
+use Rattle.reading.specs.Verdict.{number}
 use Rattle.network_records.specs.Network.{Network, numbered, sound}
 use Rattle.network_records.specs.Layout.{Laid}
 use Rattle.network_records.specs.declared.header.Counts.{Counts}
-use Rattle.network.specs.declared.check.Finding.{Finding}
-use Rattle.network.specs.declared.check.Finding.TheVariants as Fd
 
 -- 24 for a length, 25 for a field
 abbrev pub fault_number : Fault → ℕ
@@ -21,20 +21,16 @@ abbrev pub sound_of : Read Network → Answer Network
 sound_of q = answer.◌>>=◌ (numbered q) (λ n. unless 25 (sound n) (done n))
 
 -- the network d is in the bytes where the answer says, or refused by the number that it has
-abbrev pub CheckedAs : List ℕ → List ℕ → Answer Network → Finding → Type 0
-CheckedAs rest offsets d (Fd.Counts k) = (n : Network) × (d ≡ done n) × Laid rest k offsets n
-CheckedAs rest offsets d (Fd.Refused m) = d ≡ refused m
-
-abbrev pub finding_number : Finding → ℕ
-finding_number (Fd.Counts k) = 0
-finding_number (Fd.Refused m) = m
+abbrev pub CheckedAs : List ℕ → List ℕ → Answer Network → Result Counts Refusal → Type 0
+CheckedAs rest offsets d (Ok k) = (n : Network) × (d ≡ done n) × Laid rest k offsets n
+CheckedAs rest offsets d (Err r) = d ≡ refused (number r)
 
 -- a file that is right has its version, length and counts
-abbrev pub FindingFits : List ℕ → Finding → Type 0
-FindingFits file (Fd.Counts k) = 13 ≤ length file
-FindingFits file (Fd.Refused m) = Unit
+abbrev pub FindingFits : List ℕ → Result Counts Refusal → Type 0
+FindingFits file (Ok k) = 13 ≤ length file
+FindingFits file (Err r) = Unit
 
 -- a file that is refused leaves the table of offsets all 0
-abbrev pub ClearedIfRefused : List ℕ → Finding → Type 0
-ClearedIfRefused offsets (Fd.Counts k) = Unit
-ClearedIfRefused offsets (Fd.Refused m) = offsets ≡ replicate 1024 0
+abbrev pub ClearedIfRefused : List ℕ → Result Counts Refusal → Type 0
+ClearedIfRefused offsets (Ok k) = Unit
+ClearedIfRefused offsets (Err r) = offsets ≡ replicate 1024 0

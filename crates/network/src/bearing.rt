@@ -4,7 +4,7 @@ ghost use Rattle.network_records.specs.Network.{Network, network_of};
 ghost use Rattle.network.specs.Bearing.{transition_of, transitions_of, transitions_in};
 ghost use Rattle.network_records.specs.Layout.{Laid};
 
-use crate::check::{Finding, check};
+use crate::check::check;
 use crate::laid::edge_of;
 use network_records::header::Counts;
 
@@ -47,9 +47,8 @@ pub fn transitions_of(file: &[u8], list: &[u16]) -> [u8; 16]
     ensures { result ≡ transitions_in (network_of file.now) list.now }
 {
     let mut offsets = [0; 1024];
-    let finding = check(file, &mut offsets);
-    let Finding::Counts(counts) = finding else {
-        return [255; 16];
-    };
-    transitions_at(&file[5..], counts, &offsets, list)
+    match check(file, &mut offsets) {
+        Ok(counts) => transitions_at(&file[5..], counts, &offsets, list),
+        Err(_) => [255; 16],
+    }
 }

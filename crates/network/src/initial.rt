@@ -19,12 +19,10 @@ fn is_initial_of(rest: &[u8], counts: Counts, i: u8, automaton: u8) -> bool
 fn initial_of(rest: &[u8], counts: Counts, automaton: u8) -> u8
     ensures { (n : Network) → Located rest.now counts n → result ≡ get_or (initials n automaton) 0 0 }
 {
-    let mut i = 0;
-    while i < counts.locations {
+    for i in 0..counts.locations {
         if is_initial_of(rest, counts, i, automaton) {
             return i;
         }
-        i += 1;
     }
     0
 }
@@ -34,12 +32,10 @@ fn count_initials(rest: &[u8], counts: Counts, automaton: u8) -> u8
     ensures { (n : Network) → Located rest.now counts n → result ≡ length (initials n automaton) }
 {
     let mut count = 0;
-    let mut i = 0;
-    while i < counts.locations {
+    for i in 0..counts.locations {
         if is_initial_of(rest, counts, i, automaton) {
             count += 1;
         }
-        i += 1;
     }
     count
 }
@@ -48,12 +44,10 @@ fn count_initials(rest: &[u8], counts: Counts, automaton: u8) -> u8
 pub fn one_initial_each(rest: &[u8], counts: Counts) -> bool
     ensures { (n : Network) → Located rest.now counts n → result ≡ all (λ a. eqb (length (initials n a)) 1) (below n.automata) }
 {
-    let mut a = 0;
-    while a < counts.automata {
+    for a in 0..counts.automata {
         if count_initials(rest, counts, a) != 1 {
             return false;
         }
-        a += 1;
     }
     true
 }

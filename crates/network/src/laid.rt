@@ -38,13 +38,11 @@ fn joins(rest: &[u8], counts: Counts, e: Edge) -> bool
 pub fn all_join(rest: &[u8], counts: Counts, offsets: &[u32; 1024]) -> bool
     ensures { (n : Network) → Laid rest.now counts offsets.now n → result ≡ all (λ e. eqb (owner_of n e) (location_at n e.target).automaton) n.edges }
 {
-    let mut i = 0;
-    while i < counts.edges {
+    for i in 0..counts.edges {
         let e = edge_of(rest, offsets, i);
         if !joins(rest, counts, e) {
             return false;
         }
-        i += 1;
     }
     true
 }
@@ -53,33 +51,21 @@ pub fn all_join(rest: &[u8], counts: Counts, offsets: &[u32; 1024]) -> bool
 fn precedes(x: Edge, y: Edge) -> bool
     ensures { result ≡ lex_less (key_of x) (key_of y) }
 {
-    if x.source != y.source {
-        return x.source < y.source;
-    }
-    if x.target != y.target {
-        return x.target < y.target;
-    }
-    if x.transition != y.transition {
-        return x.transition < y.transition;
-    }
-    if x.tested != y.tested {
-        return x.tested < y.tested;
-    }
-    x.channel < y.channel
+    let x_key = (x.source, x.target, x.transition, x.tested, x.channel);
+    let y_key = (y.source, y.target, y.transition, y.tested, y.channel);
+    x_key < y_key
 }
 
 // Whether the edges are in order, and none stands twice.
 pub fn all_ascend(rest: &[u8], counts: Counts, offsets: &[u32; 1024]) -> bool
     ensures { (n : Network) → Laid rest.now counts offsets.now n → result ≡ edges_ascend n.edges }
 {
-    let mut i = 1;
-    while i < counts.edges {
+    for i in 1..counts.edges {
         let a = edge_of(rest, offsets, i - 1);
         let b = edge_of(rest, offsets, i);
         if !precedes(a, b) {
             return false;
         }
-        i += 1;
     }
     true
 }

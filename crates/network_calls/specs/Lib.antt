@@ -1,2 +1,2 @@
--- What the machine answers to a script's calls.
+-- The operations of the machine that a script calls.
 pub mod Calls

@@ -1,10 +1,9 @@
 -- What a call in place answers, and what it leaves.
 use Rattle.std.specs.Prelude.{◌≡◌, ℕ}
 use Rattle.reading.specs.Answer.{Answer}
-use Rattle.reading.specs.Verdict.{verdict_number}
+use Rattle.reading.specs.Verdict.{verdict_number, or_kept}
 use Rattle.network_moves.specs.declared.configuration.Configuration.{Configuration}
-use Rattle.network_machine.specs.Answers.{outcome_of}
 
 -- what becomes of a configuration in place, and the number that the call answers with
 abbrev pub Moves : Configuration → Answer Configuration → Configuration → ℕ → Type 0
-Moves before d after number = (number ≡ verdict_number (outcome_of before d).verdict) × (after ≡ (outcome_of before d).configuration)
+Moves before d after number = (number ≡ verdict_number d) × (after ≡ or_kept before d)

@@ -2,44 +2,37 @@
 // leaves what it was lent as it was. The names differ from those of the library, since a program may link both archives, and two
 // that are linked together cannot both define a name. Each function calls the one by value and stores its result.
 ghost use Rattle.std.specs.Prelude.{◌≡◌};
+ghost use Rattle.reading.specs.Answer.{Answer};
+ghost use Rattle.reading.specs.Verdict.{answer_of};
 ghost use Rattle.clocks.specs.Longest.{Tells};
 ghost use Rattle.network_moves.specs.Machine.{start_of, step_of, wait_of, longest_of};
-ghost use Rattle.network_machine.specs.Answers.{outcome_of};
+ghost use Rattle.network_moves.specs.declared.configuration.Configuration.{Configuration as Given};
 ghost use Rattle.network_in_place.specs.Moves.{Moves};
 
 use clocks::left::tell;
 use network_machine::operation::{longest, start, step, wait};
-use network_machine::outcome::{Outcome, number_of, refused};
 use network_moves::configuration::Configuration;
-use reading::verdict::Verdict;
+use reading::refusal::Refusal;
 
-// The configuration after a call.
-pub fn configuration_of(m: Outcome) -> Configuration
-    ensures { result ≡ m.configuration }
+// Stores what a call leads to, and tells its number. A refused call leaves what is lent as it was.
+fn store(answer: Result<Configuration, Refusal>, c: &mut Configuration) -> u8
+    ensures { (a : Answer Given) → answer_of answer ≡ a → Moves c.old a c.new result }
 {
-    let c = m.configuration;
-    c
-}
-
-// The configuration in which a network starts, in the place of c.
-fn start_over(file: &[u8], c: Configuration) -> Outcome
-    ensures { result ≡ outcome_of c (start_of file.now) }
-{
-    let m = start(file);
-    let v = m.verdict;
-    match v {
-        Verdict::Done => m,
-        Verdict::Refused(number) => refused(number, c),
+    match answer {
+        Ok(next) => {
+            *c = next;
+            0
+        }
+        Err(refusal) => refusal.number(),
     }
 }
 
+// The configuration in which a network starts.
 #[unsafe(no_mangle)]
 pub extern "C" fn figrummy_start_in_place(file: &[u8], c: &mut Configuration) -> u8
     ensures { Moves c.old (start_of file.now) c.new result }
 {
-    let m = start_over(file, *c);
-    *c = configuration_of(m);
-    number_of(m)
+    store(start(file), c)
 }
 
 // Along the edges of a list.
@@ -47,9 +40,7 @@ pub extern "C" fn figrummy_start_in_place(file: &[u8], c: &mut Configuration) ->
 pub extern "C" fn figrummy_step_in_place(file: &[u8], c: &mut Configuration, list: &[u16]) -> u8
     ensures { Moves c.old (step_of file.now c.old list.now) c.new result }
 {
-    let m = step(file, *c, list);
-    *c = configuration_of(m);
-    number_of(m)
+    store(step(file, *c, list), c)
 }
 
 // So many ticks later.
@@ -57,19 +48,10 @@ pub extern "C" fn figrummy_step_in_place(file: &[u8], c: &mut Configuration, lis
 pub extern "C" fn figrummy_wait_in_place(file: &[u8], c: &mut Configuration, ticks: u32) -> u8
     ensures { Moves c.old (wait_of file.now c.old ticks) c.new result }
 {
-    let m = wait(file, *c, ticks);
-    *c = configuration_of(m);
-    number_of(m)
+    store(wait(file, *c, ticks), c)
 }
 
-// How long a wait may be, told in the ticks that are lent.
-fn tell_longest(file: &[u8], c: Configuration, ticks: &mut u32) -> u8
-    ensures { Tells ticks.old (longest_of file.now c) ticks.new result }
-{
-    tell(longest(file, c), ticks)
-}
-
-// The same of the board's configuration, which is only read.
+// How long a wait of the board's configuration may be, told in the ticks that are lent. The configuration is only read.
 #[unsafe(no_mangle)]
 pub extern "C" fn figrummy_longest_wait_in_place(
     file: &[u8],
@@ -78,5 +60,5 @@ pub extern "C" fn figrummy_longest_wait_in_place(
 ) -> u8
     ensures { Tells ticks.old (longest_of file.now c.now) ticks.new result }
 {
-    tell_longest(file, *c, ticks)
+    tell(longest(file, *c), ticks)
 }

@@ -1,1 +1,1 @@
-pub mod Answers
+-- This crate has no definitions of its own: those of its operations are in network_moves (Machine).

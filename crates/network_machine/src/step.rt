@@ -1,19 +1,19 @@
 // Taking edges.
 ghost use Rattle.std.specs.Prelude.{◌≡◌, true};
 ghost use Rattle.lists.specs.Lists.{any, implies};
+ghost use Rattle.reading.specs.Verdict.{answer_of};
 ghost use Rattle.steps.specs.Moves.{known};
 ghost use Rattle.network_records.specs.Network.{Network, urgent_at, edge_at};
 ghost use Rattle.network_moves.specs.Choices.{Known};
 ghost use Rattle.network_moves.specs.Machine.{urgent, is_configuration, step};
-ghost use Rattle.network_machine.specs.Answers.{outcome_of};
 ghost use Rattle.network_records.specs.Layout.{Laid};
 
-use crate::outcome::{Outcome, outcome_by, refused};
 use network_moves::active::{all_active, any_urgent};
 use network_moves::after::configuration_after;
 use network_moves::choice::is_allowed;
 use network_moves::configuration::{Configuration, bounds_kept, is_configuration, urgent};
 use network_records::header::Counts;
+use reading::refusal::Refusal;
 use steps::step::last_tests;
 
 // Whether an edge of the list leaves an urgent location, if one is occupied.
@@ -38,21 +38,22 @@ fn step_along(
     offsets: &[u32; 1024],
     c: Configuration,
     list: &[u16],
-) -> Outcome
-    ensures { (n : Network) → Laid rest.now counts offsets.now n → is_configuration n c ≡ true → known counts.edges list.now ≡ true → result ≡ outcome_of c (step n c list.now) }
+) -> Result<Configuration, Refusal>
+    ensures { (n : Network) → Laid rest.now counts offsets.now n → is_configuration n c ≡ true → known counts.edges list.now ≡ true → answer_of result ≡ step n c list.now }
 {
     if !all_active(rest, counts, offsets, c, list) {
-        return refused(19, c);
+        return Err(Refusal::Inactive);
     }
     if !urgency_kept(rest, counts, offsets, c, list) {
-        return refused(27, c);
+        return Err(Refusal::Urgent);
     }
     let allowed = is_allowed(rest, counts, offsets, c, list);
     let after = configuration_after(rest, counts, offsets, list, c);
     let within = after.within;
     let next = after.configuration;
     let kept = bounds_kept(rest, counts, next);
-    outcome_by(last_tests(allowed, within, kept), c, next)
+    last_tests(allowed, within, kept)?;
+    Ok(next)
 }
 
 // A step on a checked file.
@@ -62,14 +63,14 @@ pub fn step_checked(
     offsets: &[u32; 1024],
     c: Configuration,
     list: &[u16],
-) -> Outcome
-    ensures { (n : Network) → Laid rest.now counts offsets.now n → result ≡ outcome_of c (step n c list.now) }
+) -> Result<Configuration, Refusal>
+    ensures { (n : Network) → Laid rest.now counts offsets.now n → answer_of result ≡ step n c list.now }
 {
     if !is_configuration(rest, counts, c) {
-        return refused(26, c);
+        return Err(Refusal::NetworkConfiguration);
     }
     if !steps::step::known(list, counts.edges as usize) {
-        return refused(18, c);
+        return Err(Refusal::List);
     }
     step_along(rest, counts, offsets, c, list)
 }

@@ -3,7 +3,7 @@ use mathlib.Core.Path.{◌≡◌, sym, ap, ap₂, ◌∙◌}
 use mathlib.Core.Bool.{Bool, true, false, cond, ◌&&◌, and-false}
 use mathlib.Core.Logic.{◌≢◌}
 use mathlib.Core.List.{List, map, map-map}
-use Prim.Native.Nat.{ℕ, ◌-◌}
+use Prim.Native.Nat.{ℕ}
 use native.Mathlib.Omega.{arith}
 use lib.ListN.{length, take}
 use Rattle.lists.specs.Lists.{below}
@@ -37,10 +37,10 @@ module _ {rest : List ℕ} {k : Counts} {offsets : List ℕ} {n : Network} (L : 
   owner_known m e = absurd (omega (arith, few_owners L.located (edge_at n m).source, e))
 
   -- no further active receiver fits, by the owners of the active receivers and of the chosen edges
-  pub none_fit : (channel : ℕ) (ms receivers : List ℕ) {owners : List ℕ} {b : Bool} → b ≡ none_fits (take (k.edges - 0) receivers) owners → take k.edges receivers ≡ map (receiver_at n c channel) (below k.edges) → owners ≡ map (owner_at n) ms
+  pub none_fit : (channel : ℕ) (ms receivers : List ℕ) {owners : List ℕ} {b : Bool} → b ≡ none_fits (take k.edges receivers) owners → take k.edges receivers ≡ map (receiver_at n c channel) (below k.edges) → owners ≡ map (owner_at n) ms
       → b ≡ maximal (label_at n) (owner_at n) (active_at n c) k.edges channel ms
   none_fit channel ms receivers h p q =
-      h ∙ ap₂ none_fits (ap (λ (j : ℕ). take j receivers) (let z : k.edges - 0 ≡ k.edges = omega arith in z) ∙ p) q
+      h ∙ ap₂ none_fits p q
       ∙ sym (maximal_none (label_at n) (owner_at n) (active_at n c) k.edges channel ms (λ m l. owner_known m))
 
   module _ (ms : List ℕ) (members : List Member) (e : take (length ms) members ≡ map (member (label_at n) (owner_at n)) ms) where
@@ -50,5 +50,5 @@ module _ {rest : List ℕ} {k : Counts} {offsets : List ℕ} {n : Network} (L : 
     allowed_as y h q = ap (λ (v : Case). case_allows v (λ ch. maximal (label_at n) (owner_at n) (active_at n c) k.edges ch ms)) (sym q ∙ h ∙ ap (case_of k.rendezvous) e) ∙ sym (allowed_case (label_at n) (owner_at n) (active_at n c) k.edges k.rendezvous ms)
 
     -- the owners of its members
-    pub owners_part : {owners : List ℕ} → owners ≡ map member_owner members → take (length ms - 0) owners ≡ map (owner_at n) ms
-    owners_part {owners} h = ap (λ (j : ℕ). take j owners) (let z : length ms - 0 ≡ length ms = omega arith in z) ∙ ap (take (length ms)) h ∙ take_map member_owner (length ms) members ∙ ap (map member_owner) e ∙ map-map member_owner (member (label_at n) (owner_at n)) ms
+    pub owners_part : {owners : List ℕ} → owners ≡ map member_owner members → take (length ms) owners ≡ map (owner_at n) ms
+    owners_part h = ap (take (length ms)) h ∙ take_map member_owner (length ms) members ∙ ap (map member_owner) e ∙ map-map member_owner (member (label_at n) (owner_at n)) ms

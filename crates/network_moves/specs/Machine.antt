@@ -1,5 +1,5 @@
 -- The network machine: start, step, wait and the longest wait.
-use Rattle.std.specs.Prelude.{ℕ, ◌-◌, Bool, cond, not, ◌&&◌, List, [], ◌∷◌, map, pos, leb, ltb, eqb, get_or, length, replicate, set}
+use Rattle.std.specs.Prelude.{ℕ, Bool, cond, not, ◌&&◌, List, [], ◌∷◌, map, pos, leb, ltb, eqb, get_or, length, replicate, set}
 use Rattle.std.specs.Bool.{beq}
 use Rattle.lists.specs.Lists.{has, all, any, below, implies, bits_of}
 use Rattle.labels.specs.Label.{guards_hold}
@@ -60,6 +60,10 @@ after n es c = record {
 
 unfoldable pub tested : Network → Configuration → Answer Configuration
 tested n c = unless 21 (bounds_kept n c) (done c)
+
+-- everything 0
+abbrev pub zero_configuration : Configuration
+zero_configuration = record { locations = replicate 16 0; flags = replicate 16 0; variables = replicate 16 (pos 0); clocks = replicate 8 0 }
 
 unfoldable pub start : Network → Configuration
 start n = record {

@@ -26,15 +26,12 @@ fn flag_agrees(flags: u8, exit: u8, tested: bool, needed: bool) -> bool
 fn flags_agree(c: Configuration, e: Edge) -> bool
     ensures { (k : _) (s : _) (d : _) → Kept k s e d → result ≡ flags_agree c d }
 {
-    let flags = c.flags;
-    let mut a = 0;
-    while a < 16 {
+    for a in 0..16 {
         let tested = lists::mark::has(e.tested as u32, a as u32);
         let needed = lists::mark::has(e.needed as u32, a as u32);
-        if !flag_agrees(flags[a], e.exit, tested, needed) {
+        if !flag_agrees(c.flags[a], e.exit, tested, needed) {
             return false;
         }
-        a += 1;
     }
     true
 }
@@ -43,8 +40,6 @@ fn flags_agree(c: Configuration, e: Edge) -> bool
 pub fn is_active(rest: &[u8], counts: Counts, c: Configuration, e: Edge) -> bool
     ensures { (n : Network) (d : _) → Located rest.now counts n → Kept counts rest.now e d → result ≡ active_edge n c d }
 {
-    let variables = c.variables;
-    let clocks = c.clocks;
     let owner = automaton_of(rest, counts, e.source);
     let occupied = place(c, owner) == e.source;
     let holds = labels::label::guards_hold(
@@ -52,8 +47,8 @@ pub fn is_active(rest: &[u8], counts: Counts, c: Configuration, e: Edge) -> bool
         e.body,
         counts.clocks,
         counts.variables,
-        &variables,
-        clocks,
+        &c.variables,
+        c.clocks,
     );
     let agree = flags_agree(c, e);
     occupied & (holds & agree)
@@ -69,14 +64,11 @@ pub fn all_active(
 ) -> bool
     ensures { (n : Network) → Laid rest.now counts offsets.now n → Known counts list.now → result ≡ all (λ m. active_edge n c (edge_at n m)) list.now }
 {
-    let mut i = 0;
-    while i < list.len() {
-        let m = list[i];
+    for &m in list {
         let e = edge_of(rest, offsets, m);
         if !is_active(rest, counts, c, e) {
             return false;
         }
-        i += 1;
     }
     true
 }
@@ -85,14 +77,11 @@ pub fn all_active(
 pub fn any_urgent(rest: &[u8], counts: Counts, offsets: &[u32; 1024], list: &[u16]) -> bool
     ensures { (n : Network) → Laid rest.now counts offsets.now n → Known counts list.now → result ≡ any (λ m. urgent_at n (edge_at n m).source) list.now }
 {
-    let mut i = 0;
-    while i < list.len() {
-        let m = list[i];
+    for &m in list {
         let e = edge_of(rest, offsets, m);
         if is_urgent(rest, counts, e.source) {
             return true;
         }
-        i += 1;
     }
     false
 }

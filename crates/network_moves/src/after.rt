@@ -11,11 +11,11 @@ ghost use Rattle.network_records.specs.Edges.{Kept};
 ghost use Rattle.network_records.specs.Layout.{Located, Laid};
 
 use crate::configuration::Configuration;
-use labels::label::NewValues;
 use network::laid::edge_of;
 use network_records::edge::Edge;
 use network_records::header::Counts;
 use network_records::location::automaton_of;
+use updates::update::NewValues;
 
 // The locations with one automaton at another. There are sixteen; one that is not there changes none.
 fn with_location(locations: [u8; 16], automaton: u8, target: u8) -> [u8; 16]
@@ -53,15 +53,7 @@ fn assigned_by(rest: &[u8], counts: Counts, e: Edge, old: [i32; 16], new: [i32; 
     ensures within { (d : _) → Kept counts rest.now e d → result.within ≡ all (stays old) d.label.body.updates }
     ensures values { (d : _) → Kept counts rest.now e d → result.values ≡ assign old d.label.body.updates new }
 {
-    labels::label::assigned(
-        rest,
-        e.body,
-        counts.version,
-        counts.clocks,
-        counts.variables,
-        old,
-        new,
-    )
+    labels::label::assigned(rest, e.body, counts.limits(), old, new)
 }
 
 // The configuration after some edges, and whether their updates stayed in the range.
@@ -77,20 +69,16 @@ fn taken(rest: &[u8], counts: Counts, old: [i32; 16], before: Next, e: Edge) -> 
     ensures configuration { (n : Network) (d : _) → Located rest.now counts n → Kept counts rest.now e d → result.configuration ≡ taken n d old before.configuration }
 {
     let c = before.configuration;
-    let locations = c.locations;
-    let flags = c.flags;
-    let variables = c.variables;
-    let clocks = c.clocks;
     let owner = automaton_of(rest, counts, e.source);
-    let assigned = assigned_by(rest, counts, e, old, variables);
-    let values = assigned.values;
+    let assigned = assigned_by(rest, counts, e, old, c.variables);
+    let variables = assigned.values;
     Next {
         within: before.within & assigned.within,
         configuration: Configuration {
-            locations: with_location(locations, owner, e.target),
-            flags: with_flags(flags, owner, e.written, e.values),
-            variables: values,
-            clocks: clocks::clock::reset(e.resets, clocks),
+            locations: with_location(c.locations, owner, e.target),
+            flags: with_flags(c.flags, owner, e.written, e.values),
+            variables,
+            clocks: clocks::clock::reset(e.resets, c.clocks),
         },
     }
 }
@@ -106,18 +94,13 @@ pub fn configuration_after(
     ensures within { (n : Network) → Laid rest.now counts offsets.now n → Known counts list.now → result.within ≡ all_stay (map (λ m. (edge_at n m).label) list.now) c.variables }
     ensures configuration { (n : Network) → Laid rest.now counts offsets.now n → Known counts list.now → result.configuration ≡ after n (map (edge_at n) list.now) c }
 {
-    let old = c.variables;
     let mut after = Next {
         within: true,
         configuration: c,
     };
-    let mut i = 0;
-    while i < list.len() {
-        let m = list[i];
+    for &m in list {
         let e = edge_of(rest, offsets, m);
-        let next = taken(rest, counts, old, after, e);
-        after = next;
-        i += 1;
+        after = taken(rest, counts, c.variables, after, e);
     }
     after
 }

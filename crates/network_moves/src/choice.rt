@@ -37,15 +37,8 @@ fn members_of(rest: &[u8], counts: Counts, offsets: &[u32; 1024], list: &[u16]) 
         channel: 0,
         owner: 0,
     }; 16];
-    let mut i = 0;
-    while i < list.len() {
-        if i >= 16 {
-            return members;
-        }
-        let m = list[i];
-        let next = member_of(rest, counts, offsets, m);
-        members[i] = next;
-        i += 1;
+    for i in 0..list.len().min(16) {
+        members[i] = member_of(rest, counts, offsets, list[i]);
     }
     members
 }
@@ -91,14 +84,8 @@ fn active_receivers(
     ensures { (n : Network) → Laid rest.now counts offsets.now n → take counts.edges result ≡ map (receiver_at n c channel) (below counts.edges) }
 {
     let mut receivers = [255; 1024];
-    let mut m = 0;
-    while m < counts.edges {
-        let i = m as usize;
-        if i >= 1024 {
-            return receivers;
-        }
-        receivers[i] = active_receiver(rest, counts, offsets, c, channel, m);
-        m += 1;
+    for m in 0..counts.edges.min(1024) {
+        receivers[m as usize] = active_receiver(rest, counts, offsets, c, channel, m);
     }
     receivers
 }
@@ -119,7 +106,7 @@ fn none_fits(
         return false;
     }
     let receivers = active_receivers(rest, counts, offsets, c, channel);
-    steps::step::maximal(&receivers[0..edges], owners)
+    steps::step::maximal(&receivers[..edges], owners)
 }
 
 // Whether a list of at most sixteen edges is an allowed set.
@@ -138,12 +125,11 @@ pub fn is_allowed(
     }
     let members = members_of(rest, counts, offsets, list);
     let owners = steps::step::owners_of(members);
-    let case = steps::step::case_of(members, count, counts.rendezvous);
-    match case {
+    match steps::step::case_of(&members[..count], counts.rendezvous) {
         Case::Refused => false,
         Case::Allowed => true,
         Case::Broadcast(channel) => {
-            none_fits(rest, counts, offsets, c, channel, &owners[0..count])
+            none_fits(rest, counts, offsets, c, channel, &owners[..count])
         }
     }
 }

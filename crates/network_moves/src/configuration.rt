@@ -3,11 +3,11 @@ ghost use Rattle.std.specs.Prelude.{◌≡◌, ◌&&◌, ltb, eqb, length};
 ghost use Rattle.lists.specs.Lists.{all, below};
 ghost use Rattle.network_records.specs.Network.{Network, location_at};
 ghost use Rattle.clocks.specs.Clocks.{left_where, limit_left};
-ghost use Rattle.network_moves.specs.Machine.{place, start, bounds_kept, ticks_under, is_configuration, urgent};
+ghost use Rattle.network_moves.specs.Machine.{place, zero_configuration, start, bounds_kept, ticks_under, is_configuration, urgent};
 ghost use Rattle.network_moves.specs.Stands.{stands};
 ghost use Rattle.network_records.specs.Layout.{Located};
 
-use clocks::left::{Left, limit_left};
+use clocks::left::limit_left;
 use network::initial::initial_locations;
 use network_records::header::Counts;
 use network_records::location::{automaton_of, is_urgent, keeps_bounds, left_under};
@@ -28,15 +28,25 @@ impl Configuration {
 
     pub const CLOCKS: usize = 8;
 
+    // Everything 0.
+    pub fn zero() -> Configuration
+        ensures { result ≡ zero_configuration }
+    {
+        Configuration {
+            locations: [0; Self::AUTOMATA],
+            flags: [0; Self::AUTOMATA],
+            variables: [0; Self::VARIABLES],
+            clocks: [0; Self::CLOCKS],
+        }
+    }
+
     // Each automaton at its initial location, all values 0.
     pub fn start(rest: &[u8], counts: Counts) -> Configuration
         ensures { (n : Network) → Located rest.now counts n → result ≡ start n }
     {
         Configuration {
             locations: initial_locations(rest, counts),
-            flags: [0; Self::AUTOMATA],
-            variables: [0; Self::VARIABLES],
-            clocks: [0; Self::CLOCKS],
+            ..Self::zero()
         }
     }
 }
@@ -45,10 +55,9 @@ impl Configuration {
 pub fn place(c: Configuration, automaton: u8) -> u8
     ensures { result ≡ place c automaton }
 {
-    let locations = c.locations;
     let i = automaton as usize;
     if i < Configuration::AUTOMATA {
-        locations[i]
+        c.locations[i]
     } else {
         0
     }
@@ -58,48 +67,37 @@ pub fn place(c: Configuration, automaton: u8) -> u8
 pub fn bounds_kept(rest: &[u8], counts: Counts, c: Configuration) -> bool
     ensures { (n : Network) → Located rest.now counts n → result ≡ bounds_kept n c }
 {
-    let clocks = c.clocks;
-    let mut a = 0;
-    while a < counts.automata {
+    for a in 0..counts.automata {
         let l = place(c, a);
-        if !keeps_bounds(rest, counts, l, clocks) {
+        if !keeps_bounds(rest, counts, l, c.clocks) {
             return false;
         }
-        a += 1;
     }
     true
 }
 
-// The ticks left under the bounds of all occupied locations, and to the limit, or that the clocks break a bound.
-pub fn bounds_left(rest: &[u8], counts: Counts, c: Configuration) -> Left
+// The ticks left under the bounds of all occupied locations, and to the limit. There are none, not even 0, where the clocks
+// break a bound.
+pub fn bounds_left(rest: &[u8], counts: Counts, c: Configuration) -> Option<u32>
     ensures { (n : Network) → Located rest.now counts n → result ≡ left_where (bounds_kept n c) (ticks_under n c (below n.automata) (limit_left n.clocks c.clocks)) }
 {
-    let clocks = c.clocks;
-    let mut ticks = limit_left(counts.clocks as usize, clocks);
-    let mut a = 0;
-    while a < counts.automata {
+    let mut ticks = limit_left(counts.clocks as usize, c.clocks);
+    for a in 0..counts.automata {
         let l = place(c, a);
-        let left = left_under(rest, counts, l, clocks, ticks);
-        let Left::Ticks(n) = left else {
-            return Left::Broken;
-        };
-        ticks = n;
-        a += 1;
+        ticks = left_under(rest, counts, l, c.clocks, ticks)?;
     }
-    Left::Ticks(ticks)
+    Some(ticks)
 }
 
 // Whether an urgent location is occupied.
 pub fn urgent(rest: &[u8], counts: Counts, c: Configuration) -> bool
     ensures { (n : Network) → Located rest.now counts n → result ≡ urgent n c }
 {
-    let mut a = 0;
-    while a < counts.automata {
+    for a in 0..counts.automata {
         let l = place(c, a);
         if is_urgent(rest, counts, l) {
             return true;
         }
-        a += 1;
     }
     false
 }
@@ -116,13 +114,11 @@ fn is_location_of(rest: &[u8], counts: Counts, l: u8, automaton: u8) -> bool
 fn at_own_locations(rest: &[u8], counts: Counts, c: Configuration) -> bool
     ensures { (n : Network) → Located rest.now counts n → result ≡ all (λ a. ltb (place c a) (length n.locations) && eqb (location_at n (place c a)).automaton a) (below n.automata) }
 {
-    let mut a = 0;
-    while a < counts.automata {
+    for a in 0..counts.automata {
         let l = place(c, a);
         if !is_location_of(rest, counts, l, a) {
             return false;
         }
-        a += 1;
     }
     true
 }
@@ -131,18 +127,14 @@ fn at_own_locations(rest: &[u8], counts: Counts, c: Configuration) -> bool
 pub fn stands(rest: &[u8], counts: Counts, c: Configuration) -> bool
     ensures { (n : Network) → Located rest.now counts n → result ≡ stands n c }
 {
-    let locations = c.locations;
-    let flags = c.flags;
-    let variables = c.variables;
-    let clocks = c.clocks;
     let automata = counts.automata as usize;
     let timed = counts.clocks as usize;
     let at_locations = at_own_locations(rest, counts, c);
-    let locations_zero = clocks::clock::zero_bytes_past(automata, locations);
-    let flags_zero = clocks::clock::zero_bytes_past(automata, flags);
-    let variables_zero = clocks::clock::zeros_past(counts.variables as usize, variables);
-    let within = clocks::clock::in_limit(timed, clocks);
-    let clocks_zero = clocks::clock::zero_past(timed, clocks);
+    let locations_zero = clocks::clock::zero_past(automata, &c.locations);
+    let flags_zero = clocks::clock::zero_past(automata, &c.flags);
+    let variables_zero = clocks::clock::zero_past(counts.variables as usize, &c.variables);
+    let within = clocks::clock::in_limit(timed, c.clocks);
+    let clocks_zero = clocks::clock::zero_past(timed, &c.clocks);
     at_locations & (locations_zero & (flags_zero & (variables_zero & (within & clocks_zero))))
 }
 

@@ -2,31 +2,25 @@
 use mathlib.Core.Path.{◌≡◌, refl, sym, ap, ap₂, ◌∙◌, subst}
 use mathlib.Core.Bool.{Bool, true, ◌&&◌}
 use mathlib.Core.List.{List, [], ◌∷◌, ◌++◌}
-use Prim.Native.Nat.{ℕ, ◌+◌, ◌-◌, ◌≤◌, ◌<◌}
+use Prim.Native.Nat.{ℕ, ◌+◌, ◌≤◌, ◌<◌}
 use native.Mathlib.Omega.{arith}
 use native.Mathlib.Decide.{ℕ_discrete}
-use borrow.Author.Tests.{leb-true, lt-ltb, le-ltb}
+use borrow.Author.Tests.{leb-true}
 use lib.Dec.{leb}
-use lib.ListN.{length, get_or, take, drop, set, length-append, length-set, get_or-append}
+use lib.ListN.{length, get_or, set, length-append, length-set, get_or-append}
 use lib.Seq.{get_or_at, get_or-set_same, get_or-set_other}
 use Rattle.reading.specs.Reading as reading
-use Rattle.reading.specs.Reading.{Read, got, fault, length_fault, Reader, byte2, many, framed, recorded, mapped}
+use Rattle.reading.specs.Reading.{Read, got, fault, byte2, many, recorded, mapped}
 use Rattle.lists.specs.Lists.{all}
-use Rattle.reading.specs.Places.{onward, fault_of, reached, test_of, wholly}
+use Rattle.reading.specs.Places.{onward}
 use Rattle.labels.specs.Label.{Label, Heading, heading, assigns_once}
-use Rattle.labels.specs.Headings.{label_of}
-use Rattle.labels.specs.declared.label.LabelRead.{LabelRead}
-use Rattle.labels.specs.declared.label.LabelRead.TheVariants as Lb
-use Rattle.reading.specs.declared.field.Fault.{Fault}
-use Rattle.reading.specs.declared.field.Reached.{Reached}
-use Rattle.reading.specs.declared.field.Reached.TheVariants as Rd
-use Rattle.lists.proofs.Parts.{part_length}
+use Rattle.labels.specs.Headings.{heading_of}
+use Rattle.labels.specs.declared.label.Label as code
 use Rattle.lists.proofs.Lists.{all_more}
-use Rattle.reading.proofs.Places.{recorded_got}
 use Rattle.reading.proofs.Reading.{mapped_got, mapped_fault, mapped_at, fault_at, got_value}
 use Rattle.reading.proofs.Many.{Going, going_none, going_more, going_stop, going_all}
 use Rattle.network_records.specs.Network.{Edge, in_range}
-use Rattle.network_records.specs.Edges.{edge_in, label_once, keeps_once, EdgesAt}
+use Rattle.network_records.specs.Edges.{edge_in, keeps_once, EdgesAt}
 use Rattle.network_records.specs.declared.header.Counts.{Counts}
 use Rattle.lists.proofs.Bools.{parts}
 
@@ -42,37 +36,13 @@ module _ (k : Counts) (h : in_range k ≡ true) where
   few_edges = let a : leb k.edges 1024 ≡ true = search parts depth 12 in leb-true k.edges 1024 a
 
 -- whether the label of an edge keeps rule 13, by what the code has of the label
-pub label_kept : (s : List ℕ) (l : LabelRead) (q : Read Label) → label_of s l ≡ mapped heading q → test_of s (label_once l) ≡ mapped assigns_once q
-unfolding heading
-label_kept s (Lb.Label l n) q h = let w = mapped_at heading q (sym h) in sym (mapped_got assigns_once w.1 ∙ ap (λ (x : Heading). got x.once (onward s n)) w.2)
-label_kept s (Lb.Fault f) q h = sym (mapped_fault assigns_once (fault_at heading q (sym h)))
+module _ (q : Read Label) where
+  pub label_kept : (s : List ℕ) (l : code.Label) {t : List ℕ} → got (heading_of s l) t ≡ mapped heading q → got l.once t ≡ mapped assigns_once q
+  unfolding heading
+  label_kept s l {t} h = let w = mapped_at heading q (sym h) in sym (mapped_got assigns_once w.1 ∙ ap (λ (x : Heading). got x.once t) w.2)
 
--- a record whose content is read through f, by how much of its bytes is used
-module _ {A B : Type 0} (r : Reader A) (f : A → B) (rest : List ℕ) (at from to : ℕ)
-    (h : framed byte2 (onward rest at) ≡ got (take (to - from) (drop from rest)) (onward rest to)) (l : from ≤ to) (m : to ≤ length rest) where
-  abbrev part : List ℕ
-  part = take (to - from) (drop from rest)
-
-  content : (a : A) (q : Reached) → r (onward part 0) ≡ reached part a q → recorded byte2 r (onward rest at) ≡ reached rest a (wholly q (to - from) to)
-  content a q g = sym (recorded_got byte2 r (onward rest at) rest part to (to - from) a q h (part_length rest from to l m) (sym g))
-
-  pub record_whole : {b : B} {used : ℕ} → mapped f (r (onward part 0)) ≡ got b (onward part used) → to - from ≤ used
-      → mapped f (recorded byte2 r (onward rest at)) ≡ got b (onward rest to)
-  record_whole {used = used} g u =
-      let w = mapped_at f (r (onward part 0)) g in
-      let c = content w.0 (Rd.At used) w.1 in
-      mapped_got f (rw (le-ltb used (to - from) u) at c) ∙ ap (λ (x : B). got x (onward rest to)) w.2
-
-  pub record_short : {b : B} {used : ℕ} → mapped f (r (onward part 0)) ≡ got b (onward part used) → used < to - from
-      → mapped f (recorded byte2 r (onward rest at)) ≡ fault length_fault
-  record_short {used = used} g u =
-      let w = mapped_at f (r (onward part 0)) g in
-      let c = content w.0 (Rd.At used) w.1 in
-      mapped_fault f (rw (lt-ltb used (to - from) u) at c)
-
-  -- any value stands for that of a fault
-  pub record_fault : A → (e : Fault) → mapped f (r (onward part 0)) ≡ fault (fault_of e) → mapped f (recorded byte2 r (onward rest at)) ≡ fault (fault_of e)
-  record_fault a e g = mapped_fault f (content a (Rd.Fault e) (fault_at f (r (onward part 0)) g))
+  pub label_faulty : {f : reading.Fault} → fault f ≡ mapped heading q → fault f ≡ mapped assigns_once q
+  label_faulty h = sym (mapped_fault assigns_once (fault_at heading q (sym h)))
 
 -- the pass over the edges, which puts down the offset of each
 pub record Edging (k : Counts) (s : List ℕ) (at place i : ℕ) (once : Bool) (before offsets : List ℕ) : Type 0 where

@@ -7,7 +7,8 @@ use native.Mathlib.Omega.{arith}
 use lib.Dec.{leb}
 use lib.ListN.{length, get_or, take, drop}
 use Rattle.reading.specs.Reading.{Fault, got, fault, Reader, ◌>>=◌, byte, byte2, such, end, framed, whole, recorded}
-use Rattle.labels.specs.Label.{Limits, limits, Label, body, label}
+use Rattle.labels.specs.Label.{limits, Label, body, label}
+use Rattle.labels.specs.declared.label.Limits.{Limits}
 use Rattle.reading.specs.Places.{onward}
 use Rattle.reading.proofs.Reading.{no_answer, got_value, bind_at, next_at, yield_at, such_at}
 use Rattle.reading.proofs.Places.{onward_all, onward_onward}

@@ -9,7 +9,8 @@ use Rattle.lists.specs.Lists.{all}
 use Rattle.reading.specs.Answer.{done}
 use Rattle.reading.specs.Reading.{got, byte2}
 use Rattle.reading.specs.Places.{onward}
-use Rattle.labels.specs.Label.{Limits, limits, assigns_once}
+use Rattle.labels.specs.Label.{limits, assigns_once}
+use Rattle.labels.specs.declared.label.Limits.{Limits}
 use Rattle.lists.proofs.Bools.{parts}
 use Rattle.lists.proofs.Lists.{all_at}
 use Rattle.reading.proofs.Answer.{unless_at, done_injective, then_at as then-at-answer}

@@ -4,10 +4,6 @@ use Rattle.lists.specs.Lists.{implies, subset}
 use Rattle.reading.specs.Reading.{got, Reader, yield, ◌>>=◌, byte, byte2, such, recorded}
 use Rattle.reading.specs.Places.{onward}
 use Rattle.labels.specs.Label.{limits, Label, label, body, assigns_once}
-use Rattle.labels.specs.declared.label.LabelRead.{LabelRead}
-use Rattle.labels.specs.declared.label.LabelRead.TheVariants as Lb
-use Rattle.reading.specs.declared.field.TestRead.{TestRead}
-use Rattle.reading.specs.declared.field.TestRead.TheVariants as Te
 use Rattle.network_records.specs.Network.{Edge, edge}
 use Rattle.network_records.specs.declared.header.Counts.{Counts}
 use Rattle.network_records.specs.declared.edge.Edge as code
@@ -29,11 +25,7 @@ edge_from_tested k s d t x = do
   b ← label_in k
   yield (record { source = s; target = d; transition = t; exit = x; tested = m; needed = v; written = w; values = y; label = b })
 
--- what the check of a file keeps of a label and of an edge: whether rule 13 is kept
-abbrev pub label_once : LabelRead → TestRead
-label_once (Lb.Label l n) = Te.Value l.once n
-label_once (Lb.Fault f) = Te.Fault f
-
+-- what the check of a file keeps of an edge: whether rule 13 is kept
 abbrev pub keeps_once : Edge → Bool
 keeps_once e = assigns_once e.label
 

@@ -1,10 +1,11 @@
 -- Networks of timed automata, and the file that holds one.
-use Rattle.std.specs.Prelude.{ℕ, ◌+◌, ◌*◌, ◌-◌, ◌^◌, Bool, true, false, not, ◌&&◌, ◌||◌, List, [], ◌∷◌, leb, ltb, eqb, get_or, length}
+use Rattle.std.specs.Prelude.{ℕ, ◌+◌, ◌*◌, ◌-◌, ◌^◌, Bool, true, false, ◌&&◌, ◌||◌, List, [], ◌∷◌, leb, ltb, eqb, get_or, length}
 use Rattle.lists.specs.Lists.{all, below, keep, implies, subset}
 use Rattle.reading.specs.Reading.{length_fault, range_fault, Read, got, fault, Reader, yield, ◌>>=◌, ◌>>◌, byte, byte2, such, many, end, recorded}
 use Rattle.reading.specs.Places.{onward}
 use Rattle.reading.specs.Version.{is_version}
-use Rattle.labels.specs.Label.{Limits, limits, Label, label, assigns_once}
+use Rattle.labels.specs.Label.{limits, Label, label, assigns_once}
+use Rattle.labels.specs.declared.label.Limits.{Limits}
 use Rattle.clocks.specs.Clocks.{row}
 use Rattle.reading.specs.Answer.{Answer, done, refused, unless}
 use Rattle.reading.specs.Answer as answer

@@ -4,13 +4,13 @@ ghost use Rattle.std.specs.Prelude.{◌≡◌, true, ◌&&◌, ℕ, ◌+◌, ◌
 ghost use Rattle.lists.specs.Lists.{implies, subset};
 ghost use Rattle.reading.specs.Reading.{got, byte, byte2, such, recorded, mapped};
 ghost use Rattle.labels.specs.Label.{assigns_once};
-ghost use Rattle.reading.specs.Places.{onward, byte_of, short_of, test_of};
+ghost use Rattle.reading.specs.Places.{onward, read_of};
 ghost use Rattle.network_records.specs.Network.{in_range};
-ghost use Rattle.network_records.specs.Edges.{label_in, edge_in, edge_from_tested, label_once, keeps_once, Kept};
+ghost use Rattle.network_records.specs.Edges.{label_in, edge_in, edge_from_tested, keeps_once, Kept};
 
 use crate::header::Counts;
-use labels::label::LabelRead;
-use reading::field::{ByteRead, Fault, Frame, ShortRead, TestRead, byte_at, short_at};
+use reading::field;
+use reading::field::{Fault, Read, byte_at, short_at};
 
 // The fields of an edge, and where the body of its label stands.
 #[derive(Clone, Copy)]
@@ -33,49 +33,40 @@ pub struct Edge {
 fn tested_fits(tested: u16, automata: u8, exit: u8) -> bool
     ensures { result ≡ (ltb tested (2 ^ automata) && implies (eqb exit 255) (eqb tested 0)) }
 {
-    let within = reading::field::in_width(tested as u32, automata);
+    let within = field::in_width(tested as u32, automata);
     within & ((exit != 255) | (tested == 0))
 }
 
-fn read_tested(s: &[u8], at: usize, automata: u8, exit: u8) -> ShortRead
-    ensures { short_of s.now result ≡ such byte2 (λ x. ltb x (2 ^ automata) && implies (eqb exit 255) (eqb x 0)) (onward s.now at) }
+fn read_tested(s: &[u8], at: usize, automata: u8, exit: u8) -> Read<u16>
+    ensures { read_of s.now result ≡ such byte2 (λ x. ltb x (2 ^ automata) && implies (eqb exit 255) (eqb x 0)) (onward s.now at) }
 {
-    let h = reading::field::read_short(s, at);
-    let ShortRead::Value(x, _) = h else {
-        return h;
-    };
+    let (x, next) = field::read_short(s, at)?;
     if tested_fits(x, automata, exit) {
-        h
+        Ok((x, next))
     } else {
-        ShortRead::Fault(Fault::Range)
+        Err(Fault::Range)
     }
 }
 
-fn read_needed(s: &[u8], at: usize, tested: u16) -> ShortRead
-    ensures { short_of s.now result ≡ such byte2 (λ x. subset 16 x tested) (onward s.now at) }
+fn read_needed(s: &[u8], at: usize, tested: u16) -> Read<u16>
+    ensures { read_of s.now result ≡ such byte2 (λ x. subset 16 x tested) (onward s.now at) }
 {
-    let h = reading::field::read_short(s, at);
-    let ShortRead::Value(x, _) = h else {
-        return h;
-    };
+    let (x, next) = field::read_short(s, at)?;
     if lists::mark::subset(x as u32, tested as u32) {
-        h
+        Ok((x, next))
     } else {
-        ShortRead::Fault(Fault::Range)
+        Err(Fault::Range)
     }
 }
 
-fn read_values(s: &[u8], at: usize, written: u8) -> ByteRead
-    ensures { byte_of s.now result ≡ such byte (λ x. subset 8 x written) (onward s.now at) }
+fn read_values(s: &[u8], at: usize, written: u8) -> Read<u8>
+    ensures { read_of s.now result ≡ such byte (λ x. subset 8 x written) (onward s.now at) }
 {
-    let b = reading::field::read_byte(s, at);
-    let ByteRead::Value(x, _) = b else {
-        return b;
-    };
+    let (x, next) = field::read_byte(s, at)?;
     if lists::mark::subset(x as u32, written as u32) {
-        b
+        Ok((x, next))
     } else {
-        ByteRead::Fault(Fault::Range)
+        Err(Fault::Range)
     }
 }
 
@@ -83,101 +74,47 @@ fn read_values(s: &[u8], at: usize, written: u8) -> ByteRead
 fn channels_of(counts: Counts) -> u8
     ensures { in_range counts ≡ true → result ≡ counts.rendezvous + counts.broadcasts }
 {
-    if counts.rendezvous <= 255 - counts.broadcasts {
-        counts.rendezvous + counts.broadcasts
-    } else {
-        255
-    }
-}
-
-// Whether a label that was read keeps rule 13.
-fn label_once(l: LabelRead) -> TestRead
-    ensures { result ≡ label_once l }
-{
-    match l {
-        LabelRead::Label(label, next) => TestRead::Value(label.once, next),
-        LabelRead::Fault(f) => TestRead::Fault(f),
-    }
+    counts.rendezvous.saturating_add(counts.broadcasts)
 }
 
 // The label of an edge, from its place on: whether it keeps rule 13.
-fn read_edge_label(s: &[u8], at: usize, counts: Counts) -> TestRead
-    ensures { in_range counts ≡ true → test_of s.now result ≡ mapped assigns_once (label_in counts (onward s.now at)) }
+fn read_edge_label(s: &[u8], at: usize, counts: Counts) -> Read<bool>
+    ensures { in_range counts ≡ true → read_of s.now result ≡ mapped assigns_once (label_in counts (onward s.now at)) }
 {
-    let channels = channels_of(counts);
-    let l = labels::label::read_label(
-        s,
-        at,
-        counts.version,
-        counts.clocks,
-        counts.variables,
-        channels,
-    );
-    label_once(l)
+    let (label, next) = labels::label::read_label(s, at, counts.limits(), channels_of(counts))?;
+    Ok((label.once, next))
 }
 
 // The content of an edge's record from the automata tested on: whether the label keeps rule 13.
-fn read_from_tested(s: &[u8], at: usize, counts: Counts, exit: u8) -> TestRead
-    ensures { in_range counts ≡ true → (source target transition : ℕ) → test_of s.now result ≡ mapped keeps_once (edge_from_tested counts source target transition exit (onward s.now at)) }
+fn read_from_tested(s: &[u8], at: usize, counts: Counts, exit: u8) -> Read<bool>
+    ensures { in_range counts ≡ true → (source target transition : ℕ) → read_of s.now result ≡ mapped keeps_once (edge_from_tested counts source target transition exit (onward s.now at)) }
 {
-    let m = read_tested(s, at, counts.automata, exit);
-    let ShortRead::Value(tested, at1) = m else {
-        return TestRead::Fault(reading::field::short_fault(m));
-    };
-    let v = read_needed(s, at1, tested);
-    let ShortRead::Value(_, at2) = v else {
-        return TestRead::Fault(reading::field::short_fault(v));
-    };
-    let w = reading::field::read_byte(s, at2);
-    let ByteRead::Value(written, at3) = w else {
-        return TestRead::Fault(reading::field::byte_fault(w));
-    };
-    let y = read_values(s, at3, written);
-    let ByteRead::Value(_, at4) = y else {
-        return TestRead::Fault(reading::field::byte_fault(y));
-    };
+    let (tested, at1) = read_tested(s, at, counts.automata, exit)?;
+    let (_, at2) = read_needed(s, at1, tested)?;
+    let (written, at3) = field::read_byte(s, at2)?;
+    let (_, at4) = read_values(s, at3, written)?;
     read_edge_label(s, at4, counts)
 }
 
 // The same of the whole content.
-fn read_edge(s: &[u8], at: usize, counts: Counts) -> TestRead
-    ensures { in_range counts ≡ true → test_of s.now result ≡ mapped keeps_once (edge_in counts (onward s.now at)) }
+fn read_edge(s: &[u8], at: usize, counts: Counts) -> Read<bool>
+    ensures { in_range counts ≡ true → read_of s.now result ≡ mapped keeps_once (edge_in counts (onward s.now at)) }
 {
-    let a = reading::field::read_byte_below(s, at, counts.locations);
-    let ByteRead::Value(_, at1) = a else {
-        return TestRead::Fault(reading::field::byte_fault(a));
-    };
-    let b = reading::field::read_byte_below(s, at1, counts.locations);
-    let ByteRead::Value(_, at2) = b else {
-        return TestRead::Fault(reading::field::byte_fault(b));
-    };
-    let t = reading::field::read_byte_or_none(s, at2, 64);
-    let ByteRead::Value(_, at3) = t else {
-        return TestRead::Fault(reading::field::byte_fault(t));
-    };
-    let x = reading::field::read_byte_or_none(s, at3, 8);
-    let ByteRead::Value(exit, at4) = x else {
-        return TestRead::Fault(reading::field::byte_fault(x));
-    };
+    let (_, at1) = field::read_below(s, at, counts.locations)?;
+    let (_, at2) = field::read_below(s, at1, counts.locations)?;
+    let (_, at3) = field::read_byte_or_none(s, at2, 64)?;
+    let (exit, at4) = field::read_byte_or_none(s, at3, 8)?;
     read_from_tested(s, at4, counts, exit)
 }
 
 // An edge's record at a place, as a file is checked: whether its label keeps rule 13, and the place after the record.
-pub fn edge_at(rest: &[u8], at: usize, counts: Counts) -> TestRead
-    ensures { in_range counts ≡ true → test_of rest.now result ≡ mapped keeps_once (recorded byte2 (edge_in counts) (onward rest.now at)) }
+pub fn edge_at(rest: &[u8], at: usize, counts: Counts) -> Read<bool>
+    ensures { in_range counts ≡ true → read_of rest.now result ≡ mapped keeps_once (recorded byte2 (edge_in counts) (onward rest.now at)) }
 {
-    let p = reading::field::read_long_frame(rest, at);
-    let Frame::Part(from, to) = p else {
-        return TestRead::Fault(reading::field::frame_fault(p));
-    };
-    let q = read_edge(&rest[from..to], 0, counts);
-    let TestRead::Value(once, used) = q else {
-        return q;
-    };
-    if used < to - from {
-        return TestRead::Fault(Fault::Length);
-    }
-    TestRead::Value(once, to)
+    let (bytes, to) = field::read_long_frame(rest, at)?;
+    let (once, used) = read_edge(bytes, 0, counts)?;
+    let next = field::whole(used, bytes.len(), to)?;
+    Ok((once, next))
 }
 
 // The fields of an edge whose record was checked. Each stands at a fixed place of the record.

@@ -1,7 +1,10 @@
 // The header of a network file: the version, the length of the rest in four bytes, and the counts.
 ghost use Rattle.std.specs.Prelude.{◌≡◌};
+ghost use Rattle.labels.specs.Label.{limits};
 ghost use Rattle.network_records.specs.Network.{in_range, headed, counts_at, counts_of};
 ghost use Rattle.network_records.specs.Headers.{header_of, HeaderFits};
+
+use labels::label::Limits;
 
 #[derive(Clone, Copy)]
 pub struct Counts {
@@ -15,10 +18,17 @@ pub struct Counts {
     pub broadcasts: u8,
 }
 
-#[derive(Clone, Copy)]
-pub enum HeaderRead {
-    Counts(Counts),
-    Refused,
+impl Counts {
+    // What the labels of the file may hold.
+    pub fn limits(self) -> Limits
+        ensures { result ≡ limits self.version self.clocks self.variables }
+    {
+        Limits {
+            version: self.version,
+            clocks: self.clocks,
+            variables: self.variables,
+        }
+    }
 }
 
 fn in_range(k: Counts) -> bool
@@ -59,17 +69,14 @@ fn counts_at(file: &[u8]) -> Counts
     }
 }
 
-pub fn read_header(file: &[u8]) -> HeaderRead
+// The counts of a file whose header is right and whose counts are in range.
+pub fn read_header(file: &[u8]) -> Option<Counts>
     ensures means { header_of result ≡ counts_of file.now }
     ensures within { HeaderFits file.now result }
 {
     if !headed(file) {
-        return HeaderRead::Refused;
+        return None;
     }
     let counts = counts_at(file);
-    if in_range(counts) {
-        HeaderRead::Counts(counts)
-    } else {
-        HeaderRead::Refused
-    }
+    if in_range(counts) { Some(counts) } else { None }
 }

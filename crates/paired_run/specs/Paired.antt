@@ -1,13 +1,11 @@
 -- What the code has of a run, against the definition of runs.
-use Rattle.std.specs.Prelude.{◌≡◌, ℕ, List, [], ◌∷◌, ◌++◌, take, ◌≢◌}
-use Rattle.reading.specs.Answer.{done}
-use Rattle.reading.specs.Verdict.{verdict_of}
+use Rattle.std.specs.Prelude.{◌≡◌, ℕ, List, [], ◌∷◌, ◌++◌, take, ◌≢◌, Ok}
+use Rattle.reading.specs.Answer.{Answer, done}
+use Rattle.reading.specs.Verdict.{answer_of, verdict_of}
 use Rattle.chart_records.specs.Chart.{Chart}
 use Rattle.chart_records.specs.Rules.{chart_of}
 use Rattle.chart_moves.specs.Machine as chart
 use Rattle.network_records.specs.Network.{Network, network_of}
-use Rattle.reading.specs.declared.verdict.Verdict.{Verdict}
-use Rattle.reading.specs.declared.verdict.Verdict.TheVariants as Vd
 use Rattle.flattening.specs.File.{flatten_of}
 use Rattle.agreement.specs.Agreement.{Call, step, wait, on_network, Run, run, Accepts}
 use Rattle.paired_run.specs.declared.carry.Transitions.{Transitions}
@@ -38,16 +36,21 @@ called_by Rd.Nothing x = []
 called_by Rd.Step x = step (list_of x) ∷ []
 called_by (Rd.Wait d) x = wait d ∷ []
 
-abbrev pub accepted : Verdict
-accepted = Vd.Done
+-- the verdict on a call that is accepted
+abbrev pub passed : Answer (Unit {0})
+passed = done tt
+
+-- an accepted call of the network, of which the chart accepts what is read
+abbrev pub followed_by : Reading → Transitions → code.Run → Followed
+followed_by reading x r = record { verdict = Ok tt; reading = reading; carried = x; answer = Ok tt; run = r }
 
 -- the run r went on to s: the code has s, the chart call that s has read more, which the chart accepted, and the network's
 -- verdict
-pub record Follows (r s : Run) (v : Verdict) (f : Followed) : Type 0 where
+pub record Follows (r s : Run) (v : Answer (Unit {0})) (f : Followed) : Type 0 where
   pub stands : Stands f.run s
   pub reads : s.reading ≡ r.reading ++ called_by f.reading f.carried
-  pub accepted : f.answer ≡ accepted
-  pub verdict : f.verdict ≡ v
+  pub accepted : answer_of f.answer ≡ passed
+  pub verdict : answer_of f.verdict ≡ v
 
 -- the same by one call of the network after a list of calls
 abbrev pub FollowsCall : Chart → Network → List Call → Call → Followed → Type 0

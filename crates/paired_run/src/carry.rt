@@ -8,7 +8,6 @@ ghost use Rattle.agreement.specs.Agreement.{carried};
 ghost use Rattle.paired_run.specs.Paired.{list_of};
 
 use flatten_alternatives::ascending::with_number;
-use lists::number::least;
 use network::bearing::transitions_of;
 
 // Transitions, ascending: the first `count` of the list.
@@ -33,9 +32,7 @@ fn tabled(transitions: &[u8; 16], items: &mut [u16; 1024]) -> usize
     ensures { length transitions.now ≡ 16 → length items.old ≡ 1024 → Kept items.new result (keep (λ t. not (t == 255)) transitions.now) }
 {
     let mut count = 0;
-    let mut i = 16;
-    while i > 0 {
-        i -= 1;
+    for i in (0..16).rev() {
         count = with_transition(items, count, transitions[i]);
     }
     count
@@ -61,6 +58,6 @@ pub fn carried(file: &[u8], list: &[u16]) -> Transitions
     let count = tabled(&transitions, &mut items);
     Transitions {
         list: first_sixteen(&items),
-        count: least(count, 16),
+        count: count.min(16),
     }
 }

@@ -9,8 +9,6 @@ ghost use Rattle.chart_records.specs.declared.header.Counts.{Counts as Counted};
 ghost use Rattle.flattening.specs.Flatten.{has_exit, has_entry};
 ghost use Rattle.agreement.specs.Agreement.{named};
 
-use reading::verdict::Verdict;
-
 // 1 for an exit or an entry, 0 where none is named.
 fn one(name: u8) -> u64
     ensures means { result ≡ (if not (name == 255) then 1 else 0) }
@@ -37,11 +35,8 @@ fn named_in(rest: &[u8], offsets: &[u32], list: &[u16]) -> u64
     ensures { (c : Chart) (k : Counted) → Laid rest.now k offsets.now c → known k.transitions list.now ≡ true → result ≡ named c list.now }
 {
     let mut sum = 0;
-    let mut i = 0;
-    while i < list.len() {
-        let t = list[i];
-        sum += named_by(rest, offsets, t);
-        i += 1;
+    for t in list {
+        sum += named_by(rest, offsets, *t);
     }
     sum
 }
@@ -51,11 +46,8 @@ pub fn named(file: &[u8], list: &[u16]) -> u64
     requires { length list.now ≤ 16 }
     ensures { (c : Chart) → chart_of file.now ≡ done c → known (length c.transitions) list.now ≡ true → result ≡ named c list.now }
 {
-    let f = chart::check::checked(file);
-    let verdict = f.verdict;
-    let Verdict::Done = verdict else {
-        return 0;
-    };
-    let offsets = f.offsets;
-    named_in(&file[3..file.len()], &offsets, list)
+    match chart::check::checked(file) {
+        Ok(f) => named_in(&file[3..], &f.offsets, list),
+        Err(_) => 0,
+    }
 }

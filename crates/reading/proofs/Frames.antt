@@ -1,29 +1,30 @@
 -- A record read in its frame: the length, then the content by any reader that looks at it as f has it, which uses the frame up.
-use mathlib.Core.Path.{◌≡◌, sym, ap, ◌∙◌}
+use mathlib.Core.Path.{◌≡◌, refl, sym, ap, ◌∙◌}
 use mathlib.Core.List.{List}
-use Prim.Native.Nat.{ℕ, ◌-◌}
-use lib.ListN.{take, drop}
-use Rattle.reading.specs.Reading.{fault, Reader, framed, recorded, mapped}
-use Rattle.reading.specs.Places.{onward, fault_of, frame_of, frame_fault, FrameFits, reached, wholly}
-use Rattle.reading.specs.declared.field.Fault.{Fault}
-use Rattle.reading.specs.declared.field.Frame.{Frame}
-use Rattle.reading.specs.declared.field.Frame.TheVariants as Fr
-use Rattle.reading.specs.declared.field.Reached.{Reached}
-use Rattle.lists.proofs.Parts.{part_length}
+use Prim.Native.Nat.{ℕ}
+use lib.ListN.{length}
+use Rattle.std.specs.Prelude.{Result}
+use Rattle.reading.specs.Reading.{Fault, got, fault, Reader, framed, recorded, mapped}
+use Rattle.reading.specs.Places.{onward, reached, wholly}
+use Rattle.reading.specs.declared.field.Fault.{Fault as FaultCode}
 use Rattle.reading.proofs.Reading.{mapped_fault}
-use Rattle.reading.proofs.Places.{recorded_got, recorded_fault, frame_fits, answered}
+use Rattle.reading.proofs.Places.{recorded_got, recorded_broken, recorded_fault}
 use Rattle.reading.proofs.Skips.{mapped_recorded}
 
-module _ {A B : Type 0} (f : A → B) (size : Reader ℕ) (r : Reader A) (s b : List ℕ) {p : Frame} (h : frame_of s p ≡ framed size b) where
+module _ {A B : Type 0} (f : A → B) (size : Reader ℕ) (r : Reader A) (b : List ℕ) where
   -- there is no frame
-  pub frame_faulty : {e g : Fault} → p ≡ Fr.Fault e → g ≡ frame_fault p → fault (fault_of g) ≡ mapped f (recorded size r b)
-  frame_faulty q k = rw (k ∙ ap frame_fault q) (sym (mapped_fault f (recorded_fault size r b (answered (frame_of s) h q))))
+  pub frame_faulty : {e : Fault} → fault e ≡ framed size b → fault e ≡ mapped f (recorded size r b)
+  frame_faulty h = sym (mapped_fault f (recorded_fault size r b (sym h)))
 
-  -- the content x was read of the frame's bytes, up to q, and w is where the record ends if that is all of them
-  pub frame_read : {from to : ℕ} (x : B) (q : Reached) {w : Reached} → p ≡ Fr.Part from to → FrameFits s p → w ≡ wholly q (to - from) to →
-      reached (take (to - from) (drop from s)) x q ≡ mapped f (r (onward (take (to - from) (drop from s)) 0)) →
-      reached s x w ≡ mapped f (recorded size r b)
-  frame_read {from} {to} x q e g k l =
-      let n = frame_fits s g e in
-      let content = recorded_got size (λ t. mapped f (r t)) b s _ to _ x q (answered (frame_of s) h e) (part_length s from to n.0 n.1) l in
-      rw k (content ∙ sym (mapped_recorded f size r b))
+  -- of a frame with the bytes p, after which `to` follows
+  module _ (s : List ℕ) {p : List ℕ} (to : ℕ) (h : got p (onward s to) ≡ framed size b) where
+    -- the content is not read
+    pub content_faulty : {e : Fault} → fault e ≡ mapped f (r (onward p 0)) → fault e ≡ mapped f (recorded size r b)
+    content_faulty k = sym (recorded_broken size (λ t. mapped f (r t)) b s p to (sym h) (sym k)) ∙ sym (mapped_recorded f size r b)
+
+    -- the content x is read, in so many bytes
+    pub frame_read : (x : B) (used : ℕ) {q : Result ℕ FaultCode} → q ≡ wholly used (length p) to → got x (onward p used) ≡ mapped f (r (onward p 0))
+        → reached s x q ≡ mapped f (recorded size r b)
+    frame_read x used k l = ap (reached s x) k
+        ∙ recorded_got size (λ t. mapped f (r t)) b s p to (length p) used x (sym h) refl (sym l)
+        ∙ sym (mapped_recorded f size r b)

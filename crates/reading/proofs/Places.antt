@@ -1,5 +1,5 @@
 -- Readers at a place: what the bytes from a place on give, by the test that the code makes.
-use mathlib.Core.Path.{◌≡◌, refl, sym, ap, ◌∙◌, subst}
+use mathlib.Core.Path.{◌≡◌, refl, sym, ap, ◌∙◌}
 use mathlib.Core.Bool.{Bool, true, false, cond}
 use mathlib.Core.List.{List}
 use Prim.Native.Nat.{ℕ, ◌+◌, ◌*◌, ◌-◌, ◌≤◌, ◌<◌}
@@ -8,19 +8,11 @@ use borrow.Author.Tests.{le-leb, lt-leb, eq-eqb, ne_eqb, ltb-true, ltb-false}
 use lib.Dec.{ltb}
 use lib.ListN.{length, get_or, take, drop, length-drop}
 use lib.Seq.{get_or-drop, drop-drop, take_all}
-use Rattle.reading.specs.Places.{onward, fault_of, byte_of, byte_end, word_of, word_end, FrameFits, reached, reached_end, byte_reached, word_reached, wholly, test_of, test_reached}
+use Rattle.std.specs.Prelude.{Result, Ok, Err}
+use Rattle.std.specs.Result.{IsErrAnd}
+use Rattle.reading.specs.Places.{onward, fault_of, read_of, end_of, reached, reached_end, wholly}
 use Rattle.reading.specs.declared.field.Fault.{Fault as FaultCode}
 use Rattle.reading.specs.declared.field.Fault.TheVariants as Fl
-use Rattle.reading.specs.declared.field.ByteRead.{ByteRead}
-use Rattle.reading.specs.declared.field.ByteRead.TheVariants as Bt
-use Rattle.reading.specs.declared.field.WordRead.{WordRead}
-use Rattle.reading.specs.declared.field.WordRead.TheVariants as Wd
-use Rattle.reading.specs.declared.field.TestRead.{TestRead}
-use Rattle.reading.specs.declared.field.TestRead.TheVariants as Te
-use Rattle.reading.specs.declared.field.Frame.{Frame}
-use Rattle.reading.specs.declared.field.Frame.TheVariants as Fr
-use Rattle.reading.specs.declared.field.Reached.{Reached}
-use Rattle.reading.specs.declared.field.Reached.TheVariants as Rd
 use Rattle.reading.specs.Reading.{Fault, length_fault, range_fault, Read, got, fault, Reader, yield, next, ◌>>=◌, ◌>>◌, field, byte}
 use Rattle.reading.specs.Reading.{byte2, byte4, such, end, framed, whole, recorded, mapped, skipped}
 
@@ -150,43 +142,37 @@ framed_fault size b h = bind_fault _ _ b h
 pub answered : {Q D : Type 0} (meaning : Q → D) {q r : Q} {d : D} → meaning q ≡ d → q ≡ r → d ≡ meaning r
 answered meaning h e = sym h ∙ ap meaning e
 
--- a fault in an answer of the code, handed on: what the definition has there
-pub handed_on : {Q A : Type 0} (faultIn : Q → FaultCode) {q r : Q} {g : FaultCode} {d : Read A} →
-    g ≡ faultIn q → q ≡ r → d ≡ fault (fault_of (faultIn r)) → fault (fault_of g) ≡ d
-handed_on faultIn h e k = ap (λ (f : FaultCode). fault (fault_of f)) (h ∙ ap faultIn e) ∙ sym k
+-- what `?` hands on is the error that it met
+pub handed_on : {T E : Type 0} (r : Result T E) {e : E} → IsErrAnd r (λ x. x ≡ e) → r ≡ Err e
+handed_on (Ok x) h = absurd h
+handed_on (Err x) h = ap Err h
 
--- only where a value ends
-pub byte_skipped : (s : List ℕ) (b : ByteRead) {q : Reached} {d : Read ℕ} → q ≡ byte_reached b → byte_of s b ≡ d → reached s tt q ≡ skipped d
+-- .. so a reader is at fault where `?` met the fault, if the definition is
+pub read_err : {A : Type 0} (s : List ℕ) (r : Result (A × ℕ) FaultCode) (f : FaultCode) {d : Read A} → IsErrAnd r (λ x. x ≡ f) → d ≡ fault (fault_of f) → read_of s r ≡ d
+read_err s r f h e = rw (handed_on r h, e)
+
+pub reached_err : {A : Type 0} (s : List ℕ) (a : A) (r : Result ℕ FaultCode) (f : FaultCode) {d : Read A} → IsErrAnd r (λ x. x ≡ f) → d ≡ fault (fault_of f) → reached s a r ≡ d
+reached_err s a r f h e = rw (handed_on r h, e)
+
+-- only where a value ends, or its fault
+abbrev pub place_of : {A E : Type 0} → Result (A × ℕ) E → Result ℕ E
+place_of (Ok r) = Ok r.1
+place_of (Err f) = Err f
+
+pub read_skipped : {A : Type 0} (s : List ℕ) (r : Result (A × ℕ) FaultCode) {q : Result ℕ FaultCode} {d : Read A} → q ≡ place_of r → read_of s r ≡ d → reached s tt q ≡ skipped d
 unfolding skipped mapped
-byte_skipped s (Bt.Value x n) e h = rw (e, ← h)
-byte_skipped s (Bt.Fault f) e h = rw (e, ← h)
+read_skipped s (Ok r) e h = rw (e, ← h)
+read_skipped s (Err f) e h = rw (e, ← h)
 
-pub byte_skipped_end : (b : ByteRead) {q : Reached} (l : ℕ) → q ≡ byte_reached b → byte_end b ≤ l → reached_end q ≤ l
-byte_skipped_end (Bt.Value x n) l e h = rw e h
-byte_skipped_end (Bt.Fault f) l e h = rw e h
-
-pub word_skipped : (s : List ℕ) (w : WordRead) {q : Reached} {d : Read ℕ} → q ≡ word_reached w → word_of s w ≡ d → reached s tt q ≡ skipped d
-unfolding skipped mapped
-word_skipped s (Wd.Value x n) e h = rw (e, ← h)
-word_skipped s (Wd.Fault f) e h = rw (e, ← h)
-
-pub word_skipped_end : (w : WordRead) {q : Reached} (l : ℕ) → q ≡ word_reached w → word_end w ≤ l → reached_end q ≤ l
-word_skipped_end (Wd.Value x n) l e h = rw e h
-word_skipped_end (Wd.Fault f) l e h = rw e h
-
-pub test_skipped : (s : List ℕ) (t : TestRead) {q : Reached} {d : Read Bool} → q ≡ test_reached t → test_of s t ≡ d → reached s tt q ≡ skipped d
-unfolding skipped mapped
-test_skipped s (Te.Value b n) e h = rw (e, ← h)
-test_skipped s (Te.Fault f) e h = rw (e, ← h)
-
-pub frame_fits : (s : List ℕ) {q : Frame} {from to : ℕ} → FrameFits s q → q ≡ Fr.Part from to → (from ≤ to) × (to ≤ length s)
-frame_fits s h e = subst (FrameFits s) e h
+pub read_skipped_end : {A : Type 0} (r : Result (A × ℕ) FaultCode) {q : Result ℕ FaultCode} (l : ℕ) → q ≡ place_of r → end_of r ≤ l → reached_end q ≤ l
+read_skipped_end (Ok r) l e h = rw e h
+read_skipped_end (Err f) l e h = rw e h
 
 -- the last field of a record, which is not looked at
-pub reached_bind : {A B : Type 0} (s : List ℕ) (r : Reader A) (f : A → B) (b : List ℕ) (a : A) (q : Reached) → reached s a q ≡ r b → reached s (f a) q ≡ (r >>= λ x. yield (f x)) b
+pub reached_bind : {A B : Type 0} (s : List ℕ) (r : Reader A) (f : A → B) (b : List ℕ) (a : A) (q : Result ℕ FaultCode) → reached s a q ≡ r b → reached s (f a) q ≡ (r >>= λ x. yield (f x)) b
 unfolding yield
-reached_bind s r f b a (Rd.At n) h = sym (bind_got r _ b (sym h))
-reached_bind s r f b a (Rd.Fault e) h = sym (bind_fault r _ b (sym h))
+reached_bind s r f b a (Ok n) h = sym (bind_got r _ b (sym h))
+reached_bind s r f b a (Err e) h = sym (bind_fault r _ b (sym h))
 
 -- nothing is left at a place, or something
 pub end_none : (s : List ℕ) (n : ℕ) → length s ≤ n → end (onward s n) ≡ got tt (onward s n)
@@ -198,16 +184,21 @@ unfolding end onward
 end_some s n h = rw (length-drop n s, ne_eqb (length s - n) 0 (λ e. omega arith))
 
 -- a record's content that was read, of bytes p that end at `to`
-pub recorded_got : {A : Type 0} (size : Reader ℕ) (r : Reader A) (b s p : List ℕ) (to m : ℕ) (a : A) (q : Reached) →
-    framed size b ≡ got p (onward s to) → m ≡ length p → reached p a q ≡ r (onward p 0) →
-    reached s a (wholly q m to) ≡ recorded size r b
+pub recorded_got : {A : Type 0} (size : Reader ℕ) (r : Reader A) (b s p : List ℕ) (to m n : ℕ) (a : A) →
+    framed size b ≡ got p (onward s to) → m ≡ length p → r (onward p 0) ≡ got a (onward p n) →
+    reached s a (wholly n m to) ≡ recorded size r b
 unfolding recorded whole next
-recorded_got size r b s p to m a (Rd.At n) h e k = used (ltb n m) refl ∙ sym (bind_got _ _ b h ∙ rw (sym (k ∙ ap r (onward_all p))))
+recorded_got size r b s p to m n a h e k = used (ltb n m) refl ∙ sym (bind_got _ _ b h ∙ rw (sym (ap r (onward_all p)) ∙ k))
   where
-    used : (t : Bool) → ltb n m ≡ t → reached s a (cond t (Rd.Fault Fl.Length) (Rd.At to)) ≡ next (end (onward p n)) (λ u v. got a (onward s to))
+    used : (t : Bool) → ltb n m ≡ t → reached s a (cond t (Err Fl.Length) (Ok to)) ≡ next (end (onward p n)) (λ u v. got a (onward s to))
     used true l = rw (end_some p n (omega (arith, ltb-true n m l)))
     used false l = rw (end_none p n (omega (arith, ltb-false n m l)))
-recorded_got size r b s p to m a (Rd.Fault f) h e k = sym (bind_got _ _ b h ∙ rw (sym (k ∙ ap r (onward_all p))))
+
+-- or that was not
+pub recorded_broken : {A : Type 0} (size : Reader ℕ) (r : Reader A) (b s p : List ℕ) (to : ℕ) {f : Fault} →
+    framed size b ≡ got p (onward s to) → r (onward p 0) ≡ fault f → recorded size r b ≡ fault f
+unfolding recorded whole next
+recorded_broken size r b s p to h k = bind_got _ _ b h ∙ rw (sym (ap r (onward_all p)) ∙ k)
 
 pub recorded_fault : {A : Type 0} (size : Reader ℕ) (r : Reader A) (b : List ℕ) {f : Fault} → framed size b ≡ fault f → recorded size r b ≡ fault f
 unfolding recorded

@@ -1,5 +1,5 @@
 -- Readers that take a fixed number of bytes: what they leave, and where the parts of a record stand.
-use mathlib.Core.Path.{◌≡◌, sym, ap, ap₂, ◌∙◌}
+use mathlib.Core.Path.{◌≡◌, refl, sym, ap, ap₂, ◌∙◌}
 use mathlib.Core.Bool.{Bool, true, false, cond}
 use mathlib.Core.List.{List, [], ◌∷◌, ◌++◌}
 use Prim.Native.Nat.{ℕ, zero, suc, ◌+◌, ◌*◌, ◌<◌}
@@ -9,9 +9,9 @@ use lib.Dec.{leb}
 use lib.ListN.{length, get_or, take, drop, take-append-drop}
 use lib.Seq.{drop-drop}
 use Rattle.reading.specs.Reading.{Fault, got, fault, Reader, yield, ◌>>=◌, field, byte, byte2, byte4, such, many, end, framed, whole, recorded}
-use Rattle.reading.specs.Places.{onward, reached}
-use Rattle.reading.specs.declared.field.Reached.{Reached}
-use Rattle.reading.specs.declared.field.Reached.TheVariants as Rd
+use Rattle.std.specs.Prelude.{Result, Ok, Err}
+use Rattle.reading.specs.Places.{onward, read_of}
+use Rattle.reading.specs.declared.field.Fault.{Fault as FaultCode}
 use Rattle.reading.proofs.Reading.{no_answer, got_value, got_rest, next_at, bind_at, yield_rest, such_at}
 use Rattle.reading.proofs.Places.{length_onward, onward_all, onward_onward, get_d_here}
 use Rattle.reading.proofs.InFront.{InFront, field_at, byte_front}
@@ -70,9 +70,9 @@ unfolding byte
 byte_value s at h = sym ((field_at 1 _ (onward s at) h).1 ∙ get_d_here s at)
 
 -- the value that is read
-pub reached_value : {A : Type 0} (s : List ℕ) (a : A) (q : Reached) {b : A} {t : List ℕ} → reached s a q ≡ got b t → a ≡ b
-reached_value s a (Rd.At n) h = got_value h
-reached_value s a (Rd.Fault f) h = no_answer h
+pub read_value : {A : Type 0} (s : List ℕ) (r : Result (A × ℕ) FaultCode) {b : A} {t : List ℕ} → read_of s r ≡ got b t → (x : A × ℕ) × (r ≡ Ok x) × (x.0 ≡ b)
+read_value s (Ok x) h = (x, refl, got_value h)
+read_value s (Err f) h = no_answer h
 
 -- a record's content is read, whole, in so many bytes after the length
 recorded_cut : {A : Type 0} (size : Reader ℕ) (r : Reader A) (s : List ℕ) {a : A} {t : List ℕ} → recorded size r s ≡ got a t

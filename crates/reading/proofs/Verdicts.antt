@@ -2,31 +2,27 @@
 use mathlib.Core.Path.{◌≡◌, refl, sym, ap, ◌∙◌}
 use Prim.Native.Nat.{ℕ}
 use native.Mathlib.Omega.{arith}
+use Rattle.std.specs.Prelude.{Result, Ok, Err}
 use Rattle.reading.specs.Answer.{Answer, done, refused}
-use Rattle.reading.specs.Verdict.{verdict_of, or_kept}
-use Rattle.reading.specs.declared.verdict.Verdict.{Verdict}
-use Rattle.reading.specs.declared.verdict.Verdict.TheVariants as Vd
+use Rattle.reading.specs.Verdict.{number, answer_of, verdict_of}
+use Rattle.reading.specs.declared.refusal.Refusal.{Refusal}
 
 -- what is done is not refused
-pub done_not : {X : Type 0} {k : ℕ} → ◌≡◌ {A = Verdict} Vd.Done (Vd.Refused k) → X
+pub done_not : {A X : Type 0} {a : A} {k : ℕ} → done a ≡ refused k → X
 done_not e = absurd (let z : ◌≡◌ {A = ℕ} 0 1 = cc in omega arith)
 
-pub verdict_done_at : {A : Type 0} (a : Answer A) → verdict_of a ≡ Vd.Done → (x : A) × (a ≡ done x)
+pub verdict_done_at : {A : Type 0} (a : Answer A) → verdict_of a ≡ done tt → (x : A) × (a ≡ done x)
 verdict_done_at (done x) h = (x, refl)
 verdict_done_at (refused n) h = done_not (sym h)
 
-pub verdict_refused_at : {A : Type 0} (a : Answer A) {k : ℕ} → verdict_of a ≡ Vd.Refused k → a ≡ refused k
+pub verdict_refused_at : {A : Type 0} (a : Answer A) {k : ℕ} → verdict_of a ≡ refused k → a ≡ refused k
 verdict_refused_at (done x) h = done_not h
 verdict_refused_at (refused n) h = cc
 
--- of a verdict that stands for an answer, and what the call left
-module _ {A : Type 0} (a : Answer A) {v : Verdict} (h : v ≡ verdict_of a) where
-  pub was_refused : {k : ℕ} → v ≡ Vd.Refused k → a ≡ refused k
-  was_refused e = verdict_refused_at a (sym h ∙ e)
+-- of a result that stands for an answer
+module _ {A : Type 0} (a : Answer A) (r : Result A Refusal) (h : answer_of r ≡ a) where
+  pub was_refused : {k : Refusal} → r ≡ Err k → a ≡ refused (number k)
+  was_refused e = sym h ∙ ap answer_of e
 
-  pub was_done : (old : A) {x : A} → x ≡ or_kept old a → v ≡ Vd.Done → a ≡ done x
-  was_done old {x} l e = go a h l
-    where
-      go : (a : Answer A) → v ≡ verdict_of a → x ≡ or_kept old a → a ≡ done x
-      go (done y) q l = ap done (sym l)
-      go (refused k) q l = done_not (sym e ∙ q)
+  pub was_done : {x : A} → r ≡ Ok x → a ≡ done x
+  was_done e = sym h ∙ ap answer_of e

@@ -1,13 +1,12 @@
 -- The calls of a request to run both machines: how many there are, and each call of the network.
-use Rattle.std.specs.Prelude.{ℕ, ◌*◌, cond, List, map, eqb, ltb}
+use Rattle.std.specs.Prelude.{ℕ, ◌*◌, cond, List, map, eqb, ltb, Result, Ok, Err}
 use Rattle.lists.specs.Lists.{below}
 use Rattle.reading.specs.Reading.{Read, got, fault, Reader, yield, ◌>>=◌, byte, byte2, byte4, such, many}
 use Rattle.reading.specs.Places.{onward, fault_of}
+use Rattle.reading.specs.declared.field.Fault.{Fault}
 use Rattle.request_parts.specs.Parts.{short_at}
 use Rattle.request_parts.specs.declared.calls.Call as declared
 use Rattle.request_parts.specs.declared.calls.Call.TheVariants as Cl
-use Rattle.request_parts.specs.declared.calls.CallRead.{CallRead}
-use Rattle.request_parts.specs.declared.calls.CallRead.TheVariants as Rd
 
 pub data Call : Type 0 where
   step : List ℕ → Call
@@ -39,10 +38,6 @@ abbrev pub meant : List ℕ → declared.Call → Call
 meant s (Cl.Step n from) = step (map (λ i. short_at (onward s from) (2 * i)) (below n))
 meant s (Cl.Wait d) = wait d
 
-abbrev pub call_of : List ℕ → CallRead → Read Call
-call_of s (Rd.Value c n) = got (meant s c) (onward s n)
-call_of s (Rd.Fault f) = fault (fault_of f)
-
-abbrev pub call_end : CallRead → ℕ
-call_end (Rd.Value c n) = n
-call_end (Rd.Fault f) = 0
+abbrev pub call_of : List ℕ → Result (declared.Call × ℕ) Fault → Read Call
+call_of s (Ok r) = got (meant s r.0) (onward s r.1)
+call_of s (Err f) = fault (fault_of f)

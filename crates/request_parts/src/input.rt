@@ -1,27 +1,20 @@
 // The parts of a request. A slice that ends early reads as if zeros followed.
-ghost use Rattle.std.specs.Prelude.{◌≡◌, map, ◌*◌, length, take};
+ghost use Rattle.std.specs.Prelude.{◌≡◌, ◌≤◌, map, ◌*◌, length, take};
 ghost use Rattle.lists.specs.Lists.{below};
 ghost use Rattle.reading.specs.Reading.{framed, byte4};
-ghost use Rattle.reading.specs.Places.{onward, frame_of, FrameFits};
+ghost use Rattle.reading.specs.Places.{onward, part_of, end_of};
 ghost use Rattle.request_parts.specs.Parts.{byte_at, short_at, word_at, mark_at, value_at};
 
-use reading::field::{Fault, Frame, WordRead, byte_at, read_word, short_of, word_of};
+use reading::field::{Read, byte_at, part, read_word, short_of, word_of};
+use std::array;
 
-// A file's length, in four bytes, and where its bytes stand.
-pub fn read_file(s: &[u8], at: usize) -> Frame
-    ensures means { frame_of s.now result ≡ framed byte4 (onward s.now at) }
-    ensures within { FrameFits s.now result }
+// A file's length, in four bytes, and its bytes.
+pub fn read_file(s: &[u8], at: usize) -> Read<&[u8]>
+    ensures means { part_of s.now result ≡ framed byte4 (onward s.now at) }
+    ensures within { end_of result ≤ length s.now }
 {
-    let w = read_word(s, at);
-    let WordRead::Value(n, from) = w else {
-        return Frame::Fault(reading::field::word_fault(w));
-    };
-    let size = n as usize;
-    if s.len() - from < size {
-        Frame::Fault(Fault::Length)
-    } else {
-        Frame::Part(from, from + size)
-    }
+    let (size, from) = read_word(s, at)?;
+    part(s, from, size as usize)
 }
 
 // The i-th number of two bytes.
@@ -63,52 +56,28 @@ fn value(s: &[u8], i: u8) -> i32
 pub fn marks(s: &[u8]) -> [bool; 48]
     ensures { result ≡ map (mark_at s.now) (below 48) }
 {
-    let mut t = [false; 48];
-    let mut i: u8 = 0;
-    while i < 48 {
-        t[i as usize] = mark(s, i);
-        i += 1;
-    }
-    t
+    array::from_fn(|i| mark(s, i as u8))
 }
 
 // A byte for each automaton.
 pub fn bytes(s: &[u8]) -> [u8; 16]
     ensures { result ≡ map (byte_at s.now) (below 16) }
 {
-    let mut t = [0; 16];
-    let mut i: usize = 0;
-    while i < 16 {
-        t[i] = byte_at(s, i);
-        i += 1;
-    }
-    t
+    array::from_fn(|i| byte_at(s, i))
 }
 
 // The variables.
 pub fn values(s: &[u8]) -> [i32; 16]
     ensures { result ≡ map (value_at s.now) (below 16) }
 {
-    let mut t = [0; 16];
-    let mut i: u8 = 0;
-    while i < 16 {
-        t[i as usize] = value(s, i);
-        i += 1;
-    }
-    t
+    array::from_fn(|i| value(s, i as u8))
 }
 
 // The clocks.
 pub fn words(s: &[u8]) -> [u32; 8]
     ensures { result ≡ map (λ i. word_at s.now (4 * i)) (below 8) }
 {
-    let mut t = [0; 8];
-    let mut i: u8 = 0;
-    while i < 8 {
-        t[i as usize] = word(s, i);
-        i += 1;
-    }
-    t
+    array::from_fn(|i| word(s, i as u8))
 }
 
 // The numbers of a list, from the start of an array on.
@@ -117,10 +86,8 @@ pub fn shorts(s: &[u8], count: u16) -> [u16; 65536]
     ensures list { take count result ≡ map (λ i. short_at s.now (2 * i)) (below count) }
 {
     let mut t = [0; 65536];
-    let mut i: u16 = 0;
-    while i < count {
+    for i in 0..count {
         t[i as usize] = short(s, i);
-        i += 1;
     }
     t
 }

@@ -74,22 +74,6 @@ module _ (b : List ℕ) where
   unfolding run skipped
   run_fault q = bind_fault _ _ _ (fault_at _ (calls b) q)
 
--- the number of an operation that is no other is the last
-above : (n k : ℕ) → n ≤ k → (k ≡ n → ⊥) → n < k
-above n k h q = omega arith
-
-first : (k : ℕ) → 0 ≤ k
-first k = omega arith
-
-eleven : (k : ℕ) → 10 < k → k < 12 → k ≡ 11
-eleven k h l = omega arith
-
-pub number_last : (k : ℕ) → k < 12 → (k ≡ 0 → ⊥) → (k ≡ 1 → ⊥) → (k ≡ 2 → ⊥) → (k ≡ 3 → ⊥) → (k ≡ 4 → ⊥)
-    → (k ≡ 5 → ⊥) → (k ≡ 6 → ⊥) → (k ≡ 7 → ⊥) → (k ≡ 8 → ⊥) → (k ≡ 9 → ⊥) → (k ≡ 10 → ⊥) → k ≡ 11
-number_last k h n0 n1 n2 n3 n4 n5 n6 n7 n8 n9 n10 =
-    let four : 4 < k = above 4 k (above 3 k (above 2 k (above 1 k (above 0 k (first k) n0) n1) n2) n3) n4 in
-    eleven k (above 10 k (above 9 k (above 8 k (above 7 k (above 6 k (above 5 k four n5) n6) n7) n8) n9) n10) h
-
 -- a request whose number was read
 module _ (b : List ℕ) {k : ℕ} {t : List ℕ} (h : such byte (λ k. ltb k 12) b ≡ got k t) where
   pub file_fault : {f : Fault} → framed byte4 t ≡ fault f → request b ≡ fault f

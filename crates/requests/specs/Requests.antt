@@ -1,16 +1,14 @@
 -- A request: a file, and what is asked of it.
-use Rattle.std.specs.Prelude.{ℕ, ◌-◌, ◌<◌, List, [], ◌∷◌, leb, ltb, get_or, take, drop}
+use Rattle.std.specs.Prelude.{ℕ, ◌<◌, List, [], ◌∷◌, leb, ltb, get_or, take, Result, Ok, Err}
 use Rattle.reading.specs.Reading.{Read, got, fault, Reader, yield, ◌>>=◌, byte, byte4, such, framed}
 use Rattle.reading.specs.Places.{onward, fault_of}
+use Rattle.reading.specs.declared.field.Fault.{Fault}
 use Rattle.request_parts.specs.Calls.{Call, body, calls, meant}
 use Rattle.requests.specs.declared.request.Machine.{Machine}
 use Rattle.requests.specs.declared.request.Machine.TheVariants as Mc
 use Rattle.requests.specs.declared.request.Operation as declared
 use Rattle.requests.specs.declared.request.Operation.TheVariants as Op
-use Rattle.requests.specs.declared.request.OperationRead.{OperationRead}
-use Rattle.requests.specs.declared.request.OperationRead.TheVariants as Or
-use Rattle.requests.specs.declared.request.RequestRead.{RequestRead}
-use Rattle.requests.specs.declared.request.RequestRead.TheVariants as Rr
+use Rattle.requests.specs.declared.request.Request as asking
 
 -- a call of a machine starts from a configuration, given as its bytes; of one the longest wait is asked too. Breaks are counted
 -- in a window of so many ticks; the file has the ticks of the breaks
@@ -98,23 +96,15 @@ wanted s (Op.RunBoth at) = run_both (calls_of (calls (onward s at)))
 wanted s (Op.Longest m at) = longest m (take (size m) (onward s at))
 wanted s (Op.Breaks w) = breaks w
 
-abbrev pub operation_of : List ℕ → OperationRead → Read Operation
-operation_of s (Or.Value o n) = got (wanted s o) (onward s n)
-operation_of s (Or.Fault f) = fault (fault_of f)
+abbrev pub operation_of : List ℕ → Result (declared.Operation × ℕ) Fault → Read Operation
+operation_of s (Ok r) = got (wanted s r.0) (onward s r.1)
+operation_of s (Err f) = fault (fault_of f)
 
-abbrev pub operation_end : OperationRead → ℕ
-operation_end (Or.Value o n) = n
-operation_end (Or.Fault f) = 0
-
-abbrev pub request_of : List ℕ → RequestRead → Read Request
-request_of s (Rr.Value q n) = got (asked (take (q.to - q.from) (drop q.from s)) (wanted s q.operation)) (onward s n)
-request_of s (Rr.Fault f) = fault (fault_of f)
-
-abbrev pub request_end : RequestRead → ℕ
-request_end (Rr.Value q n) = n
-request_end (Rr.Fault f) = 0
+abbrev pub request_of : List ℕ → Result (asking.Request × ℕ) Fault → Read Request
+request_of s (Ok r) = got (asked r.0.file.now (wanted s r.0.operation)) (onward s r.1)
+request_of s (Err f) = fault (fault_of f)
 
 -- a request that was read ends past the place where it starts
-abbrev pub Beyond : ℕ → RequestRead → Type 0
-Beyond at (Rr.Value q n) = at < n
-Beyond at (Rr.Fault f) = Unit
+abbrev pub Beyond : ℕ → Result (asking.Request × ℕ) Fault → Type 0
+Beyond at (Ok r) = at < r.1
+Beyond at (Err f) = Unit

@@ -1,13 +1,10 @@
 // A request: a file, and what is asked of it.
 ghost use Rattle.std.specs.Prelude.{◌≡◌, ◌≤◌, ◌<◌, length};
-ghost use Rattle.reading.specs.Places.{onward};
-ghost use Rattle.requests.specs.Requests.{size, lent, called, run, longest_from, windowed, operation, request, operation_of, operation_end, request_of, request_end, Beyond};
+ghost use Rattle.reading.specs.Places.{onward, end_of};
+ghost use Rattle.requests.specs.Requests.{size, lent, called, run, longest_from, windowed, operation, request, operation_of, request_of, Beyond};
 
-use reading::field::{
-    ByteRead, Fault, Frame, Reached, WordRead, byte_fault, frame_fault, left, read_below,
-    read_word, word_fault,
-};
-use request_parts::calls::{Call, CallRead, read_body, skip_calls};
+use reading::field::{Fault, Read, left, read_below, read_word};
+use request_parts::calls::{Call, read_body, skip_calls};
 use request_parts::input::read_file;
 
 #[derive(Clone, Copy)]
@@ -30,40 +27,23 @@ pub enum Operation {
     Breaks(u32),
 }
 
+// The file's bytes, and what is asked of them.
 #[derive(Clone, Copy)]
-pub enum OperationRead {
-    Value(Operation, usize),
-    Fault(Fault),
-}
-
-// The file's bytes stand between two places.
-#[derive(Clone, Copy)]
-pub struct Request {
-    pub from: usize,
-    pub to: usize,
+pub struct Request<'a> {
+    pub file: &'a [u8],
     pub operation: Operation,
 }
 
-// A request, and the place after it.
-#[derive(Clone, Copy)]
-pub enum RequestRead {
-    Value(Request, usize),
-    Fault(Fault),
-}
-
 // The length of the buffer that is lent.
-fn read_lent(s: &[u8], at: usize) -> OperationRead
+fn read_lent(s: &[u8], at: usize) -> Read<Operation>
     ensures means { operation_of s.now result ≡ lent (onward s.now at) }
-    ensures within { operation_end result ≤ length s.now }
+    ensures within { end_of result ≤ length s.now }
 {
-    let w = read_word(s, at);
-    let WordRead::Value(room, next) = w else {
-        return OperationRead::Fault(word_fault(w));
-    };
+    let (room, next) = read_word(s, at)?;
     if room <= 65536 {
-        OperationRead::Value(Operation::Flatten(room), next)
+        Ok((Operation::Flatten(room), next))
     } else {
-        OperationRead::Fault(Fault::Range)
+        Err(Fault::Range)
     }
 }
 
@@ -78,70 +58,62 @@ fn size(m: Machine) -> usize
 }
 
 // A configuration, and a call.
-fn read_called(s: &[u8], at: usize, m: Machine, kind: u8) -> OperationRead
+fn read_called(s: &[u8], at: usize, m: Machine, kind: u8) -> Read<Operation>
     ensures means { operation_of s.now result ≡ called m kind (onward s.now at) }
-    ensures within { operation_end result ≤ length s.now }
+    ensures within { end_of result ≤ length s.now }
 {
     let taken = size(m);
     if left(s, at) < taken {
-        return OperationRead::Fault(Fault::Length);
+        return Err(Fault::Length);
     }
-    let c = read_body(s, at + taken, kind);
-    match c {
-        CallRead::Value(call, next) => OperationRead::Value(Operation::Call(m, at, call), next),
-        CallRead::Fault(f) => OperationRead::Fault(f),
-    }
+    let (call, next) = read_body(s, at + taken, kind)?;
+    Ok((Operation::Call(m, at, call), next))
 }
 
 // Calls.
-fn read_run(s: &[u8], at: usize) -> OperationRead
+fn read_run(s: &[u8], at: usize) -> Read<Operation>
     ensures means { operation_of s.now result ≡ run (onward s.now at) }
-    ensures within { operation_end result ≤ length s.now }
+    ensures within { end_of result ≤ length s.now }
 {
-    let q = skip_calls(s, at);
-    match q {
-        Reached::At(next) => OperationRead::Value(Operation::RunBoth(at), next),
-        Reached::Fault(f) => OperationRead::Fault(f),
-    }
+    let next = skip_calls(s, at)?;
+    Ok((Operation::RunBoth(at), next))
 }
 
 // A configuration alone.
-fn read_longest(s: &[u8], at: usize, m: Machine) -> OperationRead
+fn read_longest(s: &[u8], at: usize, m: Machine) -> Read<Operation>
     ensures means { operation_of s.now result ≡ longest_from m (onward s.now at) }
-    ensures within { operation_end result ≤ length s.now }
+    ensures within { end_of result ≤ length s.now }
 {
     let taken = size(m);
     if left(s, at) < taken {
-        return OperationRead::Fault(Fault::Length);
+        Err(Fault::Length)
+    } else {
+        Ok((Operation::Longest(m, at), at + taken))
     }
-    OperationRead::Value(Operation::Longest(m, at), at + taken)
 }
 
 // How many ticks a window has: any number of four bytes.
-fn read_window(s: &[u8], at: usize) -> OperationRead
+fn read_window(s: &[u8], at: usize) -> Read<Operation>
     ensures means { operation_of s.now result ≡ windowed (onward s.now at) }
-    ensures within { operation_end result ≤ length s.now }
+    ensures within { end_of result ≤ length s.now }
 {
-    let w = read_word(s, at);
-    match w {
-        WordRead::Value(window, next) => OperationRead::Value(Operation::Breaks(window), next),
-        WordRead::Fault(f) => OperationRead::Fault(f),
-    }
+    let (window, next) = read_word(s, at)?;
+    Ok((Operation::Breaks(window), next))
 }
 
 // What follows the file.
-fn read_operation(s: &[u8], at: usize, code: u8) -> OperationRead
+fn read_operation(s: &[u8], at: usize, code: u8) -> Read<Operation>
     requires { (at ≤ length s.now) × (code < 12) }
     ensures means { operation_of s.now result ≡ operation code (onward s.now at) }
-    ensures within { operation_end result ≤ length s.now }
+    ensures within { end_of result ≤ length s.now }
 {
     match code {
-        0 => OperationRead::Value(Operation::Check, at),
+        0 => Ok((Operation::Check, at)),
         1 => read_lent(s, at),
-        2 => OperationRead::Value(Operation::Start(Machine::Chart), at),
+        2 => Ok((Operation::Start(Machine::Chart), at)),
         3 => read_called(s, at, Machine::Chart, 0),
         4 => read_called(s, at, Machine::Chart, 1),
-        5 => OperationRead::Value(Operation::Start(Machine::Network), at),
+        5 => Ok((Operation::Start(Machine::Network), at)),
         6 => read_called(s, at, Machine::Network, 0),
         7 => read_called(s, at, Machine::Network, 1),
         8 => read_run(s, at),
@@ -151,30 +123,14 @@ fn read_operation(s: &[u8], at: usize, code: u8) -> OperationRead
     }
 }
 
-// The request at a place. It is cut off, which is a fault of the length, or out of range, or whole.
-pub fn read_request(s: &[u8], at: usize) -> RequestRead
+// The request at a place, and the place after it. It is cut off, which is a fault of the length, or out of range, or whole.
+pub fn read_request(s: &[u8], at: usize) -> Read<Request<'_>>
     ensures means { request_of s.now result ≡ request (onward s.now at) }
-    ensures within { request_end result ≤ length s.now }
+    ensures within { end_of result ≤ length s.now }
     ensures beyond { Beyond at result }
 {
-    let b = read_below(s, at, 12);
-    let ByteRead::Value(code, next) = b else {
-        return RequestRead::Fault(byte_fault(b));
-    };
-    let f = read_file(s, next);
-    let Frame::Part(from, to) = f else {
-        return RequestRead::Fault(frame_fault(f));
-    };
-    let o = read_operation(s, to, code);
-    match o {
-        OperationRead::Value(operation, end) => RequestRead::Value(
-            Request {
-                from,
-                to,
-                operation,
-            },
-            end,
-        ),
-        OperationRead::Fault(e) => RequestRead::Fault(e),
-    }
+    let (code, next) = read_below(s, at, 12)?;
+    let (file, to) = read_file(s, next)?;
+    let (operation, end) = read_operation(s, to, code)?;
+    Ok((Request { file, operation }, end))
 }

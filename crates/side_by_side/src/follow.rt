@@ -6,12 +6,12 @@ ghost use Rattle.agreement.specs.Agreement as agreed;
 ghost use Rattle.paired_run.specs.Paired.{Flattening, Stands};
 ghost use Rattle.side_by_side.specs.Lines.{AfterLine};
 
-use crate::show::{show_call, show_longest, show_network, show_start};
+use crate::show::{show_asked, show_call, show_network, show_start};
+use console::machine::show_longest;
 use console::script::{Call, Line};
-use lists::number::least;
+use console::sentence::refused_call;
 use paired_run::run;
 use paired_run::run::{Followed, Run};
-use reading::verdict::Verdict;
 use std::io;
 use std::io::Write;
 
@@ -30,30 +30,25 @@ fn started(out: &mut impl Write, file: &[u8], bytes: &[u8]) -> io::Result<Run>
 fn shown(out: &mut impl Write, bytes: &[u8], f: Followed) -> io::Result<Run>
     ensures { IfOk result (λ r. r ≡ f.run) }
 {
-    let verdict = f.verdict;
-    let reading = f.reading;
-    let carried = f.carried;
-    let answer = f.answer;
-    let r = f.run;
-    if let Verdict::Refused(k) = verdict {
-        console::sentence::refused_call(out, k)?;
+    if let Err(refusal) = f.verdict {
+        refused_call(out, refusal)?;
     }
-    show_network(out, bytes, r.network)?;
-    show_call(out, reading, carried)?;
-    if let Verdict::Refused(k) = answer {
-        console::sentence::refused_call(out, k)?;
+    show_network(out, bytes, f.run.network)?;
+    show_call(out, f.reading, f.carried)?;
+    if let Err(refusal) = f.answer {
+        refused_call(out, refusal)?;
     }
-    Ok(r)
+    Ok(f.run)
 }
 
 // Both machines are asked for the longest wait, and stay as they are.
 fn asked(out: &mut impl Write, file: &[u8], bytes: &[u8], r: Run) -> io::Result<Run>
     ensures { IfOk result (λ next. next ≡ r) }
 {
-    network_calls::show_longest(out, bytes, r.network)?;
+    show_longest::<network_calls::Network, _>(out, bytes, r.network)?;
     show_network(out, bytes, r.network)?;
-    show_longest(out)?;
-    chart_calls::show_longest(out, file, r.chart)?;
+    show_asked(out)?;
+    show_longest::<chart_calls::Chart, _>(out, file, r.chart)?;
     Ok(r)
 }
 
@@ -67,12 +62,14 @@ pub fn after_call(
 ) -> io::Result<Run>
     ensures { IfOk result (λ next. AfterLine file.now bytes.now r line next) }
 {
-    let call = line.call;
-    let list = line.list;
-    let count = least(line.count, 17);
-    match call {
+    let count = line.count.min(17);
+    match line.call {
         Call::Start => started(out, file, bytes),
-        Call::Step => shown(out, bytes, run::after_step(file, bytes, r, &list[0..count])),
+        Call::Step => shown(
+            out,
+            bytes,
+            run::after_step(file, bytes, r, &line.list[..count]),
+        ),
         Call::Wait(ticks) => shown(out, bytes, run::after_wait(file, bytes, r, ticks)),
         Call::Longest => asked(out, file, bytes, r),
         _ => Ok(r),

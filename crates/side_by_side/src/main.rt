@@ -7,13 +7,11 @@ mod follow;
 mod show;
 
 ghost use Rattle.std.specs.Prelude.{◌≡◌, IfOk};
-ghost use Rattle.network_machine.specs.Answers as network;
-ghost use Rattle.chart_machine.specs.Outcomes as chart;
 ghost use Rattle.console.specs.Script.{line_of};
 ghost use Rattle.side_by_side.specs.Lines.{AfterLine};
 
 use console::script;
-use flattener::operation::Flattened;
+use flattener::operation::flatten;
 use paired_run::run::Run;
 use std::io;
 use std::io::Write;
@@ -30,8 +28,7 @@ fn take_line(
     ensures { IfOk result (λ next. AfterLine file.now bytes.now r (line_of text.now) next) }
 {
     let line = script::read_line(text);
-    let call = line.call;
-    if !script::is_call(out, call, text, number)? {
+    if !script::is_call(out, line.call, text, number)? {
         return Ok(r);
     }
     let next = follow::after_call(out, file, bytes, r, line)?;
@@ -39,27 +36,11 @@ fn take_line(
     Ok(next)
 }
 
-// What stands for a run before the first start.
-fn no_run() -> Run
-    ensures { (result.network ≡ network.zero_configuration) × (result.chart ≡ chart.zero_configuration) × (result.owed ≡ 0) }
-{
-    Run {
-        network: network_calls::no_configuration(),
-        chart: chart_calls::no_configuration(),
-        owed: 0,
-    }
-}
-
-// The whole script. Each program has the loop over the lines itself.
-fn run(out: &mut impl Write, file: &[u8], bytes: &[u8], lines: &[u8]) -> io::Result<()> {
-    let mut r = no_run();
-    let mut number = 1;
-    let mut at = 0;
-    while at < lines.len() {
-        let to = script::find(lines, at, b'\n');
-        r = take_line(out, file, bytes, r, &lines[at..to], number)?;
-        number = script::next_number(number);
-        at = to + 1;
+// The whole script, from before the first start on.
+fn run<W: Write>(out: &mut W, file: &[u8], bytes: &[u8], lines: &[u8]) -> io::Result<()> {
+    let mut r = Run::zero();
+    for (i, text) in lines.split(|b| *b == b'\n').enumerate() {
+        r = take_line(out, file, bytes, r, text, i as u64 + 1)?;
     }
     Ok(())
 }
@@ -67,10 +48,9 @@ fn run(out: &mut impl Write, file: &[u8], bytes: &[u8], lines: &[u8]) -> io::Res
 // The script on the chart and its network, or why there is no network.
 fn run_flattened(out: &mut impl Write, file: &[u8], lines: &[u8]) -> io::Result<()> {
     let mut buffer = [0; 65536];
-    let flattened = flattener::operation::flatten(file, &mut buffer);
-    match flattened {
-        Flattened::Length(length) => run(out, file, &buffer[0..length], lines),
-        Flattened::Refused(k) => console::sentence::refusal(out, k),
+    match flatten(file, &mut buffer) {
+        Ok(length) => run(out, file, &buffer[..length], lines),
+        Err(refusal) => console::sentence::refusal(out, refusal),
     }
 }
 

@@ -1,5 +1,8 @@
 // What is printed of a run.
+use chart_calls::Chart;
+use console::machine::Machine;
 use console::print;
+use network_calls::Network;
 use paired_run::carry::Transitions;
 use paired_run::run::Reading;
 use std::io;
@@ -12,7 +15,7 @@ pub fn show_network(
     c: network_moves::configuration::Configuration,
 ) -> io::Result<()> {
     print::text(out, b" network\n")?;
-    network_calls::show(out, file, c)
+    Network::show(out, file, c)
 }
 
 fn show_number(out: &mut impl Write, n: u16) -> io::Result<()> {
@@ -21,10 +24,8 @@ fn show_number(out: &mut impl Write, n: u16) -> io::Result<()> {
 
 // The first `count` numbers of a step.
 fn show_list(out: &mut impl Write, list: &[u16; 16], count: usize) -> io::Result<()> {
-    for i in 0..16 {
-        if i < count {
-            show_number(out, list[i])?;
-        }
+    for n in &list[..count.min(16)] {
+        show_number(out, *n)?;
     }
     Ok(())
 }
@@ -33,7 +34,7 @@ pub fn show_start(out: &mut impl Write) -> io::Result<()> {
     print::text(out, b" chart: start\n")
 }
 
-pub fn show_longest(out: &mut impl Write) -> io::Result<()> {
+pub fn show_asked(out: &mut impl Write) -> io::Result<()> {
     print::text(out, b" chart: longest\n")
 }
 
@@ -62,7 +63,7 @@ pub fn show_chart(
     c: chart_moves::configuration::Configuration,
     owed: u64,
 ) -> io::Result<()> {
-    chart_calls::show(out, file, c)?;
+    Chart::show(out, file, c)?;
     print::text(out, b" urgent moves owed:")?;
     print::number(out, owed)?;
     print::line_end(out)

@@ -13,7 +13,7 @@ use lib.ListN.{length, get_or, drop, length-drop}
 use lib.Seq.{get_or-drop, drop-set-lt}
 use Rattle.lists.specs.Lists.{all, concat}
 use Rattle.updates.specs.Update.{Update, assignment, advance, form_of, writes, stays, updated, assign}
-use Rattle.labels.specs.Label.{Label, body}
+use Rattle.labels.specs.Label.{Label}
 use Rattle.clocks.specs.Clocks.{clock_limit, reset, in_limit, zero_past, keeps, is_zero, zeros_past}
 use Rattle.steps.specs.Moves.{all_stay, variables_after, clocks_after}
 use Rattle.lists.proofs.Lists.{all_at, all_by, get_d_mem, mem_get_d}

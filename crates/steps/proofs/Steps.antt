@@ -13,7 +13,6 @@ use Rattle.steps.specs.Moves.{senders, one_sends, maximal, none_fits, allowed}
 use Rattle.steps.specs.Cases.{member, owner_of, signals_on, takes_part, one_sender, allowed_if, case_of, case_allows}
 use Rattle.steps.specs.declared.step.Member.{Member}
 use Rattle.steps.specs.declared.step.Case.{Case}
-use Rattle.steps.specs.declared.step.Case.TheVariants as Case
 use Rattle.lists.proofs.Bools.{or_l, or_r}
 use Rattle.lists.proofs.Lists.{all_map, keep_map, all_same, all_next, all_stop}
 use Rattle.lists.proofs.Below.{below_at}

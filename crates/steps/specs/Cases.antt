@@ -4,7 +4,6 @@ use Rattle.lists.specs.Lists.{all, keep, distinct}
 use Rattle.labels.specs.Label.{Label}
 use Rattle.steps.specs.declared.step.Member.{Member}
 use Rattle.steps.specs.declared.step.Case.{Case}
-use Rattle.steps.specs.declared.step.Case.TheVariants as Case
 
 -- what is known of a transition or an edge
 abbrev pub member : (ℕ → Label) → (ℕ → ℕ) → ℕ → Member

@@ -1,7 +1,7 @@
 -- What a chart's steps and a network's moves share: which sets are allowed, and what they do to variables and clocks.
 -- A member is a number: a transition or an edge. Its owner is a sequential state or an automaton.
 use Rattle.std.specs.Prelude.{ℕ, Bool, false, cond, not, ◌&&◌, ◌||◌, List, [], ◌∷◌, map, ℤ, leb, ltb, eqb, length}
-use Rattle.lists.specs.Lists.{all, any, elem, below, keep, concat, ascending, distinct}
+use Rattle.lists.specs.Lists.{all, elem, below, keep, concat, ascending, distinct}
 use Rattle.updates.specs.Update.{stays, assign}
 use Rattle.labels.specs.Label.{Label, sends, receives}
 use Rattle.clocks.specs.Clocks.{reset}

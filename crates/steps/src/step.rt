@@ -1,12 +1,13 @@
 // What the steps of charts and networks share: which sets of transitions or edges are allowed, and a step's last tests. The loops
 // run over plain numbers: each machine collects the owners of its active receivers.
-ghost use Rattle.std.specs.Prelude.{◌≡◌, map, ◌≤◌, ltb, length, take, drop};
+ghost use Rattle.std.specs.Prelude.{◌≡◌, map, ltb, length};
 ghost use Rattle.lists.specs.Lists.{all, keep, elem, ascending, distinct};
+ghost use Rattle.reading.specs.Verdict.{answer_of};
 ghost use Rattle.steps.specs.Moves.{known, none_fits};
 ghost use Rattle.steps.specs.Last.{last_tests};
 ghost use Rattle.steps.specs.Cases.{owner_of, signals_on, takes_part, one_sender, allowed_if, case_of};
 
-use reading::verdict::Verdict;
+use reading::refusal::Refusal;
 
 // Of a chosen transition or edge. Its owner is a sequential state or an automaton.
 #[derive(Clone, Copy)]
@@ -27,12 +28,10 @@ pub enum Case {
 fn ascends(list: &[u16]) -> bool
     ensures { result ≡ ascending list.now }
 {
-    let mut i = 0;
-    while i + 1 < list.len() {
-        if list[i + 1] <= list[i] {
+    for i in 1..list.len() {
+        if list[i] <= list[i - 1] {
             return false;
         }
-        i += 1;
     }
     true
 }
@@ -40,12 +39,10 @@ fn ascends(list: &[u16]) -> bool
 fn all_below(list: &[u16], count: usize) -> bool
     ensures { result ≡ all (λ m. ltb m count) list.now }
 {
-    let mut i = 0;
-    while i < list.len() {
-        if list[i] as usize >= count {
+    for m in list {
+        if *m as usize >= count {
             return false;
         }
-        i += 1;
     }
     true
 }
@@ -77,72 +74,55 @@ fn takes_part(m: Member, channel: u8) -> bool
 }
 
 // How many members send on the channel.
-fn count_senders(members: [Member; 16], count: usize, channel: u8) -> usize
-    requires { count ≤ 16 }
-    ensures { result ≡ length (keep (signals_on 1 channel) (take count members)) }
+fn count_senders(members: &[Member], channel: u8) -> usize
+    ensures { result ≡ length (keep (signals_on 1 channel) members.now) }
 {
     let mut senders = 0;
-    let mut i = 0;
-    while i < count {
-        let m = members[i];
-        if signals_on(m, 1, channel) {
+    for m in members {
+        if signals_on(*m, 1, channel) {
             senders += 1;
         }
-        i += 1;
     }
     senders
 }
 
-fn all_take_part(members: [Member; 16], count: usize, channel: u8) -> bool
-    requires { count ≤ 16 }
-    ensures { result ≡ all (takes_part channel) (take count members) }
+fn all_take_part(members: &[Member], channel: u8) -> bool
+    ensures { result ≡ all (takes_part channel) members.now }
 {
-    let mut i = 0;
-    while i < count {
-        let m = members[i];
-        if !takes_part(m, channel) {
+    for m in members {
+        if !takes_part(*m, channel) {
             return false;
         }
-        i += 1;
     }
     true
 }
 
 // One sender on the channel, and otherwise receivers of it.
-fn one_sender(members: [Member; 16], count: usize, channel: u8) -> bool
-    requires { count ≤ 16 }
-    ensures { result ≡ one_sender channel (take count members) }
+fn one_sender(members: &[Member], channel: u8) -> bool
+    ensures { result ≡ one_sender channel members.now }
 {
-    count_senders(members, count, channel) == 1 && all_take_part(members, count, channel)
+    count_senders(members, channel) == 1 && all_take_part(members, channel)
 }
 
-// Whether a member from a place on has the owner.
-fn owned_from(members: [Member; 16], from: usize, count: usize, owner: u8) -> bool
-    requires { count ≤ 16 }
-    ensures { result ≡ elem owner (map owner_of (drop from (take count members))) }
+// Whether one of the members has the owner.
+fn owned(members: &[Member], owner: u8) -> bool
+    ensures { result ≡ elem owner (map owner_of members.now) }
 {
-    let mut i = from;
-    while i < count {
-        let m = members[i];
+    for m in members {
         if m.owner == owner {
             return true;
         }
-        i += 1;
     }
     false
 }
 
-fn owners_distinct(members: [Member; 16], count: usize) -> bool
-    requires { count ≤ 16 }
-    ensures { result ≡ distinct (map owner_of (take count members)) }
+fn owners_distinct(members: &[Member]) -> bool
+    ensures { result ≡ distinct (map owner_of members.now) }
 {
-    let mut i = 0;
-    while i < count {
-        let m = members[i];
-        if owned_from(members, i + 1, count, m.owner) {
+    for i in 0..members.len() {
+        if owned(&members[i + 1..], members[i].owner) {
             return false;
         }
-        i += 1;
     }
     true
 }
@@ -153,39 +133,26 @@ fn allowed_if(b: bool) -> Case
     if b { Case::Allowed } else { Case::Refused }
 }
 
-// The case of at most sixteen members. The first channels are rendezvous channels.
-fn case_among(members: [Member; 16], count: usize, rendezvous: u8) -> Case
-    requires { count ≤ 16 }
-    ensures { result ≡ case_of rendezvous (take count members) }
+// The case of some members. The first channels are rendezvous channels.
+pub fn case_of(members: &[Member], rendezvous: u8) -> Case
+    ensures { result ≡ case_of rendezvous members.now }
 {
-    if count == 0 {
+    let [m, others @ ..] = members else {
         return Case::Refused;
-    }
-    let m = members[0];
-    if !owners_distinct(members, count) {
+    };
+    if !owners_distinct(members) {
         return Case::Refused;
     }
     if m.signal == 0 {
-        return allowed_if(count - 1 == 0);
+        return allowed_if(others.is_empty());
     }
-    if !one_sender(members, count, m.channel) {
+    if !one_sender(members, m.channel) {
         return Case::Refused;
     }
     if m.channel < rendezvous {
-        allowed_if(count - 1 == 1)
+        allowed_if(others.len() == 1)
     } else {
         Case::Broadcast(m.channel)
-    }
-}
-
-// The case of the first members, as many as counted.
-pub fn case_of(members: [Member; 16], count: usize, rendezvous: u8) -> Case
-    ensures { result ≡ case_of rendezvous (take count members) }
-{
-    if count < 16 {
-        case_among(members, count, rendezvous)
-    } else {
-        case_among(members, 16, rendezvous)
     }
 }
 
@@ -205,42 +172,34 @@ pub fn owners_of(members: [Member; 16]) -> [u8; 16]
 pub fn maximal(receivers: &[u8], owners: &[u8]) -> bool
     ensures { result ≡ none_fits receivers.now owners.now }
 {
-    let mut none_fits = true;
-    let mut r = 0;
-    'receivers: while r < receivers.len() {
-        let owner = receivers[r];
-        if owner != 255 {
-            let mut c = 0;
-            'chosen: loop {
-                if c == owners.len() {
-                    none_fits = false;
-                    break 'receivers;
-                }
-                if owners[c] == owner {
-                    break 'chosen;
-                }
-                c += 1;
+    'receivers: for receiver in receivers {
+        if *receiver == 255 {
+            continue;
+        }
+        for owner in owners {
+            if *owner == *receiver {
+                continue 'receivers;
             }
         }
-        r += 1;
+        return false;
     }
-    none_fits
+    true
 }
 
 // What becomes of a step by its last three tests: its set is allowed, its updates stay in the range, the bounds after it are kept.
 // What a set leads to is computed before, also where the set is not allowed, and dropped where the step is refused.
 #[tactic(auto, unfolding(crate::specs::Last::last_tests))]
-pub fn last_tests(allowed: bool, within: bool, kept: bool) -> Verdict
-    ensures { result ≡ last_tests allowed within kept }
+pub fn last_tests(allowed: bool, within: bool, kept: bool) -> Result<(), Refusal>
+    ensures { answer_of result ≡ last_tests allowed within kept }
 {
     if !allowed {
-        return Verdict::Refused(20);
+        return Err(Refusal::NotAllowed);
     }
     if !within {
-        return Verdict::Refused(28);
+        return Err(Refusal::OutOfRange);
     }
     if !kept {
-        return Verdict::Refused(21);
+        return Err(Refusal::Bound);
     }
-    Verdict::Done
+    Ok(())
 }

@@ -3,13 +3,14 @@ use mathlib.Core.Path.{◌≡◌, refl, sym}
 use mathlib.Core.Bool.{true, false, cond}
 use Prim.Native.Nat.{ℕ, ◌-◌, ◌≤◌, ◌<◌}
 use borrow.Author.Tests.{le-leb, lt-leb}
+use Rattle.std.specs.Prelude.{Some, None, Ok, Err}
 use Rattle.lists.proofs.Bools.{cond_yes, cond_no}
 use Rattle.console.specs.Script.{is_space, is_digit}
 use Rattle.console.specs.Places.{with_digit}
 use Rattle.tick_lines.specs.Lines.{with_byte, tick_of_number, ended_tick}
 use Rattle.tick_lines.specs.declared.line.Line.{Line}
 use Rattle.tick_lines.specs.declared.line.Line.TheVariants as Li
-use Rattle.tick_lines.specs.declared.line.Tick.TheVariants as Ti
+use Rattle.tick_lines.specs.declared.line.Stop.TheVariants as St
 
 -- a byte more
 pub blank_digit : {l : Line} (b : ℕ) → l ≡ Li.Blank → is_digit b ≡ true → Li.Digits (with_digit 0 (b - 48)) ≡ with_byte l b
@@ -37,15 +38,15 @@ unfolding with_byte
 bad_byte b e = rw e refl
 
 -- the end of a line
-pub number_tick : (n : ℕ) → n ≤ 4294967295 → Ti.Value n ≡ tick_of_number n
+pub number_tick : (n : ℕ) → n ≤ 4294967295 → Ok (Some n) ≡ tick_of_number n
 unfolding tick_of_number
 number_tick n h = sym (cond_yes _ _ (le-leb n 4294967295 h))
 
-pub number_bad : (n : ℕ) → 4294967295 < n → Ti.Bad ≡ tick_of_number n
+pub number_bad : (n : ℕ) → 4294967295 < n → Err St.Bad ≡ tick_of_number n
 unfolding tick_of_number
 number_bad n h = sym (cond_no _ _ (lt-leb n 4294967295 h))
 
-pub ended_blank : {l : Line} → l ≡ Li.Blank → Ti.None ≡ ended_tick l
+pub ended_blank : {l : Line} → l ≡ Li.Blank → Ok None ≡ ended_tick l
 unfolding ended_tick
 ended_blank e = rw e refl
 
@@ -57,6 +58,6 @@ pub ended_ended : {l : Line} {n : ℕ} → l ≡ Li.Ended n → tick_of_number n
 unfolding ended_tick
 ended_ended e = rw e refl
 
-pub ended_bad : {l : Line} → l ≡ Li.Bad → Ti.Bad ≡ ended_tick l
+pub ended_bad : {l : Line} → l ≡ Li.Bad → Err St.Bad ≡ ended_tick l
 unfolding ended_tick
 ended_bad e = rw e refl

@@ -8,6 +8,7 @@ use native.Mathlib.Omega.{arith}
 use borrow.Author.Tests.{le-leb, lt-leb, eqb-false}
 use lib.Dec.{eqb}
 use lib.ListN.{length}
+use Rattle.std.specs.Prelude.{Some, Ok, Err}
 use Rattle.lists.specs.Lists.{all, any, elem}
 use Rattle.lists.proofs.Bools.{both, clash, decided, cond_no, neither_l, neither_r}
 use Rattle.lists.proofs.Lists.{all_more}
@@ -15,18 +16,17 @@ use Rattle.console.specs.Script.{is_space, is_digit, is_number, decimal, decimal
 use Rattle.console.specs.Places.{with_digit}
 use Rattle.console.proofs.Words.{after_space, after_byte, digit_no_space}
 use Rattle.console.proofs.Decimals.{Counted, decimal_more, digit_low, counted_digit, not_digits}
-use Rattle.tick_lines.specs.Lines.{tick_of, line_tick, with_byte, with_bytes, tick_of_number, ended_tick}
+use Rattle.tick_lines.specs.Lines.{Tick, tick_of, line_tick, with_byte, with_bytes, tick_of_number, ended_tick}
 use Rattle.tick_lines.specs.Inputs.{Said, said, line_ended, byte_said, bytes_said}
 use Rattle.tick_lines.proofs.Inputs.{other_said}
 use Rattle.tick_lines.specs.declared.line.Line.{Line}
 use Rattle.tick_lines.specs.declared.line.Line.TheVariants as Li
-use Rattle.tick_lines.specs.declared.line.Tick.{Tick}
-use Rattle.tick_lines.specs.declared.line.Tick.TheVariants as Ti
+use Rattle.tick_lines.specs.declared.line.Stop.TheVariants as St
 
 -- a word that is no number, with or without words after it
-no_number : (w : List ℕ) (ws : List (List ℕ)) → is_number w ≡ false → tick_of (w ∷ ws) ≡ Ti.Bad
+no_number : (w : List ℕ) (ws : List (List ℕ)) → is_number w ≡ false → tick_of (w ∷ ws) ≡ Err St.Bad
 unfolding tick_of
-no_number w [] h = cond_no (Ti.Value (decimal w)) Ti.Bad h
+no_number w [] h = cond_no (Ok (Some (decimal w))) (Err St.Bad) h
 no_number w (v ∷ ws) h = refl
 
 -- a word of digits alone, whose value was read as n
@@ -36,13 +36,13 @@ word_tick a v n h (inl e) = rw (le-leb 1 (length (a ∷ v)) (omega arith), h, e)
 word_tick a v n h (inr (k, l)) = rw (le-leb 1 (length (a ∷ v)) (omega arith), h, lt-leb (decimal (a ∷ v)) 4294967295 l, lt-leb n 4294967295 k) refl
 
 -- once a line is bad it stays so
-bad_bytes : (s : List ℕ) → ended_tick (with_bytes Li.Bad s) ≡ Ti.Bad
+bad_bytes : (s : List ℕ) → ended_tick (with_bytes Li.Bad s) ≡ Err St.Bad
 unfolding with_bytes with_byte ended_tick
 bad_bytes [] = refl
 bad_bytes (b ∷ s) = bad_bytes s
 
 -- a word with a byte that is no digit
-bad_word : (a : ℕ) (v s : List ℕ) → all is_digit (a ∷ v) ≡ false → tick_of (words_after (a ∷ v) s) ≡ Ti.Bad
+bad_word : (a : ℕ) (v s : List ℕ) → all is_digit (a ∷ v) ≡ false → tick_of (words_after (a ∷ v) s) ≡ Err St.Bad
 unfolding words_after ended
 bad_word a v [] h = no_number (a ∷ v) [] (not_digits (a ∷ v) h)
 bad_word a v (b ∷ s) h = ⊎_elim
@@ -51,7 +51,7 @@ bad_word a v (b ∷ s) h = ⊎_elim
     (decided (is_space b))
 
 -- a word after another
-second_word : (w : List ℕ) (a : ℕ) (v s : List ℕ) → tick_of (w ∷ words_after (a ∷ v) s) ≡ Ti.Bad
+second_word : (w : List ℕ) (a : ℕ) (v s : List ℕ) → tick_of (w ∷ words_after (a ∷ v) s) ≡ Err St.Bad
 unfolding words_after ended tick_of
 second_word w a v [] = refl
 second_word w a v (b ∷ s) = ⊎_elim

@@ -1,15 +1,14 @@
 -- What the bytes of the input say: the ticks of the lines that have ended, and the line that is being read.
-use Rattle.std.specs.Prelude.{◌≡◌, false, cond, List, [], ◌∷◌, ◌++◌, ℕ, ◌<◌, eqb, take}
+use Rattle.std.specs.Prelude.{◌≡◌, false, cond, List, [], ◌∷◌, ◌++◌, ℕ, ◌<◌, eqb, take, Some, None, Result, Ok, Err}
 use Rattle.break_windows.specs.Breaks.{most_breaks, climbs}
-use Rattle.tick_lines.specs.Lines.{with_byte, ended_tick}
+use Rattle.tick_lines.specs.Lines.{Tick, with_byte, ended_tick}
 use Rattle.tick_lines.specs.Rings.{Holds}
 use Rattle.tick_lines.specs.declared.line.Line.{Line}
 use Rattle.tick_lines.specs.declared.line.Line.TheVariants as Li
-use Rattle.tick_lines.specs.declared.line.Tick.{Tick}
-use Rattle.tick_lines.specs.declared.line.Tick.TheVariants as Ti
-use Rattle.tick_lines.specs.declared.input.Stop.TheVariants as St
-use Rattle.tick_lines.specs.declared.input.Read.{Read}
-use Rattle.tick_lines.specs.declared.input.Read.TheVariants as Re
+use Rattle.tick_lines.specs.declared.line.Stop.{Stop}
+use Rattle.tick_lines.specs.declared.line.Stop.TheVariants as St
+use Rattle.tick_lines.specs.declared.input.State.{State}
+use Rattle.tick_lines.specs.declared.input.Stopped.{Stopped}
 
 -- or that a line has no tick and is not blank
 pub data Said : Type 0 where
@@ -18,9 +17,9 @@ pub data Said : Type 0 where
 
 -- a line ends
 abbrev pub line_ended : List ℕ → Tick → Said
-line_ended ts Ti.None = said ts Li.Blank
-line_ended ts (Ti.Value t) = said (ts ++ (t ∷ [])) Li.Blank
-line_ended ts Ti.Bad = unread
+line_ended ts (Ok None) = said ts Li.Blank
+line_ended ts (Ok (Some t)) = said (ts ++ (t ∷ [])) Li.Blank
+line_ended ts (Err y) = unread
 
 -- a byte more: a line feed, 10, ends a line
 unfoldable pub byte_said : Said → ℕ → Said
@@ -31,19 +30,27 @@ unfoldable pub bytes_said : Said → List ℕ → Said
 bytes_said a [] = a
 bytes_said a (b ∷ s) = bytes_said (byte_said a b) s
 
--- what the code answers: it goes on, or it has stopped at a line that is not read, at a tick that is smaller than the one before it,
--- or at a window with more breaks than it keeps ticks
-abbrev pub ReadTo : ℕ → List ℕ → Said → Read → Type 0
-ReadTo w ring (said ts l) (Re.On s) = Holds w ring s.recent ts × (s.line ≡ l)
-ReadTo w ring (said ts l) (Re.Stopped St.Bad n) = ⊥
-ReadTo w ring (said ts l) (Re.Stopped St.Falls n) = climbs ts ≡ false
-ReadTo w ring (said ts l) (Re.Stopped St.Full n) = 65536 < most_breaks w ts
-ReadTo w ring unread (Re.On s) = ⊥
-ReadTo w ring unread (Re.Stopped St.Bad n) = Unit
-ReadTo w ring unread (Re.Stopped St.Falls n) = ⊥
-ReadTo w ring unread (Re.Stopped St.Full n) = ⊥
+-- why reading stops: at a line that is not read, at a tick that is smaller than the one before it, or at a window with more breaks
+-- than it keeps ticks
+abbrev pub Stops : ℕ → Said → Stop → Type 0
+Stops w (said ts l) St.Bad = ⊥
+Stops w (said ts l) St.Falls = climbs ts ≡ false
+Stops w (said ts l) St.Full = 65536 < most_breaks w ts
+Stops w unread St.Bad = Unit
+Stops w unread St.Falls = ⊥
+Stops w unread St.Full = ⊥
+
+-- what is known where it goes on
+abbrev pub GoesOn : ℕ → List ℕ → Said → State → Type 0
+GoesOn w ring (said ts l) s = Holds w ring s.recent ts × (s.line ≡ l)
+GoesOn w ring unread s = ⊥
+
+-- what the code answers: it goes on, or it has stopped
+abbrev pub ReadTo : ℕ → List ℕ → Said → Result State Stopped → Type 0
+ReadTo w ring a (Ok s) = GoesOn w ring a s
+ReadTo w ring a (Err e) = Stops w a e.why
 
 -- the same of many bytes: all of them where it goes on, and some of them, from the first on, where it has stopped
-abbrev pub TakenTo : ℕ → List ℕ → Said → List ℕ → Read → Type 0
-TakenTo w ring a s (Re.On t) = ReadTo w ring (bytes_said a s) (Re.On t)
-TakenTo w ring a s (Re.Stopped y n) = (k : ℕ) × ReadTo w ring (bytes_said a (take k s)) (Re.Stopped y n)
+abbrev pub TakenTo : ℕ → List ℕ → Said → List ℕ → Result State Stopped → Type 0
+TakenTo w ring a s (Ok t) = GoesOn w ring (bytes_said a s) t
+TakenTo w ring a s (Err e) = (k : ℕ) × Stops w (bytes_said a (take k s)) e.why

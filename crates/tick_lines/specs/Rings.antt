@@ -1,10 +1,10 @@
 -- The ticks that come one by one: the last 65,536 are kept in a ring.
-use Rattle.std.specs.Prelude.{◌≡◌, false, cond, List, ℕ, ◌+◌, ◌-◌, ◌≤◌, ◌<◌, min, leb, ltb, length, get_or}
+use Rattle.std.specs.Prelude.{◌≡◌, false, cond, List, ℕ, ◌+◌, ◌-◌, ◌≤◌, ◌<◌, min, leb, ltb, length, get_or, Result, Ok, Err}
 use Rattle.break_windows.specs.Breaks.{most_breaks, climbs}
 use Rattle.break_windows.specs.Found.{at, Found}
 use Rattle.tick_lines.specs.declared.recent.Recent.{Recent}
-use Rattle.tick_lines.specs.declared.recent.Added.{Added}
-use Rattle.tick_lines.specs.declared.recent.Added.TheVariants as Ad
+use Rattle.tick_lines.specs.declared.line.Stop.{Stop}
+use Rattle.tick_lines.specs.declared.line.Stop.TheVariants as St
 
 -- the place of the tick that was put k ticks ago, where the next is put at n
 abbrev pub place_of : ℕ → ℕ → ℕ
@@ -29,10 +29,11 @@ pub record Holds (w : ℕ) (ring : List ℕ) (r : Recent) (ts : List ℕ) : Type
   pub found : 1 ≤ length ts → Found w ts (length ts) r.count r.first
 
 -- what adding the last tick of a list answers
-abbrev pub AddedTo : ℕ → List ℕ → List ℕ → Added → Type 0
-AddedTo w ring ts (Ad.Next r) = Holds w ring r ts
-AddedTo w ring ts Ad.Falls = climbs ts ≡ false
-AddedTo w ring ts Ad.Full = 65536 < most_breaks w ts
+abbrev pub AddedTo : ℕ → List ℕ → List ℕ → Result Recent Stop → Type 0
+AddedTo w ring ts (Ok r) = Holds w ring r ts
+AddedTo w ring ts (Err St.Falls) = climbs ts ≡ false
+AddedTo w ring ts (Err St.Full) = 65536 < most_breaks w ts
+AddedTo w ring ts (Err St.Bad) = ⊥
 
 -- before the first tick
 abbrev pub no_ticks : Recent

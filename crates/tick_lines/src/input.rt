@@ -5,8 +5,8 @@ ghost use Rattle.tick_lines.specs.Rings.{no_ticks, Holds, AddedTo};
 ghost use Rattle.tick_lines.specs.declared.line.Line.TheVariants as Li;
 ghost use Rattle.tick_lines.specs.Inputs.{said, line_ended, byte_said, ReadTo, TakenTo};
 
-use crate::line::{Line, Tick, ended_tick, with_byte};
-use crate::recent::{Added, Recent, add, no_ticks};
+use crate::line::{Line, Stop, ended_tick, with_byte};
+use crate::recent::{Recent, add, no_ticks};
 
 // The ticks of the lines that have ended, and the line that is being read, with its number.
 #[derive(Clone, Copy)]
@@ -16,20 +16,11 @@ pub struct State {
     pub number: u64,
 }
 
-// Why reading stopped: a line that has no tick and is not blank, a tick that is smaller than the one before it, or a window with
-// more breaks than ticks are kept.
+// Why reading stopped, and at which line.
 #[derive(Clone, Copy)]
-pub enum Stop {
-    Bad,
-    Falls,
-    Full,
-}
-
-// What is known after some bytes, or why and at which line reading stopped.
-#[derive(Clone, Copy)]
-pub enum Read {
-    On(State),
-    Stopped(Stop, u64),
+pub struct Stopped {
+    pub why: Stop,
+    pub line: u64,
 }
 
 // Before the first line.
@@ -45,11 +36,7 @@ pub fn start() -> State
 
 // The number of the next line.
 fn next_number(number: u64) -> u64 {
-    if number < u64::MAX {
-        number + 1
-    } else {
-        number
-    }
+    number.saturating_add(1)
 }
 
 // At the start of a line.
@@ -65,62 +52,55 @@ fn next_line(recent: Recent, number: u64) -> State
 }
 
 // After the tick of a line.
-fn after_tick(added: Added, number: u64) -> Read
+fn after_tick(added: Result<Recent, Stop>, number: u64) -> Result<State, Stopped>
     ensures { (w : ℕ) (ring ts : List ℕ) → AddedTo w ring ts added → ReadTo w ring (said ts Li.Blank) result }
 {
     match added {
-        Added::Next(recent) => Read::On(next_line(recent, number)),
-        Added::Falls => Read::Stopped(Stop::Falls, number),
-        Added::Full => Read::Stopped(Stop::Full, number),
+        Ok(recent) => Ok(next_line(recent, number)),
+        Err(why) => Err(Stopped { why, line: number }),
     }
 }
 
 // The line ends.
-pub fn end_line(ring: &mut [u32], state: State, window: u32) -> Read
+pub fn end_line(ring: &mut [u32], state: State, window: u32) -> Result<State, Stopped>
     requires { (1 ≤ window) × ((ts : List ℕ) × Holds window ring.old state.recent ts) }
     ensures { (ts : List ℕ) → Holds window ring.old state.recent ts → ReadTo window ring.new (line_ended ts (ended_tick state.line)) result }
 {
-    let recent = state.recent;
-    let line = state.line;
-    let tick = ended_tick(line);
-    match tick {
-        Tick::None => Read::On(next_line(recent, state.number)),
-        Tick::Value(t) => after_tick(add(ring, recent, t, window), state.number),
-        Tick::Bad => Read::Stopped(Stop::Bad, state.number),
+    let number = state.number;
+    match ended_tick(state.line) {
+        Ok(None) => Ok(next_line(state.recent, number)),
+        Ok(Some(tick)) => after_tick(add(ring, state.recent, tick, window), number),
+        Err(why) => Err(Stopped { why, line: number }),
     }
 }
 
 // A byte more.
-fn take_byte(ring: &mut [u32], state: State, b: u8, window: u32) -> Read
+fn take_byte(ring: &mut [u32], state: State, b: u8, window: u32) -> Result<State, Stopped>
     requires { (1 ≤ window) × ((ts : List ℕ) × Holds window ring.old state.recent ts) }
     ensures { (ts : List ℕ) → Holds window ring.old state.recent ts → ReadTo window ring.new (byte_said (said ts state.line) b) result }
 {
     if b == b'\n' {
         return end_line(ring, state, window);
     }
-    let recent = state.recent;
-    let line = state.line;
-    Read::On(State {
-        recent,
-        line: with_byte(line, b),
-        number: state.number,
+    Ok(State {
+        line: with_byte(state.line, b),
+        ..state
     })
 }
 
-// More bytes.
-pub fn take_bytes(ring: &mut [u32], state: State, bytes: &[u8], window: u32) -> Read
+// More bytes: what is known after them, or where reading stopped.
+pub fn take_bytes(
+    ring: &mut [u32],
+    state: State,
+    bytes: &[u8],
+    window: u32,
+) -> Result<State, Stopped>
     requires { (1 ≤ window) × ((ts : List ℕ) × Holds window ring.old state.recent ts) }
     ensures { (ts : List ℕ) → Holds window ring.old state.recent ts → TakenTo window ring.new (said ts state.line) bytes.now result }
 {
     let mut now = state;
-    let mut i = 0;
-    while i < bytes.len() {
-        let r = take_byte(ring, now, bytes[i], window);
-        let Read::On(next) = r else {
-            return r;
-        };
-        now = next;
-        i += 1;
+    for &b in bytes {
+        now = take_byte(ring, now, b, window)?;
     }
-    Read::On(now)
+    Ok(now)
 }

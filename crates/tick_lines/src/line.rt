@@ -15,12 +15,13 @@ pub enum Line {
     Bad,
 }
 
-// The tick of a line.
-#[derive(Clone, Copy)]
-pub enum Tick {
-    None,
-    Value(u32),
+// Why reading stops: a line that has no tick and is not blank, a tick that is smaller than the one before it, or a window with
+// more breaks than ticks are kept.
+#[derive(Clone, Copy, PartialEq, Eq, Debug)]
+pub enum Stop {
     Bad,
+    Falls,
+    Full,
 }
 
 // A byte that is no digit, after a number or none.
@@ -37,15 +38,17 @@ pub fn with_byte(line: Line, b: u8) -> Line
     match line {
         Line::Blank => {
             if is_digit(b) {
-                return Line::Digits(with_digit(0, digit_value(b)));
+                Line::Digits(with_digit(0, digit_value(b)))
+            } else {
+                with_other(Line::Blank, b)
             }
-            with_other(Line::Blank, b)
         }
         Line::Digits(n) => {
             if is_digit(b) {
-                return Line::Digits(with_digit(n, digit_value(b)));
+                Line::Digits(with_digit(n, digit_value(b)))
+            } else {
+                with_other(Line::Ended(n), b)
             }
-            with_other(Line::Ended(n), b)
         }
         Line::Ended(n) => with_other(Line::Ended(n), b),
         Line::Bad => Line::Bad,
@@ -53,23 +56,23 @@ pub fn with_byte(line: Line, b: u8) -> Line
 }
 
 // A number of 32 bits as a tick.
-fn tick_of(n: u64) -> Tick
+fn tick_of(n: u64) -> Result<Option<u32>, Stop>
     ensures { result ≡ tick_of_number n }
 {
     if n > 4294967295 {
-        return Tick::Bad;
+        Err(Stop::Bad)
+    } else {
+        Ok(Some(n as u32))
     }
-    Tick::Value(n as u32)
 }
 
-// The tick of a line that ends.
-pub fn ended_tick(line: Line) -> Tick
+// The tick of a line that ends, if it has one.
+pub fn ended_tick(line: Line) -> Result<Option<u32>, Stop>
     ensures { result ≡ ended_tick line }
 {
     match line {
-        Line::Blank => Tick::None,
-        Line::Digits(n) => tick_of(n),
-        Line::Ended(n) => tick_of(n),
-        Line::Bad => Tick::Bad,
+        Line::Blank => Ok(None),
+        Line::Digits(n) | Line::Ended(n) => tick_of(n),
+        Line::Bad => Err(Stop::Bad),
     }
 }

@@ -3,6 +3,7 @@
 ghost use Rattle.std.specs.Prelude.{◌≡◌, List, [], ◌∷◌, ◌++◌, ℕ, ◌≤◌, ◌<◌};
 ghost use Rattle.tick_lines.specs.Rings.{place_of, next_place, no_ticks, Ring, Holds, AddedTo};
 
+use crate::line::Stop;
 use break_windows::window::in_window;
 
 // The place of the ring that the next tick is put at, and how many it holds; the most breaks in a window so far, and the first
@@ -13,14 +14,6 @@ pub struct Recent {
     pub held: usize,
     pub count: usize,
     pub first: u32,
-}
-
-// After one tick more; or it is smaller than the one before it; or a window has more than 65,536 breaks.
-#[derive(Clone, Copy)]
-pub enum Added {
-    Next(Recent),
-    Falls,
-    Full,
 }
 
 // Before the first tick.
@@ -63,31 +56,31 @@ fn put(ring: &mut [u32], recent: Recent, tick: u32, count: usize, first: u32) ->
     ring[at] = tick;
     Recent {
         next: next_place(at),
-        held: lists::number::least(recent.held + 1, 65536),
+        held: (recent.held + 1).min(65536),
         count,
         first,
     }
 }
 
-// Adds a tick.
-pub fn add(ring: &mut [u32], recent: Recent, tick: u32, window: u32) -> Added
+// Adds a tick, unless it is smaller than the one before it, or a window would have more than 65,536 breaks.
+pub fn add(ring: &mut [u32], recent: Recent, tick: u32, window: u32) -> Result<Recent, Stop>
     requires { (1 ≤ window) × ((ts : List ℕ) × Holds window ring.old recent ts) }
     ensures { (ts : List ℕ) → Holds window ring.old recent ts → AddedTo window ring.new (ts ++ (tick ∷ [])) result }
 {
     if recent.held == 0 {
-        return Added::Next(put(ring, recent, tick, 1, tick));
+        return Ok(put(ring, recent, tick, 1, tick));
     }
     let next = recent.next;
     if tick < ring[place_of(next, 1)] {
-        return Added::Falls;
+        return Err(Stop::Falls);
     }
     let count = recent.count;
     let start = ring[place_of(next, count)];
     if !in_window(window, start, tick) {
-        return Added::Next(put(ring, recent, tick, count, recent.first));
+        return Ok(put(ring, recent, tick, count, recent.first));
     }
     if count == 65536 {
-        return Added::Full;
+        return Err(Stop::Full);
     }
-    Added::Next(put(ring, recent, tick, count + 1, start))
+    Ok(put(ring, recent, tick, count + 1, start))
 }

@@ -12,6 +12,7 @@ use native.Mathlib.Nat.{div-add-mod, mul-add-div, mod-add-mod, div-mul-le_self, 
 use borrow.Author.Tests.{eqb-true, eq-eqb}
 use lib.Dec.{eqb}
 use lib.IntN.{ℤ, pos}
+use Rattle.std.specs.Prelude.{Some}
 use lib.ListN.{length, get_or, set, length-set}
 use lib.Seq.{get_or-set_same, get_or-set_other}
 use Rattle.lists.specs.Lists.{any, elem, concat}
@@ -21,7 +22,6 @@ use Rattle.lists.proofs.Once.{Once, once_first, once_second}
 use Rattle.numbers.specs.Integer.{floor_div, floor_mod}
 use Rattle.expr.specs.Expression.{value}
 use Rattle.numbers.specs.Value.{exactly, is_number, number_of}
-use Rattle.numbers.specs.declared.value.Value.TheVariants as Va
 use Rattle.numbers.proofs.Values.{exactly_inside, exactly_is_number}
 use Rattle.updates.specs.Update.{Update, assignment, advance, form_of, writes, targets, total, steps_after, remainder_after, stays, updated, assign}
 use Rattle.updates.specs.TakeUp.{writes_either, is_advance, advanced_by, TakenUp, AdvanceStays, TakenInRange}
@@ -56,7 +56,7 @@ module _ (a : Advance) (k : ℕ) (old : List ℤ) (t : TakenUp a k old) where
   unfolding steps_after floor_div
   steps_are_exactly d h = rw (t.whole h, total_is, whole_more k a.numerator a.denominator d)
 
-  pub steps_more : 1 ≤ a.denominator → InRange a (suc k) → steps_after old a ≡ Va.Number (pos (suc k * a.numerator / a.denominator))
+  pub steps_more : 1 ≤ a.denominator → InRange a (suc k) → steps_after old a ≡ Some (pos (suc k * a.numerator / a.denominator))
   steps_more d h = steps_are_exactly d (one_less a k d h) ∙ exactly_inside (pos (suc k * a.numerator / a.denominator)) h
 
   pub remainder_more : remainder_after old a ≡ pos (suc k * a.numerator % a.denominator)

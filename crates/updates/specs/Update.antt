@@ -1,12 +1,11 @@
 -- Updates: assignments and advances.
-use Rattle.std.specs.Prelude.{ℕ, Bool, cond, ◌&&◌, ◌||◌, List, [], ◌∷◌, ℤ, pos, ◌+ℤ◌, leb, ltb, eqb, get_or, set}
+use Rattle.std.specs.Prelude.{ℕ, Bool, cond, ◌&&◌, ◌||◌, List, [], ◌∷◌, ℤ, Option, pos, ◌+ℤ◌, leb, ltb, eqb, get_or, set}
 use Rattle.lists.specs.Lists.{concat}
 use Rattle.reading.specs.Reading.{Reader, yield, ◌>>=◌, byte, byte2, such}
 use Rattle.reading.specs.Version.{has_advances}
 use Rattle.numbers.specs.Integer.{floor_div, floor_mod}
 use Rattle.numbers.specs.Value.{exactly, is_number, number_of}
 use Rattle.expr.specs.Expression.{Expr, expression, levels, value}
-use Rattle.numbers.specs.declared.value.Value.{Value}
 use Rattle.updates.specs.declared.update.Advance.{Advance}
 use Rattle.updates.specs.declared.update.Form.{Form}
 use Rattle.updates.specs.declared.update.Form.TheVariants as Fm
@@ -61,7 +60,7 @@ unfoldable pub total : List ℤ → Advance → ℤ
 total old a = get_or old a.remainder (pos 0) +ℤ pos a.numerator
 
 -- the steps after an advance, as a value: none where they are outside the range. The remainder is always inside
-unfoldable pub steps_after : List ℤ → Advance → Value
+unfoldable pub steps_after : List ℤ → Advance → Option ℤ
 steps_after old a = exactly (get_or old a.steps (pos 0) +ℤ floor_div (total old a) a.denominator)
 
 unfoldable pub remainder_after : List ℤ → Advance → ℤ

@@ -3,16 +3,15 @@
 // what a form writes in a table that is lent down; the machines carry the update out.
 ghost use Rattle.std.specs.Prelude.{◌≡◌, [], ◌∷◌, ◌++◌, set, ◌≤◌, leb};
 ghost use Rattle.reading.specs.Reading.{byte, byte2, such, mapped};
-ghost use Rattle.reading.specs.Places.{onward, byte_of, short_of, reached};
-ghost use Rattle.expr.specs.Evaluation.{value_of};
+ghost use Rattle.reading.specs.Places.{onward, read_of};
+ghost use Rattle.numbers.specs.Value.{is_number, number_of};
 ghost use Rattle.expr.specs.Expression.{expression, value};
-ghost use Rattle.updates.specs.Update.{opens, advanced, form, update, form_of, writes, advance, stays, updated};
-ghost use Rattle.updates.specs.Forms.{form_read, form_fault, Noted};
+ghost use Rattle.updates.specs.Update.{opens, advanced, form, update, form_of, writes, advance};
+ghost use Rattle.updates.specs.Forms.{Noted, new_values};
 
 use expr::expression;
-use expr::expression::ValueRead;
 use numbers::{signed, value};
-use reading::field::{ByteRead, Fault, Reached, ShortRead};
+use reading::field::{Fault, Read};
 use reading::{field, version};
 
 // Two variables and a ratio. The whole part is added to the steps, and what it leaves is kept as the remainder.
@@ -31,22 +30,6 @@ pub enum Form {
     Advance(Advance),
 }
 
-// The form and the next place, or the fault.
-#[derive(Clone, Copy)]
-pub enum FormRead {
-    Form(Form, usize),
-    Fault(Fault),
-}
-
-pub fn form_fault(f: FormRead) -> Fault
-    ensures { result ≡ form_fault f }
-{
-    match f {
-        FormRead::Fault(e) => e,
-        FormRead::Form(_, _) => Fault::Length,
-    }
-}
-
 // What an update may start with.
 fn opens(version: u8, variables: u8, first: u8) -> bool
     ensures { result ≡ opens version variables first }
@@ -57,96 +40,69 @@ fn opens(version: u8, variables: u8, first: u8) -> bool
     version::has_advances(version) & (first == 255)
 }
 
-fn read_first(s: &[u8], at: usize, version: u8, variables: u8) -> ByteRead
-    ensures { byte_of s.now result ≡ such byte (opens version variables) (onward s.now at) }
+fn read_first(s: &[u8], at: usize, version: u8, variables: u8) -> Read<u8>
+    ensures { read_of s.now result ≡ such byte (opens version variables) (onward s.now at) }
 {
-    let b = field::read_byte(s, at);
-    let ByteRead::Value(first, _) = b else {
-        return b;
-    };
+    let (first, next) = field::read_byte(s, at)?;
     if opens(version, variables, first) {
-        b
+        Ok((first, next))
     } else {
-        ByteRead::Fault(Fault::Range)
+        Err(Fault::Range)
     }
 }
 
-fn read_denominator(s: &[u8], at: usize) -> ShortRead
-    ensures { short_of s.now result ≡ such byte2 (λ q. leb 1 q) (onward s.now at) }
+fn read_denominator(s: &[u8], at: usize) -> Read<u16>
+    ensures { read_of s.now result ≡ such byte2 (λ q. leb 1 q) (onward s.now at) }
 {
-    let h = field::read_short(s, at);
-    let ShortRead::Value(q, _) = h else {
-        return h;
-    };
+    let (q, next) = field::read_short(s, at)?;
     if 1 <= q {
-        h
+        Ok((q, next))
     } else {
-        ShortRead::Fault(Fault::Range)
+        Err(Fault::Range)
     }
 }
 
 // What follows the 255 of an advance.
-fn read_advance(s: &[u8], at: usize, variables: u8) -> FormRead
-    ensures { form_read s.now result ≡ advanced variables (onward s.now at) }
+fn read_advance(s: &[u8], at: usize, variables: u8) -> Read<Form>
+    ensures { read_of s.now result ≡ advanced variables (onward s.now at) }
 {
-    let a = field::read_byte_below(s, at, variables);
-    let ByteRead::Value(steps, at1) = a else {
-        return FormRead::Fault(field::byte_fault(a));
+    let (steps, at1) = field::read_below(s, at, variables)?;
+    let (remainder, at2) = field::read_below(s, at1, variables)?;
+    let (numerator, at3) = field::read_short(s, at2)?;
+    let (denominator, next) = read_denominator(s, at3)?;
+    let advance = Advance {
+        steps,
+        remainder,
+        numerator,
+        denominator,
     };
-    let b = field::read_byte_below(s, at1, variables);
-    let ByteRead::Value(remainder, at2) = b else {
-        return FormRead::Fault(field::byte_fault(b));
-    };
-    let p = field::read_short(s, at2);
-    let ShortRead::Value(numerator, at3) = p else {
-        return FormRead::Fault(field::short_fault(p));
-    };
-    let q = read_denominator(s, at3);
-    let ShortRead::Value(denominator, next) = q else {
-        return FormRead::Fault(field::short_fault(q));
-    };
-    FormRead::Form(
-        Form::Advance(Advance {
-            steps,
-            remainder,
-            numerator,
-            denominator,
-        }),
-        next,
-    )
+    Ok((Form::Advance(advance), next))
 }
 
 // The form of the update at a place.
-fn read_form(s: &[u8], at: usize, version: u8, variables: u8) -> FormRead
-    ensures { form_read s.now result ≡ form version variables (onward s.now at) }
+fn read_form(s: &[u8], at: usize, version: u8, variables: u8) -> Read<Form>
+    ensures { read_of s.now result ≡ form version variables (onward s.now at) }
 {
-    let b = read_first(s, at, version, variables);
-    let ByteRead::Value(first, from) = b else {
-        return FormRead::Fault(field::byte_fault(b));
-    };
+    let (first, from) = read_first(s, at, version, variables)?;
     if first == 255 {
         read_advance(s, from, variables)
     } else {
-        FormRead::Form(Form::Assignment(first), from)
+        Ok((Form::Assignment(first), from))
     }
 }
 
 // An update, as a file is checked: its form, and the place after it.
-pub fn read_update(s: &[u8], at: usize, version: u8, variables: u8) -> FormRead
-    ensures { form_read s.now result ≡ mapped form_of (update version variables (onward s.now at)) }
+pub fn read_update(s: &[u8], at: usize, version: u8, variables: u8) -> Read<Form>
+    ensures { read_of s.now result ≡ mapped form_of (update version variables (onward s.now at)) }
 {
-    let f = read_form(s, at, version, variables);
-    let FormRead::Form(form, from) = f else {
-        return f;
-    };
-    let Form::Assignment(_) = form else {
-        return f;
-    };
-    let q = expression::expression_at(s, from, variables);
-    let Reached::At(next) = q else {
-        return FormRead::Fault(field::reached_fault(q));
-    };
-    FormRead::Form(form, next)
+    let (form, from) = read_form(s, at, version, variables)?;
+    match form {
+        Form::Advance(_) => Ok((form, from)),
+        Form::Assignment(_) => {
+            let next = expression::expression_at(s, from, variables)?;
+            Ok((form, next))
+        }
+    }
 }
 
 // One more variable is written: whether all are still written once.
@@ -173,8 +129,8 @@ pub fn note(form: Form, once: bool, seen: &mut [bool; 256]) -> bool
 }
 
 // The value of an expression. The variables pass by value, so that old and new ones are told apart by their names alone.
-fn value_from(s: &[u8], at: usize, variables: u8, values: [i32; 16]) -> ValueRead
-    ensures { value_of s.now result ≡ mapped (value values) (expression variables 8 (onward s.now at)) }
+fn value_from(s: &[u8], at: usize, variables: u8, values: [i32; 16]) -> Read<Option<i32>>
+    ensures { read_of s.now result ≡ mapped (value values) (expression variables 8 (onward s.now at)) }
 {
     expression::value_at(s, at, variables, &values)
 }
@@ -191,40 +147,35 @@ fn stored(values: [i32; 16], variable: u8, z: i32) -> [i32; 16]
     next
 }
 
-// The variables after an update, whether it stayed in the range, and the place after it: a fault stands beside an array,
-// which no enum can hold.
+// The variables after some updates, and whether these stayed in the range.
 #[derive(Clone, Copy)]
-pub struct Updated {
-    pub reached: Reached,
-    pub within: bool,
+pub struct NewValues {
     pub values: [i32; 16],
+    pub within: bool,
 }
 
-fn not_updated(f: Fault, values: [i32; 16]) -> Updated
-    ensures { result.reached ≡ Reached.Fault f }
+// The variables after an assignment of a value, and whether there is one.
+fn after_assignment(variable: u8, x: Option<i32>, new: [i32; 16]) -> NewValues
+    ensures { result ≡ record { values = set new variable (number_of x); within = is_number x } }
 {
-    Updated {
-        reached: Reached::Fault(f),
-        within: false,
-        values,
+    NewValues {
+        values: stored(new, variable, x.unwrap_or(0)),
+        within: x.is_some(),
     }
 }
 
-// The variables after an advance, which reads `old` and ends at a place.
-fn after_advance(next: usize, a: Advance, old: [i32; 16], new: [i32; 16]) -> Updated
-    ensures reached { result.reached ≡ Reached.At next }
-    ensures within { 1 ≤ a.denominator → result.within ≡ stays old (advance a) }
-    ensures values { 1 ≤ a.denominator → result.values ≡ updated old (advance a) new }
+// The variables after an advance, which reads `old`.
+fn after_advance(a: Advance, old: [i32; 16], new: [i32; 16]) -> NewValues
+    ensures { 1 ≤ a.denominator → result ≡ new_values old new (advance a) }
 {
     let before = expression::variable_value(a.steps, old);
     let rest = expression::variable_value(a.remainder, old);
     let steps = value::steps_after(before, rest, a.numerator, a.denominator);
-    let counted = stored(new, a.steps, value::number_of(steps));
+    let counted = after_assignment(a.steps, steps, new);
     let kept = signed::remainder_after(rest, a.numerator, a.denominator);
-    Updated {
-        reached: Reached::At(next),
-        within: value::is_number(steps),
-        values: stored(counted, a.remainder, kept),
+    NewValues {
+        values: stored(counted.values, a.remainder, kept),
+        within: counted.within,
     }
 }
 
@@ -236,26 +187,15 @@ pub fn updated_at(
     variables: u8,
     old: [i32; 16],
     new: [i32; 16],
-) -> Updated
-    ensures within { reached s.now result.within result.reached ≡ mapped (stays old) (update version variables (onward s.now at)) }
-    ensures values { reached s.now result.values result.reached ≡ mapped (λ u. updated old u new) (update version variables (onward s.now at)) }
+) -> Read<NewValues>
+    ensures { read_of s.now result ≡ mapped (new_values old new) (update version variables (onward s.now at)) }
 {
-    let f = read_form(s, at, version, variables);
-    let FormRead::Form(form, from) = f else {
-        return not_updated(form_fault(f), new);
-    };
+    let (form, from) = read_form(s, at, version, variables)?;
     match form {
-        Form::Advance(a) => after_advance(from, a, old, new),
+        Form::Advance(a) => Ok((after_advance(a, old, new), from)),
         Form::Assignment(v) => {
-            let x = value_from(s, from, variables, old);
-            let ValueRead::Value(z, next) = x else {
-                return not_updated(expression::value_fault(x), new);
-            };
-            Updated {
-                reached: Reached::At(next),
-                within: value::is_number(z),
-                values: stored(new, v, value::number_of(z)),
-            }
+            let (x, next) = value_from(s, from, variables, old)?;
+            Ok((after_assignment(v, x, new), next))
         }
     }
 }

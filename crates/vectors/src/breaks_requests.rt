@@ -1,7 +1,7 @@
 // Requests to count weft breaks in a window.
 use answers::output;
 use break_windows::window::Best;
-use breaks::busiest::{Counted, busiest};
+use breaks::busiest::busiest;
 use request_parts::ticks::fill_ticks;
 use std::io;
 use std::io::Write;
@@ -17,17 +17,12 @@ fn show_best(out: &mut impl Write, best: Best) -> io::Result<()> {
     output::text(out, b"\n")
 }
 
-// The most breaks and the first tick of the earliest window that has them, or the refusal.
-fn show(out: &mut impl Write, answer: Counted) -> io::Result<()> {
-    match answer {
-        Counted::Breaks(best) => show_best(out, best),
-        Counted::Refused(k) => output::refusal(out, k),
-    }
-}
-
-// The breaks within a window of so many ticks; the ticks of the breaks stand in some bytes.
+// The most breaks within a window of so many ticks, and the first tick of the earliest window that has them, or the refusal; the ticks of the breaks stand in some bytes.
 pub fn count(out: &mut impl Write, bytes: &[u8], window: u32) -> io::Result<()> {
     let mut ticks = [0; TICKS];
     let n = fill_ticks(bytes, &mut ticks);
-    show(out, busiest(&ticks[0..n], window))
+    match busiest(&ticks[..n], window) {
+        Ok(best) => show_best(out, best),
+        Err(refusal) => output::refusal(out, refusal),
+    }
 }

@@ -1,76 +1,30 @@
-// Requests to the check of charts and to the chart machine.
-use crate::show;
+// Requests to the check of charts, and the form of a chart's configuration.
+use crate::machine_requests::Form;
 use answers::output;
-use chart_machine::operation;
-use chart_machine::operation::Outcome;
+use chart_calls::Chart;
 use chart_moves::configuration::Configuration;
-use reading::verdict::Verdict;
-use request_parts::calls::Call;
 use request_parts::input;
 use std::io;
 use std::io::Write;
+use window::tail;
 
-// The configuration in front of some bytes.
-fn configuration(s: &[u8]) -> Configuration {
-    Configuration {
-        active: input::marks(s),
-        variables: input::values(window::tail(s, 48)),
-        clocks: input::words(window::tail(s, 112)),
+impl Form for Chart {
+    fn read(s: &[u8]) -> Configuration {
+        Configuration {
+            active: input::marks(s),
+            variables: input::values(tail(s, 48)),
+            clocks: input::words(tail(s, 112)),
+        }
     }
-}
 
-fn show_configuration(out: &mut impl Write, c: Configuration) -> io::Result<()> {
-    output::text(out, b"ok ")?;
-    show::chart(out, c)?;
-    output::text(out, b"\n")
-}
-
-fn show_outcome(out: &mut impl Write, o: Outcome) -> io::Result<()> {
-    let verdict = o.verdict;
-    match verdict {
-        Verdict::Done => show_configuration(out, o.configuration),
-        Verdict::Refused(k) => output::refusal(out, k),
+    fn write<W: Write>(out: &mut W, c: Configuration) -> io::Result<()> {
+        output::chart(out, &c.active, &c.variables, &c.clocks)
     }
 }
 
 pub fn check(out: &mut impl Write, file: &[u8]) -> io::Result<()> {
-    let verdict = chart::check::check(file);
-    match verdict {
-        Verdict::Done => output::text(out, b"ok\n"),
-        Verdict::Refused(k) => output::refusal(out, k),
+    match chart::check::check(file) {
+        Ok(()) => output::text(out, b"ok\n"),
+        Err(refusal) => output::refusal(out, refusal),
     }
-}
-
-pub fn start(out: &mut impl Write, file: &[u8]) -> io::Result<()> {
-    show_outcome(out, operation::start(file))
-}
-
-// A step, of which so many numbers stand in front of some bytes.
-fn step(
-    out: &mut impl Write,
-    file: &[u8],
-    given: Configuration,
-    numbers: &[u8],
-    count: u16,
-) -> io::Result<()> {
-    let list = input::shorts(numbers, count);
-    let size = count as usize;
-    show_outcome(out, operation::step(file, given, &list[0..size]))
-}
-
-// A call from the configuration that stands at a place.
-pub fn call(out: &mut impl Write, file: &[u8], s: &[u8], at: usize, c: Call) -> io::Result<()> {
-    let given = configuration(window::tail(s, at));
-    match c {
-        Call::Step(count, from) => step(out, file, given, window::tail(s, from), count),
-        Call::Wait(ticks) => show_outcome(out, operation::wait(file, given, ticks)),
-    }
-}
-
-// The longest wait of the configuration that stands at a place.
-pub fn longest(out: &mut impl Write, file: &[u8], s: &[u8], at: usize) -> io::Result<()> {
-    show::longest(
-        out,
-        operation::longest(file, configuration(window::tail(s, at))),
-    )
 }

@@ -10,19 +10,18 @@ mod answer;
 mod breaks_requests;
 mod chart_requests;
 mod flatten_requests;
+mod machine_requests;
 mod network_requests;
 mod paired_answers;
 mod paired_requests;
-mod show;
 
 ghost use Rattle.std.specs.Prelude.{◌≤◌, IfOk, length};
 ghost use Rattle.reading.specs.Places.{reached_end};
 
 use answer::answer;
 use answers::output;
-use reading::field::{Fault, Reached};
+use reading::field::Fault;
 use requests::request;
-use requests::request::RequestRead;
 use std::io;
 use std::io::{Read, Write};
 
@@ -30,64 +29,53 @@ use std::io::{Read, Write};
 const WINDOW: usize = 131072;
 
 // Where answering stops: at a request that is cut off, which may go on in what is read next, or at none.
-fn stopped(f: Fault, at: usize) -> Reached
+fn stopped(f: Fault, at: usize) -> Result<usize, Fault>
     ensures { reached_end result ≤ at }
 {
     match f {
-        Fault::Length => Reached::At(at),
-        Fault::Range => Reached::Fault(f),
+        Fault::Length => Ok(at),
+        Fault::Range => Err(f),
     }
 }
 
 // Answers the whole requests in front of some bytes. The place after the last.
-fn answer_whole(out: &mut impl Write, s: &[u8]) -> io::Result<Reached>
+fn answer_whole<W: Write>(out: &mut W, s: &[u8]) -> io::Result<Result<usize, Fault>>
     ensures { IfOk result (λ r. reached_end r ≤ length s.now) }
 {
     let mut at = 0;
+    // Kept: each request says where the next one begins.
     while at < s.len() {
-        let q = request::read_request(s, at);
-        match q {
-            RequestRead::Value(asked, next) => {
+        match request::read_request(s, at) {
+            Ok((asked, next)) => {
                 answer(out, s, asked)?;
                 at = next;
             }
-            RequestRead::Fault(f) => return Ok(stopped(f, at)),
+            Err(f) => return Ok(stopped(f, at)),
         }
     }
-    Ok(Reached::At(at))
+    Ok(Ok(at))
 }
 
 // What follows a round: another, with so many bytes of a request in front of the window, or none.
-#[derive(Clone, Copy)]
-enum Round {
-    Next(usize),
-    Last,
-}
-
-fn malformed(out: &mut impl Write) -> io::Result<Round> {
+fn malformed(out: &mut impl Write) -> io::Result<Option<usize>> {
     output::malformed(out)?;
-    Ok(Round::Last)
+    Ok(None)
 }
 
 // Where the input ends nothing is left of a request.
-fn end(out: &mut impl Write, kept: usize) -> io::Result<Round> {
-    if kept == 0 {
-        Ok(Round::Last)
-    } else {
-        malformed(out)
-    }
+fn end(out: &mut impl Write, kept: usize) -> io::Result<Option<usize>> {
+    if kept == 0 { Ok(None) } else { malformed(out) }
 }
 
 // Answers the whole requests in so many bytes of the window, and moves what is left of another to its front.
-fn answer_front(out: &mut impl Write, bytes: &mut [u8], full: usize) -> io::Result<Round>
+fn answer_front(out: &mut impl Write, bytes: &mut [u8], full: usize) -> io::Result<Option<usize>>
     requires { full ≤ length bytes.old }
 {
-    let q = answer_whole(out, &bytes[0..full])?;
-    let Reached::At(at) = q else {
+    let Ok(at) = answer_whole(out, &bytes[..full])? else {
         return malformed(out);
     };
     window::shift(bytes, at);
-    Ok(Round::Next(full - at))
+    Ok(Some(full - at))
 }
 
 // Reads behind the bytes that were kept. A request that fills the window is not read on.
@@ -96,7 +84,7 @@ fn read_on(
     out: &mut impl Write,
     bytes: &mut [u8],
     kept: usize,
-) -> io::Result<Round> {
+) -> io::Result<Option<usize>> {
     if bytes.len() <= kept {
         return malformed(out);
     }
@@ -112,8 +100,7 @@ fn read_on(
 fn answer_all(source: &mut impl Read, out: &mut impl Write, bytes: &mut [u8]) -> io::Result<()> {
     let mut kept = 0;
     for _ in 0..u64::MAX {
-        let r = read_on(source, out, bytes, kept)?;
-        let Round::Next(left) = r else {
+        let Some(left) = read_on(source, out, bytes, kept)? else {
             return Ok(());
         };
         kept = left;

@@ -1,19 +1,21 @@
 // The line that shows both machines: the network's answer and configuration, the call of the chart that is read and the
 // chart's configuration, and how many urgent moves are owed.
-use crate::show;
+use crate::machine_requests::Form;
 use answers::output;
+use chart_calls::Chart;
 use chart_moves::configuration::Configuration;
+use network_calls::Network;
 use paired_run::carry::Transitions;
 use paired_run::run::{Followed, Reading, Run};
-use reading::verdict::Verdict;
+use reading::refusal::Refusal;
 use std::io;
 use std::io::Write;
 
-fn show_verdict(out: &mut impl Write, verdict: Verdict) -> io::Result<()> {
+fn show_verdict(out: &mut impl Write, verdict: Result<(), Refusal>) -> io::Result<()> {
     match verdict {
-        Verdict::Done => output::text(out, b"ok "),
-        Verdict::Refused(k) => {
-            output::number(out, k as u64)?;
+        Ok(()) => output::text(out, b"ok "),
+        Err(refusal) => {
+            output::number(out, refusal.number() as u64)?;
             output::text(out, b" ")
         }
     }
@@ -44,7 +46,7 @@ fn show_reading(out: &mut impl Write, reading: Reading, carried: Transitions) ->
 // What stands after the call that is read.
 fn show_chart(out: &mut impl Write, c: Configuration, owed: u64) -> io::Result<()> {
     output::text(out, b" ")?;
-    show::chart(out, c)?;
+    Chart::write(out, c)?;
     output::text(out, b" ")?;
     output::number(out, owed)?;
     output::text(out, b"\n")
@@ -53,7 +55,7 @@ fn show_chart(out: &mut impl Write, c: Configuration, owed: u64) -> io::Result<(
 // After the starts.
 pub fn show_start(out: &mut impl Write, r: Run) -> io::Result<()> {
     output::text(out, b"ok ")?;
-    show::network(out, r.network)?;
+    Network::write(out, r.network)?;
     output::text(out, b" start")?;
     show_chart(out, r.chart, r.owed)
 }
@@ -64,7 +66,7 @@ pub fn show_call(out: &mut impl Write, f: Followed) -> io::Result<()> {
     let verdict = f.verdict;
     let reading = f.reading;
     show_verdict(out, verdict)?;
-    show::network(out, run.network)?;
+    Network::write(out, run.network)?;
     show_reading(out, reading, f.carried)?;
     show_chart(out, run.chart, run.owed)
 }

@@ -1,10 +1,9 @@
 // Requests to run a chart and its network side by side.
 use crate::paired_answers::{show_call, show_start};
 use answers::output;
-use flattener::operation;
-use flattener::operation::Flattened;
+use flattener::operation::flatten;
 use paired_run::run::Run;
-use request_parts::calls::{Call, CallRead};
+use request_parts::calls::Call;
 use request_parts::{calls, input};
 use std::io;
 use std::io::Write;
@@ -20,17 +19,15 @@ fn step(
 ) -> io::Result<Run> {
     let list = input::shorts(numbers, count);
     let size = count as usize;
-    let f = paired_run::run::after_step(file, network, r, &list[0..size]);
+    let f = paired_run::run::after_step(file, network, r, &list[..size]);
     show_call(out, f)?;
-    let next = f.run;
-    Ok(next)
+    Ok(f.run)
 }
 
 fn wait(out: &mut impl Write, file: &[u8], network: &[u8], r: Run, ticks: u32) -> io::Result<Run> {
     let f = paired_run::run::after_wait(file, network, r, ticks);
     show_call(out, f)?;
-    let next = f.run;
-    Ok(next)
+    Ok(f.run)
 }
 
 // Both machines after a call, whose numbers stand in s.
@@ -55,8 +52,7 @@ fn take_calls(out: &mut impl Write, file: &[u8], network: &[u8], s: &[u8]) -> io
     let count = input::short(s, 0);
     let mut at = 2;
     for _ in 0..count {
-        let c = calls::read_call(s, at);
-        let CallRead::Value(call, next) = c else {
+        let Ok((call, next)) = calls::read_call(s, at) else {
             return Ok(());
         };
         r = take_call(out, file, network, r, s, call)?;
@@ -73,9 +69,8 @@ fn run_both(out: &mut impl Write, file: &[u8], network: &[u8], s: &[u8]) -> io::
 // A chart, and the calls of its network.
 pub fn run(out: &mut impl Write, file: &[u8], s: &[u8]) -> io::Result<()> {
     let mut buffer = [0; 65536];
-    let f = operation::flatten(file, &mut buffer);
-    match f {
-        Flattened::Length(size) => run_both(out, file, window::front(&buffer, size), s),
-        Flattened::Refused(k) => output::refusal(out, k),
+    match flatten(file, &mut buffer) {
+        Ok(size) => run_both(out, file, window::front(&buffer, size), s),
+        Err(refusal) => output::refusal(out, refusal),
     }
 }

@@ -4,7 +4,6 @@
 ghost use Rattle.std.specs.Prelude.{◌≡◌, ◌++◌, ◌-◌, length, take, drop};
 ghost use Rattle.std.specs.Io.{ReadsAtMost};
 
-use reading::field::left;
 use std::io;
 use std::io::Read;
 
@@ -13,6 +12,7 @@ pub fn fill(input: &mut impl Read, bytes: &mut [u8]) -> io::Result<usize>
     ensures { ReadsAtMost result bytes.new }
 {
     let mut done = 0;
+    // Kept: each read says how many bytes are done.
     while done < bytes.len() {
         let n = input.read(&mut bytes[done..])?;
         if n == 0 {
@@ -27,24 +27,20 @@ pub fn fill(input: &mut impl Read, bytes: &mut [u8]) -> io::Result<usize>
 pub fn front(s: &[u8], to: usize) -> &[u8]
     ensures { result.now ≡ take to s.now }
 {
-    if to < s.len() { &s[0..to] } else { s }
+    &s[..to.min(s.len())]
 }
 
 // The bytes from a place on.
 pub fn tail(s: &[u8], from: usize) -> &[u8]
     ensures { result.now ≡ drop from s.now }
 {
-    if from < s.len() { &s[from..] } else { &s[0..0] }
+    &s[from.min(s.len())..]
 }
 
 // Moves the bytes from a place on to the front; those past them stay as they are.
 pub fn shift(s: &mut [u8], from: usize)
     ensures { s.new ≡ drop from s.old ++ drop (length s.old - from) s.old }
 {
-    let n = left(s, from);
-    let mut i = 0;
-    while i < n {
-        s[i] = s[from + i];
-        i += 1;
-    }
+    let start = from.min(s.len());
+    s.copy_within(start.., 0);
 }

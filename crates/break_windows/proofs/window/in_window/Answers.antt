@@ -1,9 +1,10 @@
-use mathlib.Core.Path.{sym}
+use mathlib.Core.Path.{sym, ◌∙◌}
+use borrow.Author.Tests.{lt-leb}
 use Rattle.break_windows.proofs.Windows.{window_by, window_below}
 use Rattle.break_windows.proofs.window.in_window.Goals as goal
 
-pub returns-then-tick-start : goal.returns-then-tick-start
-returns-then-tick-start c = sym (window_below _ _ _ c.if-tick-start.true)
+pub returns-then-start-tick : goal.returns-then-start-tick
+returns-then-start-tick c = sym (window_by _ _ _ c.if-start-tick.true)
 
-pub returns : goal.returns
-returns c = sym (window_by _ _ _ c.if-tick-start.false)
+pub returns-else-start-tick : goal.returns-else-start-tick
+returns-else-start-tick c = lt-leb _ _ c.if-start-tick.false ∙ sym (window_below _ _ _ c.if-start-tick.false)

@@ -1,4 +1,3 @@
-use Prim.Native.Nat.{◌-◌}
 use native.Mathlib.Omega.{arith}
 use Rattle.breaks.specs.Passes.{block_quiet}
 use Rattle.breaks.proofs.Blocks.{tested_none, tested_more, tested_all}

@@ -1,5 +1,4 @@
 use mathlib.Core.Path.{sym, ◌∙◌}
-use Prim.Native.Nat.{◌-◌}
 use native.Mathlib.Omega.{arith}
 use Rattle.break_windows.proofs.Climbing.{climbs_falls}
 use Rattle.break_windows.proofs.Passing.{sought_grown, sought_same, sought_is}

@@ -1,4 +1,4 @@
-use Prim.Native.Nat.{ℕ, ◌-◌, ◌≤◌}
+use Prim.Native.Nat.{ℕ, ◌≤◌}
 use lib.ListN.{length}
 use Rattle.break_windows.specs.Found.{Sought}
 use Rattle.breaks.proofs.pass.pass.Given as goal
@@ -9,6 +9,3 @@ invariant-loop-end l = (1 ≤ l.count)
     × (l.end ≤ l.to)
     × (l.to ≤ length l.ticks)
     × ((c : ℕ) → Sought l.window l.ticks l.from c l.initial.count l.initial.first → Sought l.window l.ticks l.end c l.count l.first)
-
-abbrev pub decreases-loop-end : goal.decreases-loop-end
-decreases-loop-end l = l.to - l.end

@@ -1,8 +1,5 @@
 use mathlib.Core.Path.{sym, ◌∙◌}
-use mathlib.Core.Bool.{true}
-use Prim.Native.Nat.{◌-◌}
 use native.Mathlib.Omega.{arith}
-use Rattle.break_windows.specs.Breaks.{in_window}
 use Rattle.break_windows.proofs.Windows.{in_window_lem}
 use Rattle.break_windows.proofs.Passing.{window_from}
 use Rattle.breaks.proofs.reached.breaks_before.Goals as goal

@@ -1,14 +1,17 @@
-use mathlib.Core.Path.{sym, ◌∙◌}
+use mathlib.Core.Path.{sym, ap, ◌∙◌}
 use Rattle.chart_records.specs.Rules.{state_rules}
-use Rattle.reading.proofs.Verdicts.{verdict_done_at, was_refused}
+use Rattle.reading.specs.Verdict.{answer_of}
+use Rattle.reading.proofs.Places.{handed_on}
+use Rattle.reading.proofs.Verdicts.{verdict_done_at, verdict_refused_at}
 use Rattle.chart.proofs.Files.{states_refused, states_passed, parents_passed}
 use Rattle.chart.proofs.check.rules_checked.Goals as goal
 
-pub returns-in_default : goal.returns-in_default
-returns-in_default c = λ k L T e.
-    c.in_default.is ∙ sym (states_refused k (was_refused (state_rules k) (c.states_checked-s.ensures k L.stated) c.in_default.is))
+pub returns-in_err-states_checked : goal.returns-in_err-states_checked
+returns-in_err-states_checked c = λ k L T e.
+    ap answer_of (handed_on _ c.from_residual.ensures.1)
+    ∙ sym (states_refused k (verdict_refused_at (state_rules k) (sym (c.in_err-states_checked.ensures k L.stated))))
 
 pub returns : goal.returns
 returns c = λ k L T e.
-    let h = (verdict_done_at (state_rules k) (sym (c.states_checked-s.ensures k L.stated) ∙ c.in-Done.is)).1 in
+    let h = (verdict_done_at (state_rules k) (sym (c.in_ok-states_checked.ensures k L.stated))).1 in
     states_passed k h (c.transitions_checked.ensures k L T (parents_passed k h) e)

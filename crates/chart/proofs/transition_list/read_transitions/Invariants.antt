@@ -1,4 +1,3 @@
-use Prim.Native.Nat.{◌-◌}
 use Rattle.reading.specs.Reading.{byte2, recorded}
 use Rattle.reading.specs.Places.{onward}
 use Rattle.chart_records.specs.Layout.{transition_by, once}
@@ -8,6 +7,3 @@ use Rattle.chart.proofs.transition_list.read_transitions.Given as goal
 
 abbrev pub invariant-loop-i : goal.invariant-loop-i
 invariant-loop-i l = Kept (recorded byte2 (transition_by l.counts)) no_transition once l.counts.transitions l.rest (onward l.rest l.at) (onward l.rest l.place) l.i l.once l.offsets
-
-abbrev pub decreases-loop-i : goal.decreases-loop-i
-decreases-loop-i l = l.counts.transitions - l.i

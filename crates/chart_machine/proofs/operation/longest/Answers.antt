@@ -1,36 +1,24 @@
-use mathlib.Core.Path.{◌≡◌, sym, ap, ◌∙◌, subst}
-use mathlib.Core.List.{List}
-use Prim.Native.Nat.{ℕ, ◌≤◌}
+use mathlib.Core.Path.{sym, ap, ◌∙◌}
 use native.Mathlib.Omega.{arith}
-use lib.ListN.{length}
-use Rattle.reading.specs.Answer.{done}
-use Rattle.reading.specs.Verdict.{verdict_number}
-use Rattle.reading.proofs.Places.{part_onward}
-use Rattle.reading.proofs.Verdicts.{verdict_done_at, was_refused}
-use Rattle.clocks.specs.Longest.{told}
-use Rattle.clocks.specs.declared.left.Longest.TheVariants as Lo
-use Rattle.chart_records.specs.Chart.{Chart}
+use Rattle.reading.specs.Verdict.{answer_of}
+use Rattle.reading.proofs.Places.{handed_on}
+use Rattle.reading.proofs.Verdicts.{verdict_done_at, verdict_refused_at}
 use Rattle.chart_records.specs.Rules.{chart_of}
-use Rattle.chart_records.specs.Layout.{Stated}
 use Rattle.chart.proofs.Files.{chart_long}
+use Rattle.chart_machine.proofs.Refusals.{grown_of, ready_part}
 use Rattle.chart_machine.proofs.Waits.{longest_refused, longest_passed}
 use Rattle.chart_machine.proofs.operation.longest.Goals as goal
 
-pub returns-in_default : goal.returns-in_default
-returns-in_default c =
-    ap Lo.Refused (c.number_of.ensures ∙ ap verdict_number c.in_default.is)
-    ∙ ap told (sym (longest_refused _ _ (was_refused (chart_of _) c.checked-f.ensures.means c.in_default.is)))
-
-pub slice_bounds-longest_checked-count : goal.slice_bounds-longest_checked-count
-slice_bounds-longest_checked-count c = omega (arith, (let long : 11 ≤ length c.args.file.now = chart_long _ ((let chart : (k : Chart) × (chart_of c.args.file.now ≡ done k) = verdict_done_at _ (sym c.checked-f.ensures.means ∙ c.in-Done.is) in chart)).1 in long))
+pub returns-in_err-counts : goal.returns-in_err-counts
+returns-in_err-counts c = ap answer_of (handed_on _ c.from_residual.ensures.1) ∙ sym (longest_refused _ _ (verdict_refused_at (chart_of _) (sym c.in_err-counts.ensures.means)))
 
 pub slice_bounds-longest_checked-start : goal.slice_bounds-longest_checked-start
-slice_bounds-longest_checked-start c = omega (arith, (let long : 11 ≤ length c.args.file.now = chart_long _ ((let chart : (k : Chart) × (chart_of c.args.file.now ≡ done k) = verdict_done_at _ (sym c.checked-f.ensures.means ∙ c.in-Done.is) in chart)).1 in long))
+slice_bounds-longest_checked-start c = omega (arith, chart_long _ (verdict_done_at (chart_of _) (sym c.in_ok-counts.ensures.means)).1)
+
+pub slice_bounds-longest_checked-count : goal.slice_bounds-longest_checked-count
+slice_bounds-longest_checked-count c = omega (arith, chart_long _ (verdict_done_at (chart_of _) (sym c.in_ok-counts.ensures.means)).1)
 
 pub returns : goal.returns
-returns c =
-    let d = (let chart : (k : Chart) × (chart_of c.args.file.now ≡ done k) = verdict_done_at _ (sym c.checked-f.ensures.means ∙ c.in-Done.is) in chart) in
-    let R = c.checked-f.ensures.ready d.0 d.1 in
-    let stated = subst (λ (l : List ℕ). Stated l c.checked-f.result.counts d.0) (sym (part_onward c.args.file.now 3)) R.laid.stated in
-    c.longest_checked.ensures d.0 (record { stated = stated; tabled = R.tabled; parents = R.parents })
-    ∙ ap told (sym (longest_passed _ _ d.1))
+returns c = let d = verdict_done_at (chart_of _) (sym c.in_ok-counts.ensures.means) in
+    let R = ready_part _ (c.in_ok-counts.ensures.ready d.0 d.1) in
+    c.longest_checked.ensures d.0 (grown_of R) ∙ sym (longest_passed _ _ d.1)

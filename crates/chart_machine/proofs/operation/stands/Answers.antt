@@ -1,38 +1,39 @@
 use mathlib.Core.Path.{refl, sym, ◌∙◌}
-use Rattle.chart_machine.specs.Outcomes.{stands}
+use Rattle.clocks.specs.Clocks.{zero_past, zeros_past}
+use Rattle.chart_machine.specs.Configured.{stands}
 use Rattle.chart_machine.proofs.operation.stands.Goals as goal
 
 pub returns-then-not-is_tree : goal.returns-then-not-is_tree
 unfolding stands
-returns-then-not-is_tree c = λ k G. rw (sym (c.is_tree.ensures k c.args.given G.tabled G.parents refl) ∙ c.if-not-is_tree.true)
+returns-then-not-is_tree c = λ r k G. rw (sym (c.is_tree.ensures k c.args.given G.tabled G.parents refl) ∙ c.if-not-is_tree.true)
 
-pub returns-then-not-zeros_past : goal.returns-then-not-zeros_past
-unfolding stands
-returns-then-not-zeros_past c =
-    λ k G. rw (
+pub returns-then-not-zero_past : goal.returns-then-not-zero_past
+unfolding stands zeros_past
+returns-then-not-zero_past c =
+    λ r k G. rw (
       sym (c.is_tree.ensures k c.args.given G.tabled G.parents refl) ∙ c.if-not-is_tree.false,
       G.stated.variables,
-      sym c.zeros_past.ensures ∙ c.if-not-zeros_past.true,
+      sym c.zero_past.ensures ∙ c.if-not-zero_past.true,
     )
 
 pub returns-then-not-in_limit : goal.returns-then-not-in_limit
-unfolding stands
+unfolding stands zeros_past
 returns-then-not-in_limit c =
-    λ k G. rw (
+    λ r k G. rw (
       sym (c.is_tree.ensures k c.args.given G.tabled G.parents refl) ∙ c.if-not-is_tree.false,
       G.stated.variables,
-      sym c.zeros_past.ensures ∙ c.if-not-zeros_past.false,
+      sym c.zero_past.ensures ∙ c.if-not-zero_past.false,
       G.stated.clocks,
       sym c.in_limit.ensures ∙ c.if-not-in_limit.true,
     )
 
 pub returns : goal.returns
-unfolding stands
+unfolding stands zeros_past zero_past
 returns c =
-    λ k G. rw (
+    λ r k G. rw (
       sym (c.is_tree.ensures k c.args.given G.tabled G.parents refl) ∙ c.if-not-is_tree.false,
       G.stated.variables,
-      sym c.zeros_past.ensures ∙ c.if-not-zeros_past.false,
+      sym c.zero_past.ensures ∙ c.if-not-zero_past.false,
       G.stated.clocks,
       sym c.in_limit.ensures ∙ c.if-not-in_limit.false,
-    ) c.zero_past.ensures
+    ) c.zero_past-2.ensures

@@ -5,9 +5,8 @@ use Rattle.chart_machine.proofs.ticks.left_under.Goals as goal
 
 pub returns-then-not-is_in : goal.returns-then-not-is_in
 unfolding is_active implies
-returns-then-not-is_in c = λ k σ S e f h. rw (e, sym c.is_in.ensures ∙ c.if-not-is_in.true)
+returns-then-not-is_in c = λ k S h. rw (sym c.is_in.ensures ∙ c.if-not-is_in.true)
 
 pub returns : goal.returns
 unfolding is_active implies
-returns c = λ k σ S e f h.
-    rw (e, sym c.is_in.ensures ∙ c.if-not-is_in.false, f, ← c.bounds_of-bounds.ensures k S h, S.clocks) c.under_row.ensures
+returns c = λ k S h. rw (sym c.is_in.ensures ∙ c.if-not-is_in.false, ← c.bounds_of-bounds.ensures k S h, S.clocks) c.under_row.ensures

@@ -3,7 +3,7 @@ use Rattle.lists.proofs.Below.{below_next, below_end}
 use Rattle.lists.proofs.Lists.{counted_next, counted_left, counted_all}
 use lib.ListN.{length}
 use native.Mathlib.Omega.{arith}
-use Prim.Native.Nat.{◌-◌, ◌<◌}
+use Prim.Native.Nat.{◌<◌}
 use mathlib.Core.Path.{refl, ◌∙◌}
 use Rattle.chart_moves.proofs.activity.active_children.Goals as goal
 use Rattle.chart_moves.proofs.activity.active_children.Goals.{then-is_active_child, else-is_active_child}

@@ -5,7 +5,6 @@ use Rattle.lists.proofs.Below.{below_next, below_end}
 use Rattle.lists.proofs.Bools.{both}
 use Rattle.lists.specs.Lists.{all}
 use native.Mathlib.Omega.{arith}
-use Prim.Native.Nat.{◌-◌}
 use mathlib.Core.Path.{refl, sym, ap, ◌∙◌}
 use Rattle.chart_moves.proofs.activity.all_placed.Goals as goal
 

@@ -1,7 +1,6 @@
 use Rattle.chart_tree.proofs.Tables.{rooted_of, length_passing, get_d_passing}
 use Rattle.lists.proofs.Loops.{filled_none, filled_more, filled_all}
 use borrow.Author.Rules.{rules}
-use Prim.Native.Nat.{◌-◌}
 use mathlib.Core.Bool.{false}
 use mathlib.Core.Path.{sym, ◌∙◌}
 use Rattle.chart_moves.proofs.activity.left_below.Goals as goal

@@ -3,13 +3,9 @@ use Rattle.chart_moves.specs.Active.{below_none}
 use Rattle.chart_records.specs.Chart.{Chart}
 use Rattle.lists.proofs.Loops.{Filled}
 use lib.ListN.{get_or, length}
-use Prim.Native.Nat.{◌-◌}
 use mathlib.Core.Bool.{false, ◌&&◌}
 use mathlib.Core.Path.{◌≡◌}
 use Rattle.chart_moves.proofs.activity.left_below.Given as goal
 
 abbrev pub invariant-loop-s : goal.invariant-loop-s
-invariant-loop-s l = (c : Chart) → Rooted c l.parents → l.states ≡ length c.states → Filled 48 (passing 48 c (λ s'. get_or l.active s' false && below_none c l.sources s')) l.out l.s
-
-abbrev pub decreases-loop-s : goal.decreases-loop-s
-decreases-loop-s l = 48 - l.s
+invariant-loop-s l = (c : Chart) → Rooted c l.t.parents → l.states ≡ length c.states → Filled 48 (passing 48 c (λ s'. get_or l.active s' false && below_none c l.sources s')) l.out l.s

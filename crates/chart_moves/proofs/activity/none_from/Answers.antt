@@ -1,19 +1,19 @@
-use Rattle.lists.proofs.Parts.{drop_next}
-use Rattle.lists.proofs.Lists.{all_next, all_stop}
-use Rattle.lists.proofs.Bools.{not_yes, not_no}
+use mathlib.Core.Bool.{Bool, not, ◌&&◌}
+use mathlib.Core.List.{List}
+use mathlib.Core.Path.{◌≡◌, refl, ◌∙◌}
+use borrow.Author.Rules.{rules}
+use Rattle.std.proofs.Common.{tests}
+use Rattle.std.specs.List.{list_all}
+use Rattle.std.proofs.lemmas.List.Recursion.{same_from_clauses}
+use Rattle.std.proofs.lemmas.Iterator.{YieldsList-from_slice}
+use Rattle.std.proofs.lemmas.Iterator.Adapters.{YieldsList-from_skip}
+use Rattle.std.proofs.lemmas.Iterator.Search.{all_from_yields_List}
 use Rattle.lists.specs.Lists.{all}
-use lib.ListN.{drop_of_length-le}
-use Prim.Native.Nat.{◌-◌}
-use mathlib.Core.Bool.{not, false}
-use mathlib.Core.Path.{sym, ap, ◌∙◌}
 use Rattle.chart_moves.proofs.activity.none_from.Goals as goal
 
-pub returns-then-set-i : goal.returns-then-set-i
-returns-then-set-i c = sym (c.loop-i.invariant ∙ all_stop _ (drop_next _ _ false c.loop-i-test.true) (not_no c.if-set-i.true))
-
-pub loop-i-preserved : goal.loop-i-preserved
-loop-i-preserved c = c.loop-i.invariant ∙ all_next _ (drop_next _ _ false c.loop-i-test.true) (not_yes c.if-set-i.false)
+all_listed : (p : Bool → Bool) (xs : List Bool) → list_all p xs ≡ all p xs
+unfolding all
+all_listed p = same_from_clauses (list_all p) (all p) (λ x r. p x && r) refl (λ x xs. refl) (λ x xs. refl)
 
 pub returns : goal.returns
-unfolding all
-returns c = sym (c.loop-i.invariant ∙ ap (all not) (drop_of_length-le _ c.loop-i-test.false))
+returns c = all_from_yields_List not _ _ _ c.all.ensures.ran (YieldsList-from_skip c.args.from (YieldsList-from_slice c.args.set.now cc) c.skip.ensures.count) (λ x b q k. search (rules, tests)) ∙ all_listed not _

@@ -13,9 +13,9 @@ pub loop-s-init : goal.loop-s-init
 loop-s-init c = (
   search rules,
   omega arith,
-  omega (arith, c.least-s.ensures),
+  omega (arith, c.min-states.ensures),
   λ d σ T S X e.
-      passed_none d (parents_at d S.rooted.rule) σ (replicate 48 255) c.least-s.result (omega (arith, e)) (λ x k. get_or-replicate 48 x 255 0 (omega (arith, S.rooted.few))),
+      passed_none d (parents_at d S.rooted.rule) σ (replicate 48 255) c.min-states.result (omega (arith, e)) (λ x k. get_or-replicate 48 x 255 0 (omega (arith, S.rooted.few))),
 )
 
 pub loop-s-preserved-then-above-s : goal.loop-s-preserved-then-above-s
@@ -50,4 +50,4 @@ loop-s-preserved c = (
 
 pub returns : goal.returns
 returns c = λ d σ T r a q.
-    passed_all d (parents_at d r) σ c.loop-s.rows c.loop-s.s (c.loop-s.invariant.3 d σ (tree_at d σ q) (shown_of d σ _ _ T r a) T.exits (omega (arith, c.least-s.ensures, T.count, T.few))) c.loop-s-test.false
+    passed_all d (parents_at d r) σ c.loop-s.rows c.loop-s.s (c.loop-s.invariant.3 d σ (tree_at d σ q) (shown_of d σ _ _ T r a) T.exits (omega (arith, c.min-states.ensures, T.count, T.few))) c.loop-s-test.false

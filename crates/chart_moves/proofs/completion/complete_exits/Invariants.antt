@@ -1,5 +1,5 @@
 use mathlib.Core.Path.{◌≡◌}
-use Prim.Native.Nat.{◌-◌, ◌≤◌}
+use Prim.Native.Nat.{◌≤◌}
 use lib.ListN.{length}
 use Rattle.chart_records.specs.Chart.{Chart}
 use Rattle.chart_tree.specs.Table.{Column}
@@ -11,7 +11,4 @@ use Rattle.chart_moves.proofs.Passing.{PassedTo}
 use Rattle.chart_moves.proofs.completion.complete_exits.Given as goal
 
 abbrev pub invariant-loop-s : goal.invariant-loop-s
-invariant-loop-s l = (length l.rows ≡ 48) × (l.s ≤ l.initial.s) × (l.initial.s ≤ 48) × ((c : Chart) (σ : Configuration) → IsTree c (is_active σ) → Shown c σ l.parents l.kinds l.active → Column (λ x. x.exits) c l.exits → l.initial.s ≡ length c.states → PassedTo c σ l.s l.rows)
-
-abbrev pub decreases-loop-s : goal.decreases-loop-s
-decreases-loop-s l = l.s
+invariant-loop-s l = (length l.rows ≡ 48) × (l.s ≤ l.initial.s) × (l.initial.s ≤ 48) × ((c : Chart) (σ : Configuration) → IsTree c (is_active σ) → Shown c σ l.t.parents l.t.kinds l.active → Column (λ x. x.exits) c l.t.exits → l.initial.s ≡ length c.states → PassedTo c σ l.s l.rows)

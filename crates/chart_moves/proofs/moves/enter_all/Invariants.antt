@@ -4,7 +4,6 @@ use Rattle.chart_moves.specs.Active.{Moved}
 use Rattle.chart_records.specs.Rules.{parents, entry_marks}
 use Rattle.chart_records.specs.Chart.{Chart, Transition}
 use lib.ListN.{take}
-use Prim.Native.Nat.{◌-◌}
 use mathlib.Core.List.{List}
 use mathlib.Core.Bool.{true}
 use mathlib.Core.Path.{◌≡◌}
@@ -12,6 +11,3 @@ use Rattle.chart_moves.proofs.moves.enter_all.Given as goal
 
 abbrev pub invariant-loop-i : goal.invariant-loop-i
 invariant-loop-i l = (c : Chart) (ts : List Transition) → Tabled c l.t → parents c ≡ true → entry_marks c ≡ true → Moved ts l.moves → l.out ≡ adding 48 c (some_entered c (take l.i ts)) l.initial.out
-
-abbrev pub decreases-loop-i : goal.decreases-loop-i
-decreases-loop-i l = l.count - l.i

@@ -18,6 +18,4 @@ returns-clause-means c = let h = sym c.is_headed.ensures ∙ c.if-not-is_headed.
     rw (h, ← c.counts_at-counts.ensures, sym c.in_range.ensures ∙ c.if-not-in_range.false)
 
 pub returns-clause-within : goal.returns-clause-within
-unfolding counts_of unless
-returns-clause-within c = let h = sym c.is_headed.ensures ∙ c.if-not-is_headed.false in
-    λ n e. headed_long _ h
+returns-clause-within c = headed_long _ (sym c.is_headed.ensures ∙ c.if-not-is_headed.false)

@@ -1,13 +1,17 @@
+use mathlib.Core.Path.{sym}
 use Rattle.reading.specs.Reading.{byte, skipped}
-use Rattle.reading.proofs.Frames.{frame_faulty, frame_read}
+use Rattle.reading.proofs.Places.{reached_err}
+use Rattle.reading.proofs.Frames.{frame_faulty, content_faulty, frame_read}
 use Rattle.chart_records.proofs.state.state_at.Goals as goal
 
-pub returns-in_default : goal.returns-in_default
+pub returns-in_err-bytes : goal.returns-in_err-bytes
 unfolding skipped
-returns-in_default c =
-    frame_faulty (λ a. tt) byte _ _ _ c.read_frame-p.ensures.means c.in_default.is c.frame_fault.ensures
+returns-in_err-bytes c = reached_err _ _ _ _ c.from_residual.ensures.1 (sym (frame_faulty (λ a. tt) byte _ _ c.in_err-bytes.ensures.means))
+
+pub returns-in_err-used : goal.returns-in_err-used
+unfolding skipped
+returns-in_err-used c = reached_err _ _ _ _ c.from_residual-in_err-used.ensures.1 (sym (content_faulty (λ a. tt) byte _ _ _ _ c.in_ok-bytes.ensures.means c.in_err-used.ensures))
 
 pub returns : goal.returns
 unfolding skipped
-returns c =
-    frame_read (λ a. tt) byte _ _ _ c.read_frame-p.ensures.means tt c.read_state-q.result c.in-Part.is c.read_frame-p.ensures.within c.whole.ensures c.read_state-q.ensures
+returns c = frame_read (λ a. tt) byte _ _ _ _ c.in_ok-bytes.ensures.means tt c.in_ok-used.used c.whole.ensures c.in_ok-used.ensures

@@ -1,6 +1,6 @@
 use mathlib.Core.Path.{sym, ap, ◌∙◌, subst}
 use native.Mathlib.Omega.{arith}
-use Prim.Native.Nat.{ℕ, ◌-◌, ◌<◌, ◌^◌}
+use Prim.Native.Nat.{ℕ, ◌<◌, ◌^◌}
 use lib.Bits.{or_lt}
 use Rattle.lists.specs.Lists.{subset}
 use Rattle.lists.proofs.Bits.{subset_width}

@@ -1,4 +1,4 @@
-use Prim.Native.Nat.{ℕ, ◌-◌}
+use Prim.Native.Nat.{ℕ}
 use lib.Dec.{eqb}
 use Rattle.chart_records.specs.Chart.{Chart, sequential}
 use Rattle.chart_records.specs.Layout.{Stated}

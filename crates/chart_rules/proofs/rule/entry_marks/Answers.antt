@@ -1,5 +1,4 @@
 use borrow.Author.Tests.{eq-eqb, ne_eqb}
-use Prim.Native.Nat.{◌-◌}
 use Rattle.chart_records.specs.Rules.{entry_marks, entries_fit}
 use Rattle.chart_rules.proofs.Checks.{tested_none, tested_more, tested_stop, tested_all}
 use Rattle.chart_rules.proofs.rule.entry_marks.Goals as goal

@@ -1,4 +1,3 @@
-use Prim.Native.Nat.{◌-◌}
 use Rattle.chart_records.specs.Rules.{exit_marks, exits_fit}
 use Rattle.chart_rules.proofs.Checks.{tested_none, tested_more, tested_stop, tested_all}
 use Rattle.chart_rules.proofs.rule.exit_marks.Goals as goal

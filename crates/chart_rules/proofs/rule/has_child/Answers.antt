@@ -1,5 +1,4 @@
 use mathlib.Core.Path.{sym, ◌∙◌}
-use Prim.Native.Nat.{◌-◌}
 use Rattle.chart_records.specs.Tree.{is_child}
 use Rattle.chart_rules.proofs.Checks.{sought_none, sought_more, sought_stop, sought_all, child_sought}
 use Rattle.chart_rules.proofs.rule.has_child.Goals as goal

@@ -1,4 +1,3 @@
-use Prim.Native.Nat.{◌-◌}
 use Rattle.chart_records.specs.Rules.{parents, placed}
 use Rattle.chart_rules.proofs.Checks.{tested_none, tested_more, tested_stop, tested_all}
 use Rattle.chart_rules.proofs.rule.parents.Goals as goal

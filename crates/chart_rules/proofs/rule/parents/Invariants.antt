@@ -1,10 +1,6 @@
-use Prim.Native.Nat.{◌-◌}
 use Rattle.chart_records.specs.Rules.{placed}
 use Rattle.chart_rules.proofs.Checks.{Tested}
 use Rattle.chart_rules.proofs.rule.parents.Given as goal
 
 abbrev pub invariant-loop-s : goal.invariant-loop-s
 invariant-loop-s l = Tested placed l.rest l.counts l.s
-
-abbrev pub decreases-loop-s : goal.decreases-loop-s
-decreases-loop-s l = l.counts.states - l.s

@@ -1,6 +1,6 @@
 use mathlib.Core.Path.{sym, ◌∙◌}
 use mathlib.Core.Bool.{Bool}
-use Prim.Native.Nat.{ℕ, ◌-◌}
+use Prim.Native.Nat.{ℕ}
 use Rattle.lists.specs.Lists.{all, below}
 use Rattle.chart_records.specs.Chart.{Chart}
 use Rattle.chart_records.specs.Laid.{apart_from}

@@ -1,5 +1,5 @@
 use mathlib.Core.Bool.{Bool}
-use Prim.Native.Nat.{ℕ, ◌-◌}
+use Prim.Native.Nat.{ℕ}
 use Rattle.lists.specs.Lists.{all, below}
 use Rattle.chart_records.specs.Chart.{Chart}
 use Rattle.chart_records.specs.Laid.{apart_from}
@@ -11,6 +11,3 @@ apart_from_all n c t = all (apart_from c t) (below n)
 
 abbrev pub invariant-loop-t : goal.invariant-loop-t
 invariant-loop-t l = Numbered (apart_from_all l.counts.transitions) l.rest l.counts l.offsets l.parents l.t
-
-abbrev pub decreases-loop-t : goal.decreases-loop-t
-decreases-loop-t l = l.counts.transitions - l.t

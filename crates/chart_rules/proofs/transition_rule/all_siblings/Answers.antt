@@ -1,4 +1,3 @@
-use Prim.Native.Nat.{◌-◌}
 use Rattle.chart_records.specs.Rules.{siblings}
 use Rattle.chart_rules.proofs.Crossings.{crossed_none, crossed_more, crossed_stop, crossed_all}
 use Rattle.chart_rules.proofs.transition_rule.all_siblings.Goals as goal

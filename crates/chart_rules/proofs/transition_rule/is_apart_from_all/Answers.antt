@@ -1,4 +1,3 @@
-use Prim.Native.Nat.{◌-◌}
 use Rattle.chart_records.specs.Laid.{apart_from}
 use Rattle.chart_rules.proofs.Crossings.{numbered_none, numbered_more, numbered_stop, numbered_all}
 use Rattle.chart_rules.proofs.transition_rule.is_apart_from_all.Goals as goal

@@ -1,6 +1,5 @@
 use mathlib.Core.Path.{sym}
 use native.Mathlib.Omega.{arith}
-use Prim.Native.Nat.{◌-◌}
 use Rattle.chart_records.proofs.Ranges.{counts_range}
 use Rattle.chart_tree.proofs.Tables.{tabled}
 use Rattle.chart_rules.proofs.transition_rule.tree_of.Goals as goal
@@ -10,7 +9,7 @@ loop-s-init c = λ k S. c.no_states-tree.ensures k (sym S.states) (counts_range 
 
 pub loop-s-preserved : goal.loop-s-preserved
 loop-s-preserved c =
-    λ k S. c.with_state-next.ensures k (c.loop-s.invariant k S) (omega (arith, S.states, c.loop-s-test.true)) (c.parent_of-parent.ensures k S) (c.kind_of-kind.ensures k S)
+    λ k S. c.put_state.ensures k (c.loop-s.invariant k S) (omega (arith, S.states, c.loop-s-test.true)) (c.parent_of-parent.ensures k S) (c.kind_of-kind.ensures k S)
     (c.entries_of-entries.ensures k S) (c.exits_of-exits.ensures k S)
 
 pub returns : goal.returns

@@ -1,4 +1,3 @@
-use Prim.Native.Nat.{◌-◌}
 use Rattle.chart_records.specs.Chart.{Chart}
 use Rattle.chart_records.specs.Layout.{Stated}
 use Rattle.chart_tree.specs.Table.{Begun}
@@ -6,6 +5,3 @@ use Rattle.chart_rules.proofs.transition_rule.tree_of.Given as goal
 
 abbrev pub invariant-loop-s : goal.invariant-loop-s
 invariant-loop-s l = (c : Chart) → Stated l.rest l.counts c → Begun c l.tree l.s
-
-abbrev pub decreases-loop-s : goal.decreases-loop-s
-decreases-loop-s l = l.counts.states - l.s

@@ -1,8 +1,7 @@
 use mathlib.Core.Path.{◌≡◌}
 use mathlib.Core.Bool.{true}
 use mathlib.Core.List.{map}
-use Prim.Native.Nat.{◌-◌}
-use lib.ListN.{length, drop}
+use lib.ListN.{drop}
 use Rattle.lists.specs.Lists.{all}
 use Rattle.steps.specs.Moves.{known}
 use Rattle.chart_records.specs.Chart.{Chart, transition_at}
@@ -10,8 +9,5 @@ use Rattle.chart_moves.specs.Machine.{active_transition}
 use Rattle.chart_steps.specs.Asked.{Prepared}
 use Rattle.chart_steps.proofs.allowed.all_active.Given as goal
 
-abbrev pub invariant-loop-i : goal.invariant-loop-i
-invariant-loop-i l = (c : Chart) → Prepared l.rest l.counts l.offsets l.given l.complete c → known l.counts.transitions l.list ≡ true → all (active_transition c l.given) (map (transition_at c) l.list) ≡ all (active_transition c l.given) (map (transition_at c) (drop l.i l.list))
-
-abbrev pub decreases-loop-i : goal.decreases-loop-i
-decreases-loop-i l = length l.list - l.i
+abbrev pub invariant-loop-m : goal.invariant-loop-m
+invariant-loop-m l = (c : Chart) → Prepared l.rest l.counts l.offsets l.given l.complete c → known l.counts.transitions l.list ≡ true → all (active_transition c l.given) (map (transition_at c) l.list) ≡ all (active_transition c l.given) (map (transition_at c) (drop l.m-index l.list))

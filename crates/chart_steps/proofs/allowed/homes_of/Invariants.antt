@@ -1,6 +1,5 @@
 use mathlib.Core.Path.{◌≡◌}
 use mathlib.Core.Bool.{true}
-use Prim.Native.Nat.{◌-◌}
 use Rattle.steps.specs.Moves.{known}
 use Rattle.chart_records.specs.Chart.{Chart, home}
 use Rattle.chart_records.specs.Laid.{Laid}
@@ -9,6 +8,3 @@ use Rattle.chart_steps.proofs.allowed.homes_of.Given as goal
 
 abbrev pub invariant-loop-i : goal.invariant-loop-i
 invariant-loop-i l = (c : Chart) → Laid l.rest l.counts l.offsets c → known l.counts.transitions l.list ≡ true → Imaged (home c) l.list 16 l.homes l.i
-
-abbrev pub decreases-loop-i : goal.decreases-loop-i
-decreases-loop-i l = l.count - l.i

@@ -1,5 +1,4 @@
-use mathlib.Core.Bool.{true}
-use Prim.Native.Nat.{◌<◌, ◌-◌}
+use Prim.Native.Nat.{◌<◌}
 use native.Mathlib.Omega.{arith}
 use lib.ListN.{length}
 use Rattle.chart_records.specs.Chart.{transition_at, home}
@@ -12,7 +11,7 @@ use Rattle.chart_steps.proofs.allowed.members_of.Goals as goal
 use Rattle.chart_steps.proofs.allowed.members_of.Goals.{In-loop-i}
 
 inside : (c : In-loop-i) → (c.loop-i.i < length c.args.list.now) × (c.loop-i.i < 16)
-inside c = (omega (arith, c.least-count.ensures, c.loop-i-test.true), omega (arith, c.least-count.ensures, c.loop-i-test.true))
+inside c = (omega (arith, c.min-i-end.ensures, c.loop-i-test.true), omega (arith, c.min-i-end.ensures, c.loop-i-test.true))
 
 pub loop-i-init : goal.loop-i-init
 loop-i-init c = λ k L h. imaged_none _ _ 16 _ (search rules)
@@ -21,7 +20,7 @@ pub bounds-members-i : goal.bounds-members-i
 bounds-members-i c = omega (arith, (inside (goal.at.bounds-members-i c).In-loop-i).1)
 
 pub loop-i-preserved : goal.loop-i-preserved
-loop-i-preserved c = λ k L h. imaged_more _ _ 16 _ _ (c.loop-i.invariant k L h) 0 (inside (goal.at.loop-i-preserved c).In-loop-i).0 (inside (goal.at.loop-i-preserved c).In-loop-i).1 (chosen_at L _ h _ (inside (goal.at.loop-i-preserved c).In-loop-i).0 c.chosen-t.ensures (member (λ m. (transition_at k m).label) (home k)) (c.member_of-m.ensures k L))
+loop-i-preserved c = λ k L h. imaged_more _ _ 16 _ _ (c.loop-i.invariant k L h) 0 (inside (goal.at.loop-i-preserved c).In-loop-i).0 (inside (goal.at.loop-i-preserved c).In-loop-i).1 (chosen_at L _ h _ (inside (goal.at.loop-i-preserved c).In-loop-i).0 c.chosen.ensures (member (λ m. (transition_at k m).label) (home k)) (c.member_of.ensures k L))
 
 pub returns : goal.returns
-returns c = λ k L h. imaged_all _ _ 16 _ _ (c.loop-i.invariant k L h) (omega (arith, c.least-count.ensures, c.loop-i-test.false, known_few _ _ h))
+returns c = λ k L h. imaged_all _ _ 16 _ _ (c.loop-i.invariant k L h) (omega (arith, c.min-i-end.ensures, c.loop-i-test.false, known_few _ _ h))

@@ -1,5 +1,4 @@
 use mathlib.Core.Bool.{cond, ◌&&◌}
-use Prim.Native.Nat.{◌-◌}
 use Rattle.lists.specs.Lists.{below}
 use Rattle.labels.specs.Label.{receives}
 use Rattle.lists.proofs.Images.{Imaged}
@@ -10,6 +9,3 @@ use Rattle.chart_steps.proofs.allowed.receiver_homes.Given as goal
 
 abbrev pub invariant-loop-t : goal.invariant-loop-t
 invariant-loop-t l = (c : Chart) → Prepared l.rest l.counts l.offsets l.given l.complete c → Imaged (λ m. cond (receives (transition_at c m).label l.channel && active_transition c l.given (transition_at c m)) (home c m) 255) (below l.counts.transitions) 64 l.homes l.t
-
-abbrev pub decreases-loop-t : goal.decreases-loop-t
-decreases-loop-t l = l.counts.transitions - l.t

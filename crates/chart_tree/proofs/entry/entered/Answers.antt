@@ -16,13 +16,13 @@ returns-then-entry-eq255 c = λ d T r5 r8. entered_single d _ T r5 r8 _ _ _ (sea
 pub returns-then-not-has : goal.returns-then-not-has
 returns-then-not-has c = λ d T r5 r8. entered_unmarked d _ T r5 r8 _ _ _ (search rules) c.if-entry-eq255.false c.if-d-ge-STATES.false (sym c.has.ensures ∙ c.if-not-has.true)
 
-pub returns-then-kinds-d-eq2 : goal.returns-then-kinds-d-eq2
-returns-then-kinds-d-eq2 c =
+pub returns-then-t-d-eq2 : goal.returns-then-t-d-eq2
+returns-then-t-d-eq2 c =
     λ d T r5 r8.
     let E = enters_of d _ T r5 r8 _ _ c.if-entry-eq255.false c.if-d-ge-STATES.false c.if-destination-t.false (sym c.has.ensures ∙ c.if-not-has.false) in
-    c.enter_parallel.ensures d E (kind_parallel d _ _ _ _ _ E _ c.if-d-ge-STATES.false c.if-kinds-d-eq2.true)
+    c.enter_parallel.ensures d E (kind_parallel d _ _ _ _ _ E _ c.if-d-ge-STATES.false c.if-t-d-eq2.true)
 
-pub returns-else-kinds-d-eq2 : goal.returns-else-kinds-d-eq2
-returns-else-kinds-d-eq2 c =
+pub returns-else-t-d-eq2 : goal.returns-else-t-d-eq2
+returns-else-t-d-eq2 c =
     λ d T r5 r8. c.enter_sequential.ensures d (enters_of d _ T r5 r8 _ _ c.if-entry-eq255.false c.if-d-ge-STATES.false c.if-destination-t.false
     (sym c.has.ensures ∙ c.if-not-has.false))

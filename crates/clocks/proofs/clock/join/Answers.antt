@@ -11,4 +11,4 @@ loop-i-init c = let a : length c.args.a ≡ 8 = search rules in
     filled_none 8 _ _ (rw (length_join, a, b)) refl
 
 pub loop-i-preserved : goal.loop-i-preserved
-loop-i-preserved c = filled_more 8 _ _ _ c.loop-i.invariant 0 _ c.loop-i-test.true (c.least.ensures ∙ sym (get_d_join _ _ _))
+loop-i-preserved c = filled_more 8 _ _ _ c.loop-i.invariant 0 _ c.loop-i-test.true (c.min.ensures ∙ sym (get_d_join _ _ _))

@@ -1,10 +1,6 @@
-use Prim.Native.Nat.{◌-◌}
 use Rattle.clocks.specs.Clocks.{join_tables}
 use Rattle.lists.proofs.Loops.{Filled}
 use Rattle.clocks.proofs.clock.join_tables.Given as goal
 
 abbrev pub invariant-loop-i : goal.invariant-loop-i
 invariant-loop-i l = Filled 48 (join_tables l.a l.b) l.joined l.i
-
-abbrev pub decreases-loop-i : goal.decreases-loop-i
-decreases-loop-i l = 48 - l.i

@@ -1,10 +1,6 @@
-use lib.Dec.{eqb}
+use lib.ListN.{length}
 use Rattle.lists.proofs.Loops.{Passed}
-use Prim.Native.Nat.{◌-◌}
 use Rattle.clocks.proofs.clock.zero_past.Given as goal
 
-abbrev pub invariant-loop-i : goal.invariant-loop-i
-invariant-loop-i l = Passed (λ x. eqb x 0) 8 l.clocks l.count l.i
-
-abbrev pub decreases-loop-i : goal.decreases-loop-i
-decreases-loop-i l = 8 - l.i
+abbrev pub invariant-loop-x : goal.invariant-loop-x
+invariant-loop-x g l = Passed g.T.IsZero.zero (length l.x-items) l.x-items 0 l.x-index

@@ -8,11 +8,11 @@ use Rattle.clocks.proofs.left.row_left.Goals as goal
 
 pub loop-i-init : goal.loop-i-init
 unfolding row_left
-loop-i-init c = (search rules, search rules, omega arith, refl)
+loop-i-init c = (search rules, search rules, refl)
 
 pub loop-i-preserved : goal.loop-i-preserved
-loop-i-preserved c = (c.loop-i.invariant.0, c.loop-i.invariant.1, omega arith, c.fewest-left.ensures ∙ ap₂ fewest c.ticks_left.ensures c.loop-i.invariant.3 ∙ row_left_more _ _ _ _ (omega arith) (omega arith))
+loop-i-preserved c = (c.loop-i.invariant.0, c.loop-i.invariant.1, c.fewest-left.ensures ∙ ap₂ fewest c.ticks_left.ensures c.loop-i.invariant.2 ∙ row_left_more _ _ _ _ (omega arith) (omega arith))
 
 pub returns : goal.returns
 returns c = let e : c.loop-i.i ≡ min c.args.count 8 = omega arith in
-    c.loop-i.invariant.3 ∙ rw e (row_left_min _ _ _ _ c.loop-i.invariant.0)
+    c.loop-i.invariant.2 ∙ rw e (row_left_min _ _ _ _ c.loop-i.invariant.0)

@@ -1,5 +1,4 @@
 use mathlib.Core.Path.{◌≡◌}
-use Prim.Native.Nat.{◌-◌, ◌≤◌}
 use lib.ListN.{length}
 use Rattle.clocks.specs.Clocks.{row_left}
 use Rattle.clocks.proofs.left.row_left.Given as goal
@@ -7,8 +6,4 @@ use Rattle.clocks.proofs.left.row_left.Given as goal
 abbrev pub invariant-loop-i : goal.invariant-loop-i
 invariant-loop-i l = (length l.bounds ≡ 8)
     × (length l.clocks ≡ 8)
-    × (l.i ≤ l.n)
     × (l.left ≡ row_left l.i l.bounds l.clocks l.ticks)
-
-abbrev pub decreases-loop-i : goal.decreases-loop-i
-decreases-loop-i l = l.n - l.i

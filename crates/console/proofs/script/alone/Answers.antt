@@ -1,14 +1,11 @@
-use mathlib.Core.Path.{sym, ap, ◌∙◌}
+use mathlib.Core.Path.{ap, ◌∙◌}
 use Rattle.console.specs.Script.{alone_line}
-use Rattle.console.proofs.Words.{words_part, words_none}
 use Rattle.console.proofs.script.alone.Goals as goal
 
-pub returns-in_default : goal.returns-in_default
+pub returns-in-None : goal.returns-in-None
 unfolding alone_line
-returns-in_default c =
-    c.plain.ensures ∙ sym (ap (alone_line _) (words_part _ _ c.next_word-more.result c.next_word-more.ensures.means c.in_default.is))
+returns-in-None c = c.plain.ensures ∙ ap (alone_line _) c.in-None.ensures.means
 
-pub returns : goal.returns
+pub returns-in-Some : goal.returns-in-Some
 unfolding alone_line
-returns c =
-    c.plain-2.ensures ∙ sym (ap (alone_line _) (words_none _ _ c.next_word-more.result c.next_word-more.ensures.means c.in-None.is))
+returns-in-Some c = c.plain-in-Some.ensures ∙ ap (alone_line _) c.in-Some.ensures.means

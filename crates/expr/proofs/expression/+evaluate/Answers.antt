@@ -1,17 +1,15 @@
-use Rattle.std.proofs.Common.{arith, ℕ, List, ◌≡◌, ◌≢◌, ◌-◌, ◌≤◌, ◌<◌, sym, ap, ◌∙◌, length, get_or, ℤ}
+use Rattle.std.proofs.Common.{arith, ℕ, List, ◌≡◌, ◌≢◌, ◌-◌, ◌≤◌, ◌<◌, sym, ap, ◌∙◌, length, get_or, ℤ, Option}
 use Rattle.reading.specs.Reading.{Reader, yield, ◌>>=◌, mapped}
 use Rattle.numbers.specs.Value.{combined, divided}
-use Rattle.numbers.specs.declared.value.Value.{Value}
-use Rattle.expr.specs.Evaluation.{value_of}
 use Rattle.expr.specs.Expression.{divisor, expression, value}
-use Rattle.reading.specs.Places.{onward}
-use Rattle.reading.proofs.Places.{answered}
+use Rattle.reading.specs.Places.{onward, read_of}
+use Rattle.reading.proofs.Places.{handed_on}
 use Rattle.expr.proofs.Expressions.{read_empty, read_deep, read_unknown, read_constant, read_variable, read_two, read_by}
 use Rattle.expr.proofs.Expressions.{first_fault, second_fault, both_got, rest_fault, rest_got, operator_value, division_value}
 use Rattle.expr.proofs.expression.+evaluate.Goals as goal
 
 -- the value of an expression and where it ends, or its fault
-abbrev values : List ℤ → ℕ → ℕ → Reader Value
+abbrev values : List ℤ → ℕ → ℕ → Reader (Option ℤ)
 values vars v k s = mapped (value vars) (expression v k s)
 
 module _ (vars : List ℤ) (v k : ℕ) (s : List ℕ) (some : length s ≢ 0) (left : k ≢ 0) where
@@ -31,53 +29,47 @@ returns-then-s-eq0-clause-means t c = sym (read_empty _ _ _ _ c.if-s-eq0.true)
 pub returns-then-levels-eq0-clause-means : goal.returns-then-levels-eq0-clause-means
 returns-then-levels-eq0-clause-means t c = sym (read_deep _ _ _ _ c.if-s-eq0.false c.if-levels-eq0.true)
 
-pub returns-in_default-first-clause-means : goal.returns-in_default-first-clause-means
-returns-in_default-first-clause-means t c =
+pub returns-in_err-x-in-2-clause-means : goal.returns-in_err-x-in-2-clause-means
+returns-in_err-x-in-2-clause-means t c =
     let by = operands c.args.values.now c.args.variables c.args.levels c.args.s.now c.if-s-eq0.false c.if-levels-eq0.false (omega arith) (omega arith) (omega arith) in
-    let fails = answered (value_of _) c.evaluate-first.ensures.means c.in_default-first.is in
-    ap (value_of _) c.in_default-first.is ∙ sym (by ∙ first_fault (values _ _ _) _ _ fails)
+    ap (read_of _) (handed_on _ c.from_residual.ensures.1) ∙ sym (by ∙ first_fault (values _ _ _) _ _ (sym c.in_err-x-in-2.ensures.means))
 
-pub returns-in_default-second-clause-means : goal.returns-in_default-second-clause-means
-returns-in_default-second-clause-means t c =
+pub returns-in_err-y-in-2-clause-means : goal.returns-in_err-y-in-2-clause-means
+returns-in_err-y-in-2-clause-means t c =
     let by = operands c.args.values.now c.args.variables c.args.levels c.args.s.now c.if-s-eq0.false c.if-levels-eq0.false (omega arith) (omega arith) (omega arith) in
-    let read_first = answered (value_of _) c.evaluate-first.ensures.means c.in-Value.is in
-    let fails = answered (value_of _) c.evaluate-second.ensures.means c.in_default-second.is in
-    ap (value_of _) c.in_default-second.is ∙ sym (by ∙ second_fault (values _ _ _) _ _ _ read_first fails)
+    ap (read_of _) (handed_on _ c.from_residual-in_err-y-in-2.ensures.1)
+    ∙ sym (by ∙ second_fault (values _ _ _) _ _ _ (sym c.in_ok-x-in-2.ensures.means) (sym c.in_err-y-in-2.ensures.means))
 
-pub returns-in_default-first-2-clause-means : goal.returns-in_default-first-2-clause-means
-returns-in_default-first-2-clause-means t c =
+pub returns-in_err-x-in-5-clause-means : goal.returns-in_err-x-in-5-clause-means
+returns-in_err-x-in-5-clause-means t c =
     let by = dividend c.args.values.now c.args.variables c.args.levels c.args.s.now c.if-s-eq0.false c.if-levels-eq0.false (omega arith) (omega arith) in
-    let fails = answered (value_of _) c.evaluate-first-in-5.ensures.means c.in_default-first-2.is in
-    ap (value_of _) c.in_default-first-2.is ∙ sym (by ∙ first_fault (values _ _ _) _ _ fails)
+    ap (read_of _) (handed_on _ c.from_residual-in_err-x-in-5.ensures.1) ∙ sym (by ∙ first_fault (values _ _ _) _ _ (sym c.in_err-x-in-5.ensures.means))
 
-pub returns-in_default-second-2-clause-means : goal.returns-in_default-second-2-clause-means
-returns-in_default-second-2-clause-means t c =
+pub returns-in_err-z-in-5-clause-means : goal.returns-in_err-z-in-5-clause-means
+returns-in_err-z-in-5-clause-means t c =
     let by = dividend c.args.values.now c.args.variables c.args.levels c.args.s.now c.if-s-eq0.false c.if-levels-eq0.false (omega arith) (omega arith) in
-    let read_first = answered (value_of _) c.evaluate-first-in-5.ensures.means c.in-Value-first.is in
-    let fails = answered (value_of _) c.divide_by-second.ensures.means c.in_default-second-2.is in
-    ap (value_of _) c.in_default-second-2.is ∙ sym (by ∙ rest_fault (values _ _ _) _ _ _ read_first fails)
+    ap (read_of _) (handed_on _ c.from_residual-in_err-z-in-5.ensures.1)
+    ∙ sym (by ∙ rest_fault (values _ _ _) _ _ _ (sym c.in_ok-x-in-5.ensures.means) (sym c.in_err-z-in-5.ensures.means))
 
 pub returns-in-0-clause-means : goal.returns-in-0-clause-means
 unfolding value
-returns-in-0-clause-means t c = c.read_signed.ensures.means ∙ sym (read_constant _ _ _ _ c.if-s-eq0.false c.if-levels-eq0.false c.in-0.is)
+returns-in-0-clause-means t c =
+    c.read_signed.ensures.means ∙ sym (read_constant _ _ _ _ c.if-s-eq0.false c.if-levels-eq0.false c.in-0.is)
 
 pub returns-in-1-clause-means : goal.returns-in-1-clause-means
 unfolding value
-returns-in-1-clause-means t c = c.evaluate_variable.ensures.means ∙ sym (read_variable _ _ _ _ c.if-s-eq0.false c.if-levels-eq0.false c.in-1.is)
+returns-in-1-clause-means t c =
+    c.evaluate_variable.ensures.means ∙ sym (read_variable _ _ _ _ c.if-s-eq0.false c.if-levels-eq0.false c.in-1.is)
 
-pub returns-in-Value-second-clause-means : goal.returns-in-Value-second-clause-means
-returns-in-Value-second-clause-means t c =
+pub returns-in_ok-y-in-2-clause-means : goal.returns-in_ok-y-in-2-clause-means
+returns-in_ok-y-in-2-clause-means t c =
     let by = operands c.args.values.now c.args.variables c.args.levels c.args.s.now c.if-s-eq0.false c.if-levels-eq0.false (omega arith) (omega arith) (omega arith) in
-    let read_first = answered (value_of _) c.evaluate-first.ensures.means c.in-Value.is in
-    let read_second = answered (value_of _) c.evaluate-second.ensures.means c.in-Value-second.is in
-    rw c.combine.ensures (sym (by ∙ both_got (values _ _ _) _ _ _ read_first _ read_second))
+    rw c.combine.ensures (sym (by ∙ both_got (values _ _ _) _ _ _ (sym c.in_ok-x-in-2.ensures.means) _ (sym c.in_ok-y-in-2.ensures.means)))
 
-pub returns-in-Value-second-2-clause-means : goal.returns-in-Value-second-2-clause-means
-returns-in-Value-second-2-clause-means t c =
+pub returns-in_ok-z-in-5-clause-means : goal.returns-in_ok-z-in-5-clause-means
+returns-in_ok-z-in-5-clause-means t c =
     let by = dividend c.args.values.now c.args.variables c.args.levels c.args.s.now c.if-s-eq0.false c.if-levels-eq0.false (omega arith) (omega arith) in
-    let read_first = answered (value_of _) c.evaluate-first-in-5.ensures.means c.in-Value-first.is in
-    let read_second = answered (value_of _) c.divide_by-second.ensures.means c.in-Value-second-2.is in
-    sym (by ∙ rest_got (values _ _ _) _ _ _ read_first _ read_second)
+    sym (by ∙ rest_got (values _ _ _) _ _ _ (sym c.in_ok-x-in-5.ensures.means) _ (sym c.in_ok-z-in-5.ensures.means))
 
 pub returns-in_default-clause-means : goal.returns-in_default-clause-means
 returns-in_default-clause-means t c = sym (read_unknown _ _ _ c.args.s.now c.if-s-eq0.false (omega arith))

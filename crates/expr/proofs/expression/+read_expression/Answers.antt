@@ -2,7 +2,8 @@ use Rattle.std.proofs.Common.{arith, ℕ, List, ◌≡◌, ◌≢◌, ◌-◌, �
 use Rattle.reading.specs.Reading.{Reader, yield, ◌>>=◌, mapped, skipped}
 use Rattle.expr.specs.Expression.{divisor, expression}
 use Rattle.reading.specs.Places.{onward, reached}
-use Rattle.reading.proofs.Places.{answered, byte_skipped, word_skipped}
+use Rattle.reading.proofs.Places.{handed_on}
+use Rattle.reading.proofs.Reading.{mapped_got, mapped_fault}
 use Rattle.expr.proofs.Expressions.{read_empty, read_deep, read_unknown, read_constant, read_variable, read_two, read_by}
 use Rattle.expr.proofs.Expressions.{first_fault, second_fault, both_got, rest_fault, rest_got}
 use Rattle.expr.proofs.expression.+read_expression.Goals as goal
@@ -32,63 +33,53 @@ pub returns-then-levels-eq0-clause-means : goal.returns-then-levels-eq0-clause-m
 unfolding skipped
 returns-then-levels-eq0-clause-means t c = sym (read_deep _ _ _ _ c.if-s-eq0.false c.if-levels-eq0.true)
 
-pub returns-in_default-first-clause-means : goal.returns-in_default-first-clause-means
+pub returns-in_err-n-in-2-clause-means : goal.returns-in_err-n-in-2-clause-means
 unfolding skipped
-returns-in_default-first-clause-means t c =
+returns-in_err-n-in-2-clause-means t c =
     let by = operands c.args.variables c.args.levels c.args.s.now c.if-s-eq0.false c.if-levels-eq0.false (omega arith) (omega arith) (omega arith) in
-    let fails = answered (reached _ tt) c.read_expression-first.ensures.means c.in_default-first.is in
-    ap (reached _ tt) c.in_default-first.is ∙ sym (by ∙ first_fault (ends _ _) _ _ fails)
+    ap (reached _ tt) (handed_on _ c.from_residual.ensures.1) ∙ sym (by ∙ first_fault (ends _ _) _ _ (sym c.in_err-n-in-2.ensures.means))
 
-pub returns-in_default-second-clause-means : goal.returns-in_default-second-clause-means
+pub returns-in_err-m-in-2-clause-means : goal.returns-in_err-m-in-2-clause-means
 unfolding skipped
-returns-in_default-second-clause-means t c =
+returns-in_err-m-in-2-clause-means t c =
     let by = operands c.args.variables c.args.levels c.args.s.now c.if-s-eq0.false c.if-levels-eq0.false (omega arith) (omega arith) (omega arith) in
-    let read_first = answered (reached _ tt) c.read_expression-first.ensures.means c.in-At.is in
-    let fails = answered (reached _ tt) c.read_expression-second.ensures.means c.in_default-second.is in
-    ap (reached _ tt) c.in_default-second.is ∙ sym (by ∙ second_fault (ends _ _) _ (λ x y. tt) _ read_first fails)
+    ap (reached _ tt) (handed_on _ c.from_residual-in_err-m-in-2.ensures.1)
+    ∙ sym (by ∙ second_fault (ends _ _) _ (λ x y. tt) _ (sym c.in_ok-n-in-2.ensures.means) (sym c.in_err-m-in-2.ensures.means))
 
-pub returns-in_default-first-2-clause-means : goal.returns-in_default-first-2-clause-means
+pub returns-in_err-n-in-5-clause-means : goal.returns-in_err-n-in-5-clause-means
 unfolding skipped
-returns-in_default-first-2-clause-means t c =
+returns-in_err-n-in-5-clause-means t c =
     let by = dividend c.args.variables c.args.levels c.args.s.now c.if-s-eq0.false c.if-levels-eq0.false (omega arith) (omega arith) in
-    let fails = answered (reached _ tt) c.read_expression-first-in-5.ensures.means c.in_default-first-2.is in
-    ap (reached _ tt) c.in_default-first-2.is ∙ sym (by ∙ first_fault (ends _ _) _ _ fails)
+    ap (reached _ tt) (handed_on _ c.from_residual-in_err-n-in-5.ensures.1) ∙ sym (by ∙ first_fault (ends _ _) _ _ (sym c.in_err-n-in-5.ensures.means))
 
-pub returns-in_default-second-2-clause-means : goal.returns-in_default-second-2-clause-means
+pub returns-in_err-m-in-5-clause-means : goal.returns-in_err-m-in-5-clause-means
 unfolding skipped
-returns-in_default-second-2-clause-means t c =
+returns-in_err-m-in-5-clause-means t c =
     let by = dividend c.args.variables c.args.levels c.args.s.now c.if-s-eq0.false c.if-levels-eq0.false (omega arith) (omega arith) in
-    let read_first = answered (reached _ tt) c.read_expression-first-in-5.ensures.means c.in-At-first.is in
-    let ended = word_skipped _ c.read_divisor.result c.word_reached-second.ensures c.read_divisor.ensures.means in
-    let fails = answered (reached _ tt) ended c.in_default-second-2.is in
-    ap (reached _ tt) c.in_default-second-2.is ∙ sym (by ∙ rest_fault (ends _ _) _ (λ x t. mapped (λ d. tt) (divisor t)) _ read_first fails)
+    ap (reached _ tt) (handed_on _ c.from_residual-in_err-m-in-5.ensures.1)
+    ∙ sym (by ∙ rest_fault (ends _ _) _ (λ x t. mapped (λ d. tt) (divisor t)) _ (sym c.in_ok-n-in-5.ensures.means) (mapped_fault _ (sym c.in_err-m-in-5.ensures.means)))
 
 pub returns-in-0-clause-means : goal.returns-in-0-clause-means
 unfolding skipped
-returns-in-0-clause-means t c = c.read_constant.ensures.means ∙ sym (read_constant _ _ _ _ c.if-s-eq0.false c.if-levels-eq0.false c.in-0.is)
+returns-in-0-clause-means t c =
+    c.read_constant.ensures.means ∙ sym (read_constant _ _ _ _ c.if-s-eq0.false c.if-levels-eq0.false c.in-0.is)
 
 pub returns-in-1-clause-means : goal.returns-in-1-clause-means
 unfolding skipped
 returns-in-1-clause-means t c =
-    byte_skipped _ c.read_below.result c.byte_reached.ensures c.read_below.ensures.means
-    ∙ sym (read_variable _ _ _ _ c.if-s-eq0.false c.if-levels-eq0.false c.in-1.is)
+    c.read_variable.ensures.means ∙ sym (read_variable _ _ _ _ c.if-s-eq0.false c.if-levels-eq0.false c.in-1.is)
 
-pub returns-in-At-second-clause-means : goal.returns-in-At-second-clause-means
+pub returns-in_ok-m-in-2-clause-means : goal.returns-in_ok-m-in-2-clause-means
 unfolding skipped
-returns-in-At-second-clause-means t c =
+returns-in_ok-m-in-2-clause-means t c =
     let by = operands c.args.variables c.args.levels c.args.s.now c.if-s-eq0.false c.if-levels-eq0.false (omega arith) (omega arith) (omega arith) in
-    let read_first = answered (reached _ tt) c.read_expression-first.ensures.means c.in-At.is in
-    let read_second = answered (reached _ tt) c.read_expression-second.ensures.means c.in-At-second.is in
-    sym (by ∙ both_got (ends _ _) _ (λ x y. tt) _ read_first _ read_second)
+    sym (by ∙ both_got (ends _ _) _ (λ x y. tt) _ (sym c.in_ok-n-in-2.ensures.means) _ (sym c.in_ok-m-in-2.ensures.means))
 
-pub returns-in-At-second-2-clause-means : goal.returns-in-At-second-2-clause-means
+pub returns-in_ok-m-in-5-clause-means : goal.returns-in_ok-m-in-5-clause-means
 unfolding skipped
-returns-in-At-second-2-clause-means t c =
+returns-in_ok-m-in-5-clause-means t c =
     let by = dividend c.args.variables c.args.levels c.args.s.now c.if-s-eq0.false c.if-levels-eq0.false (omega arith) (omega arith) in
-    let read_first = answered (reached _ tt) c.read_expression-first-in-5.ensures.means c.in-At-first.is in
-    let ended = word_skipped _ c.read_divisor.result c.word_reached-second.ensures c.read_divisor.ensures.means in
-    let read_second = answered (reached _ tt) ended c.in-At-second-2.is in
-    sym (by ∙ rest_got (ends _ _) _ (λ x t. mapped (λ d. tt) (divisor t)) _ read_first _ read_second)
+    sym (by ∙ rest_got (ends _ _) _ (λ x t. mapped (λ d. tt) (divisor t)) _ (sym c.in_ok-n-in-5.ensures.means) _ (mapped_got _ (sym c.in_ok-m-in-5.ensures.means)))
 
 pub returns-in_default-clause-means : goal.returns-in_default-clause-means
 unfolding skipped

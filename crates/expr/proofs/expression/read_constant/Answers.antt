@@ -1,5 +1,14 @@
-use Rattle.reading.proofs.Places.{word_skipped}
+use mathlib.Core.Path.{sym, ap, ◌∙◌}
+use Rattle.reading.specs.Reading.{skipped}
+use Rattle.reading.specs.Places.{reached}
+use Rattle.reading.proofs.Reading.{mapped_got, mapped_fault}
+use Rattle.reading.proofs.Places.{handed_on}
 use Rattle.expr.proofs.expression.read_constant.Goals as goal
 
+pub returns-in_err-next-clause-means : goal.returns-in_err-next-clause-means
+unfolding skipped
+returns-in_err-next-clause-means c = ap (reached _ tt) (handed_on _ c.from_residual.ensures.1) ∙ sym (mapped_fault _ (sym c.in_err-next.ensures.means))
+
 pub returns-clause-means : goal.returns-clause-means
-returns-clause-means c = word_skipped _ c.read_word.result c.word_reached.ensures c.read_word.ensures.means
+unfolding skipped
+returns-clause-means c = sym (mapped_got _ (sym c.in_ok-next.ensures.means))

@@ -25,48 +25,42 @@ choose-returns t c = λ d xs ys C e r a k m.
     gives_unfixed d _ _ _ _ _ C _ xs ys _ f (c.choose_sequential.ensures d xs ys C e f p r k m)
 
 pub choose_parallel-loop-x-init : goal.choose_parallel-loop-x-init
-choose_parallel-loop-x-init t c = (omega arith, omega arith, λ d xs C e f p r k. multiplying_first d _ _ _ _ _ C _ xs f p r k)
+choose_parallel-loop-x-init t c = λ d xs C e f p r k. multiplying_first d _ _ _ _ _ C _ xs f p r k
 
 pub choose_parallel-loop-x-preserved : goal.choose_parallel-loop-x-preserved
 choose_parallel-loop-x-preserved t c =
-    let h = c.loop-x-test.true in (
-      omega arith,
-      omega arith,
-      λ d xs C e f p r k.
-          let i = c.loop-x.invariant.2 d xs C e f p r k in
-          let o = child_is d _ _ _ _ _ C _ c.loop-x.invariant.0 h c.is_child.ensures in
-          elim c.if-is_child.branch [
-            | choose_parallel-then-is_child w ↦ let j = o ∙ w.if-is_child.true in
-                rw (w.joined-is, w.made-is) (multiplying_more d _ _ _ _ _ C _ xs f p _ _ _ j i (w.choose-made.ensures d i.made [] (choosing_child d _ _ _ _ _ C _ j) e
-                (multiplying_clear d _ _ _ _ _ C _ xs f p _ j i) (λ y _. or_none y) i.kept (kept_none _ (length-replicate {A = ℕ} 1024 0))))
-            | choose_parallel-else-is_child w ↦ rw (w.joined-is, w.made-is) (multiplying_skip d _ _ _ _ _ C _ xs f p _ (o ∙ w.if-is_child.false) i)
-          ],
-    )
+    let h = c.loop-x-test.true in
+    λ d xs C e f p r k.
+    let i = c.loop-x.invariant d xs C e f p r k in
+    let o = child_is d _ _ _ _ _ C _ (omega (arith, c.loop-x.auto.x)) h c.is_child.ensures in
+    elim c.if-is_child.branch [
+      | choose_parallel-then-is_child w ↦ let j = o ∙ w.if-is_child.true in
+          rw (w.joined-is, w.made-is) (multiplying_more d _ _ _ _ _ C _ xs f p _ _ _ j i (w.choose-made.ensures d i.made [] (choosing_child d _ _ _ _ _ C _ j) e
+          (multiplying_clear d _ _ _ _ _ C _ xs f p _ j i) (λ y _. or_none y) i.kept (kept_none _ (length-replicate {A = ℕ} 1024 0))))
+      | choose_parallel-else-is_child w ↦ rw (w.joined-is, w.made-is) (multiplying_skip d _ _ _ _ _ C _ xs f p _ (o ∙ w.if-is_child.false) i)
+    ]
 
 pub choose_parallel-returns : goal.choose_parallel-returns
 choose_parallel-returns t c = λ d xs ys C e f p r k m.
-    let i = c.loop-x.invariant.2 d xs C e f p r k in
+    let i = c.loop-x.invariant d xs C e f p r k in
     multiplying_all d _ _ _ _ _ C _ xs f p _ ys _ _ (omega (arith, C.few, c.loop-x-test.false)) i (c.with_each.ensures i.made ys i.kept m (λ y j. or_none y))
 
 pub choose_sequential-loop-x-init : goal.choose_sequential-loop-x-init
-choose_sequential-loop-x-init t c = (omega arith, omega arith, λ d xs ys C e f p r k m. adding_first d _ _ _ _ _ C _ xs ys f p m)
+choose_sequential-loop-x-init t c = λ d xs ys C e f p r k m. adding_first d _ _ _ _ _ C _ xs ys f p m
 
 pub choose_sequential-loop-x-preserved : goal.choose_sequential-loop-x-preserved
 choose_sequential-loop-x-preserved t c =
-    let h = c.loop-x-test.true in (
-      omega arith,
-      omega arith,
-      λ d xs ys C e f p r k m.
-          let i = c.loop-x.invariant.2 d xs ys C e f p r k m in
-          let o = child_is d _ _ _ _ _ C _ c.loop-x.invariant.0 h c.is_child.ensures in
-          let q = own_is d _ _ _ _ _ C _ f p c.set_of-own.ensures in
-          elim c.if-is_child.branch [
-            | choose_sequential-then-is_child w ↦ let j = o ∙ w.if-is_child.true in
-                rw (w.to-is, w.total-is) (adding_more d _ _ _ _ _ C _ xs ys f p _ _ _ j i _ q
-                (w.choose-total.ensures d xs _ (choosing_child d _ _ _ _ _ C _ j) e (clear_child d _ _ _ _ _ C xs _ j r) (own_apart d _ _ _ _ _ C _ xs f p r q) k i.kept))
-            | choose_sequential-else-is_child w ↦ rw (w.to-is, w.total-is) (adding_skip d _ _ _ _ _ C _ xs ys f p _ (o ∙ w.if-is_child.false) i)
-          ],
-    )
+    let h = c.loop-x-test.true in
+    λ d xs ys C e f p r k m.
+    let i = c.loop-x.invariant d xs ys C e f p r k m in
+    let o = child_is d _ _ _ _ _ C _ (omega (arith, c.loop-x.auto.x)) h c.is_child.ensures in
+    let q = own_is d _ _ _ _ _ C _ f p c.set_of-own.ensures in
+    elim c.if-is_child.branch [
+      | choose_sequential-then-is_child w ↦ let j = o ∙ w.if-is_child.true in
+          rw (w.to-is, w.total-is) (adding_more d _ _ _ _ _ C _ xs ys f p _ _ _ j i _ q
+          (w.choose-total.ensures d xs _ (choosing_child d _ _ _ _ _ C _ j) e (clear_child d _ _ _ _ _ C xs _ j r) (own_apart d _ _ _ _ _ C _ xs f p r q) k i.kept))
+      | choose_sequential-else-is_child w ↦ rw (w.to-is, w.total-is) (adding_skip d _ _ _ _ _ C _ xs ys f p _ (o ∙ w.if-is_child.false) i)
+    ]
 
 pub choose_sequential-returns : goal.choose_sequential-returns
-choose_sequential-returns t c = λ d xs ys C e f p r k m. adding_all d _ _ _ _ _ C _ xs ys f p _ (omega (arith, C.few, c.loop-x-test.false)) (c.loop-x.invariant.2 d xs ys C e f p r k m)
+choose_sequential-returns t c = λ d xs ys C e f p r k m. adding_all d _ _ _ _ _ C _ xs ys f p _ (omega (arith, C.few, c.loop-x-test.false)) (c.loop-x.invariant d xs ys C e f p r k m)

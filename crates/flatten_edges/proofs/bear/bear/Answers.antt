@@ -7,17 +7,17 @@ returns-then-count-gt1024 c = λ d n s q T S L h o f g m R. (adds_past _ _ _ c.i
 
 pub returns-then-exit : goal.returns-then-exit
 returns-then-exit c = λ d n s q T S L h o f g m R. (
-  bear_none d _ _ _ T S n _ _ L _ h _ o _ _ q f g m c.joining-e.ensures c.signals_of-s.ensures _ c.of_transition-exit.ensures
+  bear_none d _ _ _ T S n _ _ L _ h _ o _ _ q f g m c.joining-e.ensures c.signals_of-s.ensures _ c.byte_at-exit.ensures
       c.if-exit.true c.bearing_head.ensures c.push.ensures,
   R,
 )
 
 pub returns-then-size-gt1024 : goal.returns-then-size-gt1024
 returns-then-size-gt1024 c = λ d n s q T S L h o f g m R.
-    bear_over d _ _ _ T S n _ _ L _ h _ o _ _ q f g m c.joining-e.ensures c.signals_of-s.ensures _ c.of_transition-exit.ensures
-    c.if-exit.false c.of_transition.ensures c.sets_by-size.ensures R _ _ c.if-size-gt1024.true
+    bear_over d _ _ _ T S n _ _ L _ h _ o _ _ q f g m c.joining-e.ensures c.signals_of-s.ensures _ c.byte_at-exit.ensures
+    c.if-exit.false c.byte_at.ensures c.sets_by-size.ensures R _ _ c.if-size-gt1024.true
 
 pub returns : goal.returns
 returns c = λ d n s q T S L h o f g m R.
-    bear_some d _ _ _ T S n _ _ L _ h _ o _ _ q f g m c.joining-e.ensures c.signals_of-s.ensures _ c.of_transition-exit.ensures
-    c.if-exit.false c.of_transition.ensures c.sets_by-size.ensures R c.if-size-gt1024.false c.start_off-off.ensures c.bear_each.ensures
+    bear_some d _ _ _ T S n _ _ L _ h _ o _ _ q f g m c.joining-e.ensures c.signals_of-s.ensures _ c.byte_at-exit.ensures
+    c.if-exit.false c.byte_at.ensures c.sets_by-size.ensures R c.if-size-gt1024.false c.start_off-off.ensures c.bear_each.ensures

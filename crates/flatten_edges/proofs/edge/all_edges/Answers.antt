@@ -8,14 +8,14 @@ loop-i-init c = λ d r T P L. walk_none _ (all_places d) _ _
 
 pub returns-then-n-gt1024 : goal.returns-then-n-gt1024
 returns-then-n-gt1024 c = λ d r T P L e.
-    place_past d _ P _ _ _ _ (c.loop-i.invariant d r T P L) c.loop-i-test.true c.of_place-kind.ensures
-    c.of_place-value.ensures c.of_place-mark.ensures
+    place_past d _ P _ _ _ _ (c.loop-i.invariant d r T P L) c.loop-i-test.true c.byte_at-kind.ensures
+    c.byte_at-value.ensures c.byte_at-mark.ensures
     (λ p m f k v a. c.from_place-n.ensures d r p T (spread_of d _ P) L P.count m f k v a) c.if-n-gt1024.true e
 
 pub loop-i-preserved : goal.loop-i-preserved
 loop-i-preserved c = λ d r T P L.
-    place_more d _ P _ _ _ _ (c.loop-i.invariant d r T P L) c.loop-i-test.true c.of_place-kind.ensures
-    c.of_place-value.ensures c.of_place-mark.ensures
+    place_more d _ P _ _ _ _ (c.loop-i.invariant d r T P L) c.loop-i-test.true c.byte_at-kind.ensures
+    c.byte_at-value.ensures c.byte_at-mark.ensures
     (λ p m f k v a. c.from_place-n.ensures d r p T (spread_of d _ P) L P.count m f k v a)
 
 pub returns : goal.returns

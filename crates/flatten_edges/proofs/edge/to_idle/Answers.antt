@@ -3,5 +3,5 @@ use Rattle.flatten_edges.proofs.edge.to_idle.Goals as goal
 
 pub returns : goal.returns
 returns c = λ d T S m f.
-    idle_adds d _ T _ m _ _ S _ f c.of_state-q.ensures c.of_state-low.ensures c.of_place.ensures
-    c.of_automaton-first.ensures c.joining-e.ensures c.channel_of-before.ensures c.hear_exits.ensures
+    idle_adds d _ T _ m _ _ S _ f c.byte_at-q.ensures c.byte_at-low.ensures c.byte_at.ensures
+    c.byte_at-first.ensures c.joining-e.ensures c.channel_of-before.ensures c.hear_exits.ensures

@@ -3,6 +3,3 @@ use Rattle.flatten_edges.proofs.flag.start_off.Given as goal
 
 abbrev pub invariant-loop-a : goal.invariant-loop-a
 invariant-loop-a l = OffFrom l.exits l.initials l.automata l.exit l.off l.a
-
-abbrev pub decreases-loop-a : goal.decreases-loop-a
-decreases-loop-a l = l.a

@@ -1,6 +1,6 @@
 use mathlib.Core.Path.{refl, sym, ◌∙◌}
 use native.Mathlib.Omega.{arith}
-use Rattle.flatten_edges.proofs.Hears.{enter_less, enter_not, enter_on, enter_end}
+use Rattle.flatten_edges.proofs.Hears.{enter_less, enter_not, enter_on, enter_end_yes, enter_end_no}
 use Rattle.flatten_edges.proofs.hear.enters.Goals as goal
 
 pub loop-x-init : goal.loop-x-init
@@ -24,8 +24,12 @@ loop-x-preserved c = λ d E h l.
           c.marks_at.ensures c.has.ensures (c.if-not-has.false) c.byte_at-above.ensures,
     )
 
-pub returns : goal.returns
-returns c = λ d E h l.
+pub returns-then-x-top : goal.returns-then-x-top
+returns-then-x-top c = λ d E h l.
     let i = c.loop-x.invariant d E h l in
-    let z = enter_end d _ _ E _ l _ i.0 c.loop-x-test.false in
-    cc (c.has-2.ensures, c.marks_at-2.ensures)
+    enter_end_yes d _ _ E _ l _ i.0 c.loop-x-test.false c.if-x-top.true c.marks_at-then-x-top.ensures c.has-then-x-top.ensures ∙ sym i.1
+
+pub returns-else-x-top : goal.returns-else-x-top
+returns-else-x-top c = λ d E h l.
+    let i = c.loop-x.invariant d E h l in
+    enter_end_no d _ _ E _ l _ i.0 c.loop-x-test.false c.if-x-top.false ∙ sym i.1

@@ -1,4 +1,3 @@
-use Prim.Native.Nat.{◌-◌}
 use lib.ListN.{take}
 use Rattle.lists.specs.Lists.{concat}
 use Rattle.chart_records.specs.Chart.{Chart}
@@ -10,6 +9,3 @@ use Rattle.flatten_edges.proofs.hear.hear_entries.Given as goal
 
 abbrev pub invariant-loop-k : goal.invariant-loop-k
 invariant-loop-k l = (c : Chart) → HearsEntries c l.e l.parents l.entries l.q l.s l.states l.marks l.pairs l.before → Adds l.initial.heads l.count l.heads l.n (concat (entry_edge c l.q l.s) (take l.k (enter_pairs c)))
-
-abbrev pub decreases-loop-k : goal.decreases-loop-k
-decreases-loop-k l = l.pairs - l.k

@@ -1,4 +1,4 @@
-use Prim.Native.Nat.{ℕ, ◌-◌}
+use Prim.Native.Nat.{ℕ}
 use lib.ListN.{take}
 use Rattle.lists.specs.Lists.{concat}
 use Rattle.chart_records.specs.Chart.{Chart}
@@ -10,6 +10,3 @@ use Rattle.flatten_edges.proofs.hear.hear_exits.Given as goal
 
 abbrev pub invariant-loop-k : goal.invariant-loop-k
 invariant-loop-k l = (c : Chart) (s : ℕ) → HearsExits c s l.e l.parents l.below l.q l.states l.marks l.pairs l.before → Adds l.initial.heads l.count l.heads l.n (concat (exit_edge c l.q s) (take l.k (exit_pairs c)))
-
-abbrev pub decreases-loop-k : goal.decreases-loop-k
-decreases-loop-k l = l.pairs - l.k

@@ -6,7 +6,7 @@ pub loop-k-init : goal.loop-k-init
 loop-k-init c = lowest_none _ _ _ (omega (arith, c.ranges.from))
 
 pub loop-k-preserved : goal.loop-k-preserved
-loop-k-preserved c = lowest_more _ _ _ _ _ c.loop-k.invariant c.of_transition-u.ensures c.of_transition-d.ensures c.lower-best.ensures
+loop-k-preserved c = lowest_more _ _ _ _ _ c.loop-k.invariant c.byte_at-u.ensures c.byte_at-d.ensures c.lower-best.ensures
 
 pub returns : goal.returns
 returns c = lowest_all _ _ _ _ c.loop-k.invariant c.loop-k-test.false

@@ -1,9 +1,5 @@
 use Rattle.flatten_edges.proofs.Departs.{Lowest}
-use Prim.Native.Nat.{◌-◌}
 use Rattle.flatten_edges.proofs.source.next_departure.Given as goal
 
 abbrev pub invariant-loop-k : goal.invariant-loop-k
 invariant-loop-k l = Lowest l.departures l.items l.from l.k l.best
-
-abbrev pub decreases-loop-k : goal.decreases-loop-k
-decreases-loop-k l = l.count - l.k

@@ -4,7 +4,7 @@ use lib.ListN.{length-set}
 use native.Mathlib.Omega.{arith}
 use mathlib.Core.Path.{refl, sym, ◌∙◌}
 use Rattle.flatten_edges.proofs.source.transitions_from.Goals as goal
-use Rattle.flatten_edges.proofs.source.transitions_from.Goals.{then-of_transition-s, else-of_transition-s}
+use Rattle.flatten_edges.proofs.source.transitions_from.Goals.{then-byte_at-s, else-byte_at-s}
 
 pub returns-then-count-gt64 : goal.returns-then-count-gt64
 returns-then-count-gt64 c = λ d S e l. absurd (omega (arith, c.if-count-gt64.true))
@@ -14,9 +14,9 @@ loop-t-init c = (refl, omega arith, omega arith, c.if-count-gt64.false, λ d S e
 
 pub loop-t-preserved : goal.loop-t-preserved
 loop-t-preserved c =
-    elim c.if-of_transition-s.branch [
-      | then-of_transition-s v ↦ rw v.n-is (simp length-set c.loop-t.invariant.0, omega arith, omega arith, c.loop-t.invariant.3, λ d S e. kept_yes _ _ _ _ _ (c.loop-t.invariant.4 d S e) (omega arith) (omega arith) (eq-eqb _ _ (sym (S _ (omega arith)) ∙ sym c.of_transition.ensures ∙ v.if-of_transition-s.true)))
-      | else-of_transition-s v ↦ rw v.n-is (simp length-set c.loop-t.invariant.0, omega arith, omega arith, c.loop-t.invariant.3, λ d S e. kept_no _ _ _ _ _ (c.loop-t.invariant.4 d S e) (omega arith) (ne_eqb _ _ (λ z. v.if-of_transition-s.false (c.of_transition.ensures ∙ S _ (omega arith) ∙ z))))
+    elim c.if-byte_at-s.branch [
+      | then-byte_at-s v ↦ rw v.n-is (simp length-set c.loop-t.invariant.0, omega arith, omega arith, c.loop-t.invariant.3, λ d S e. kept_yes _ _ _ _ _ (c.loop-t.invariant.4 d S e) (omega arith) (omega arith) (eq-eqb _ _ (sym (S _ (omega arith)) ∙ sym c.byte_at.ensures ∙ v.if-byte_at-s.true)))
+      | else-byte_at-s v ↦ rw v.n-is (simp length-set c.loop-t.invariant.0, omega arith, omega arith, c.loop-t.invariant.3, λ d S e. kept_no _ _ _ _ _ (c.loop-t.invariant.4 d S e) (omega arith) (ne_eqb _ _ (λ z. v.if-byte_at-s.false (c.byte_at.ensures ∙ S _ (omega arith) ∙ z))))
     ]
 
 pub returns : goal.returns

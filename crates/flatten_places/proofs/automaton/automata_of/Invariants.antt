@@ -1,4 +1,4 @@
-use Prim.Native.Nat.{◌≤◌, ◌-◌}
+use Prim.Native.Nat.{◌≤◌}
 use lib.ListN.{length, drop}
 use Rattle.lists.specs.Lists.{keep}
 use Rattle.chart_records.specs.Chart.{Chart, states, sequential}
@@ -9,6 +9,3 @@ use Rattle.flatten_places.proofs.automaton.automata_of.Given as goal
 
 abbrev pub invariant-loop-s : goal.invariant-loop-s
 invariant-loop-s l = (k : Chart) → Tabled k l.tree → length (sequentials k) ≤ 16 → AutomatedTo k (keep (sequential k) (drop l.s (states k))) l.automata
-
-abbrev pub decreases-loop-s : goal.decreases-loop-s
-decreases-loop-s l = l.tree.states - l.s

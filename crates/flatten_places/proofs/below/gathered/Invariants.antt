@@ -7,7 +7,4 @@ use mathlib.Core.Path.{◌≡◌}
 use Rattle.flatten_places.proofs.below.gathered.Given as goal
 
 abbrev pub invariant-loop-s : goal.invariant-loop-s
-invariant-loop-s l = (length l.below ≡ 48) × (l.s ≤ l.initial.s) × (l.initial.s ≤ 48) × ((c : Chart) → Rooted c l.parents → l.initial.s ≡ length c.states → SeenFrom c l.initial.below l.below l.s)
-
-abbrev pub decreases-loop-s : goal.decreases-loop-s
-decreases-loop-s l = l.s
+invariant-loop-s l = (length l.below ≡ 48) × (l.states ≤ 48) × ((c : Chart) → Rooted c l.parents → l.states ≡ length c.states → SeenFrom c l.initial.below l.below l.s)

@@ -12,7 +12,7 @@ loop-a-init c = λ k h T F C A P. listed_none k _ _ (record { kinds = refl; valu
 
 pub loop-a-preserved : goal.loop-a-preserved
 loop-a-preserved c = λ k h T F C A P.
-    c.put_places-count.ensures k h T F C P (automaton_at A _ c.loop-a-test.true _ c.byte_at-q.ensures).1 _ _
+    c.put_places.ensures k h T F C P (automaton_at A _ c.loop-a-test.true _ c.byte_at-q.ensures).1 _ _
     (listed_by k _ _ (automata_next A _ c.loop-a-test.true _ c.byte_at-q.ensures) (c.loop-a.invariant k h T F C A P)) (omega (arith, all_places_few k (passed_of h) (ranges_of h)))
 
 pub returns : goal.returns

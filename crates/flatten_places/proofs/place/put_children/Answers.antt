@@ -15,11 +15,11 @@ loop-s-preserved c = λ k T F n whole rest L f.
     let is = sym (child_test T c.args.q c.loop-s.s c.loop-s-test.true) ∙ sym c.is_child.ensures in
     elim c.if-is_child.branch [
       | then-is_child w ↦
-          rw (w.kinds-is, w.values-is, w.marks-is, w.automata-is, w.exits-is, w.next-is) (w.put-next.ensures k (child c.loop-s.s) (child_row_at T c.args.q c.args.fixed.exits F c.loop-s.s c.args.a _ c.loop-s-test.true (is ∙ w.if-is_child.true) n w.byte_at.ensures w.byte_at.type_inv) whole _
+          rw w.table-is (w.put.ensures k (child c.loop-s.s) (child_row_at T c.args.q c.args.fixed.exits F.exits c.loop-s.s c.args.a _ c.loop-s-test.true (is ∙ w.if-is_child.true) n w.byte_at.ensures w.byte_at.type_inv) whole _
           (listed_by k whole _ (children_yes T c.args.q c.loop-s.s rest c.loop-s-test.true (is ∙ w.if-is_child.true)) i) f)
       | else-is_child w ↦
-          rw (w.kinds-is, w.values-is, w.marks-is, w.automata-is, w.exits-is, w.next-is) (listed_by k whole _ (children_no T c.args.q c.loop-s.s rest c.loop-s-test.true (is ∙ w.if-is_child.false)) i)
+          rw w.table-is (listed_by k whole _ (children_no T c.args.q c.loop-s.s rest c.loop-s-test.true (is ∙ w.if-is_child.false)) i)
     ]
 
 pub returns : goal.returns
-returns c = λ k T F n whole rest L f. listed_by k whole _ (children_end T _ _ rest c.loop-s-test.false) (c.loop-s.invariant k T F.exits n whole rest L f)
+returns c = λ k T F n whole rest L f. listed_by k whole _ (children_end T _ _ rest c.loop-s-test.false) (c.loop-s.invariant k T F n whole rest L f)

@@ -7,7 +7,7 @@ use Rattle.flatten_places.proofs.Filling.{columned_none, columned_more, columned
 use Rattle.flatten_places.proofs.transition.columns.Goals as goal
 
 pub loop-t-init : goal.loop-t-init
-loop-t-init c = ((omega arith, omega (arith, c.at_most_sixty_four-count.ensures, min-le_right c.args.counts.transitions 64)), refl, refl, refl, refl, λ k n L h. columned_none k _ _ _ _)
+loop-t-init c = ((omega arith, omega (arith, c.min-count.ensures, min-le_right c.args.counts.transitions 64)), refl, refl, refl, refl, λ k n L h. columned_none k _ _ _ _)
 
 pub loop-t-preserved : goal.loop-t-preserved
 loop-t-preserved c = (
@@ -25,5 +25,5 @@ loop-t-preserved c = (
 
 pub returns : goal.returns
 returns c = λ k L h.
-    let n : c.at_most_sixty_four-count.result ≡ length k.transitions = c.at_most_sixty_four-count.ensures ∙ min-eq_left (omega (arith, L.transitions, h)) ∙ sym L.transitions in
+    let n : c.min-count.result ≡ length k.transitions = c.min-count.ensures ∙ min-eq_left (omega (arith, L.transitions, h)) ∙ sym L.transitions in
     columned_all k _ _ _ _ _ (c.loop-t.invariant.5 k _ L (omega (arith, c.loop-t.invariant.0, n, L.transitions))) _ n (omega (arith, n, h)) c.loop-t-test.false

@@ -1,5 +1,5 @@
 use mathlib.Core.Path.{◌≡◌}
-use Prim.Native.Nat.{◌≤◌, ◌-◌}
+use Prim.Native.Nat.{◌≤◌}
 use lib.ListN.{length}
 use Rattle.chart_records.specs.Chart.{Chart}
 use Rattle.chart_records.specs.Laid.{Laid}
@@ -9,6 +9,3 @@ use Rattle.flatten_places.proofs.transition.columns.Given as goal
 
 abbrev pub invariant-loop-t : goal.invariant-loop-t
 invariant-loop-t l = ((l.t ≤ l.count) × (l.count ≤ 64)) × (length l.sources ≡ 64) × (length l.destinations ≡ 64) × (length l.exits ≡ 64) × (length l.entries ≡ 64) × ((k : Chart) (n : Counts) → Laid l.rest n l.offsets k → l.t ≤ n.transitions → ColumnedTo k l.sources l.destinations l.exits l.entries l.t)
-
-abbrev pub decreases-loop-t : goal.decreases-loop-t
-decreases-loop-t l = l.count - l.t

@@ -1,5 +1,5 @@
 use mathlib.Core.Path.{◌≡◌}
-use Prim.Native.Nat.{◌-◌, ◌≤◌}
+use Prim.Native.Nat.{◌≤◌}
 use lib.ListN.{length}
 use Rattle.chart_records.specs.Chart.{Chart}
 use Rattle.chart_tree.specs.Table.{Column, Rooted}
@@ -10,6 +10,3 @@ use Rattle.flatten_tables.proofs.bound.bounds_above.Given as goal
 
 abbrev pub invariant-loop-s : goal.invariant-loop-s
 invariant-loop-s l = (1 ≤ l.s) × (length l.table ≡ 48) × ((c : Chart) → Rooted c l.parents → Column (λ x. x.kind) c l.kinds → RowsOf (own c) c l.rows → RowsTo l.s (above_of c) (length c.states) l.table)
-
-abbrev pub decreases-loop-s : goal.decreases-loop-s
-decreases-loop-s l = 48 - l.s

@@ -10,7 +10,4 @@ use Rattle.flatten_tables.proofs.Bounding.{joins}
 use Rattle.flatten_tables.proofs.bound.pre_bounds.Given as goal
 
 abbrev pub invariant-loop-k : goal.invariant-loop-k
-invariant-loop-k l = (l.k ≤ 48) × ((c : Chart) (f : ℕ → Bool) → length c.states ≤ 48 → RowsOf (joined c) c l.rows → l.set ≡ adding 48 c f (replicate 48 false) → l.row ≡ joins c f l.k)
-
-abbrev pub decreases-loop-k : goal.decreases-loop-k
-decreases-loop-k l = l.k
+invariant-loop-k l = (c : Chart) (f : ℕ → Bool) → length c.states ≤ 48 → RowsOf (joined c) c l.rows → l.set ≡ adding 48 c f (replicate 48 false) → l.row ≡ joins c f l.k

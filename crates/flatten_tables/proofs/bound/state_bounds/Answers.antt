@@ -16,7 +16,7 @@ pub loop-s-preserved : goal.loop-s-preserved
 loop-s-preserved c = (
   omega arith,
   rw length-set c.loop-s.invariant.1,
-  λ d S. rows_more c.loop-s.s (bounds_at d) _ c.loop-s.table _ (c.loop-s.invariant.2 d S) (omega arith) (λ h. c.bounds_of-row.ensures d S c.loop-s-test.true),
+  λ d S. rows_more c.loop-s.s (bounds_at d) _ c.loop-s.table _ (c.loop-s.invariant.2 d S) (omega arith) (λ h. c.bounds_of.ensures d S c.loop-s-test.true),
 )
 
 pub returns : goal.returns

@@ -1,5 +1,5 @@
 use mathlib.Core.Path.{◌≡◌}
-use Prim.Native.Nat.{◌-◌, ◌≤◌}
+use Prim.Native.Nat.{◌≤◌}
 use lib.ListN.{length}
 use Rattle.chart_records.specs.Chart.{Chart}
 use Rattle.chart_records.specs.Layout.{Stated}
@@ -9,6 +9,3 @@ use Rattle.flatten_tables.proofs.bound.state_bounds.Given as goal
 
 abbrev pub invariant-loop-s : goal.invariant-loop-s
 invariant-loop-s l = (l.s ≤ 48) × (length l.table ≡ 48) × ((c : Chart) → Stated l.rest l.counts c → RowsTo l.s (bounds_at c) (length c.states) l.table)
-
-abbrev pub decreases-loop-s : goal.decreases-loop-s
-decreases-loop-s l = l.counts.states - l.s

@@ -1,14 +1,10 @@
-use Prim.Native.Nat.{◌-◌}
 use lib.ListN.{length}
 use Rattle.chart_records.specs.Chart.{Chart}
 use Rattle.flattening.specs.Flatten.{number, arrival}
-use Rattle.flatten_places.specs.Tables.{Chartered, ColumnOf}
+use Rattle.flatten_places.specs.Tables.{Chartered, Columned}
 use Rattle.flatten_tables.specs.Numbering.{Numbered}
 use Rattle.lists.proofs.Loops.{FilledAmong}
 use Rattle.flatten_tables.proofs.number.arrivals.Given as goal
 
 abbrev pub invariant-loop-i : goal.invariant-loop-i
-invariant-loop-i l = (k : Chart) → Chartered k → ColumnOf (λ u. u.destination) k l.destinations → ColumnOf (λ u. u.entry) k l.entries → Numbered k l.numbers → FilledAmong 64 (length k.transitions) (λ t. number k (arrival k t)) l.reached l.i
-
-abbrev pub decreases-loop-i : goal.decreases-loop-i
-decreases-loop-i l = 64 - l.i
+invariant-loop-i l = (k : Chart) → Chartered k → Columned k l.transitions → Numbered k l.numbers → FilledAmong 64 (length k.transitions) (λ t. number k (arrival k t)) l.reached l.i

@@ -9,15 +9,15 @@ use native.Mathlib.Omega.{arith}
 use Rattle.flatten_tables.proofs.number.initials.Goals as goal
 
 pub loop-a-init : goal.loop-a-init
-loop-a-init c = λ k h T S N e. filled_among_none _ _ _ _ refl
+loop-a-init c = λ k h T A N e. filled_among_none _ _ _ _ refl
 
 pub loop-a-preserved : goal.loop-a-preserved
 loop-a-preserved c =
-    λ k h T S N e. filled_among_more (c.loop-a.invariant k h T S N e) c.loop-a-test.true (λ j.
-    let g = subst (Region k) (sym (S _ j)) (region_at_lem k _ j) in
-    c.initial_number.ensures k h T N g.is_sequential g.known e ∙ ap (λ (q : ℕ). number k (initial_place k q)) (S _ j))
+    λ k h T A N e. filled_among_more (c.loop-a.invariant k h T A N e) c.loop-a-test.true (λ j.
+    let g = subst (Region k) (sym (state_column A _ j)) (region_at_lem k _ j) in
+    c.initial_number.ensures k h T N g.is_sequential g.known e ∙ ap (λ (q : ℕ). number k (initial_place k q)) (state_column A _ j))
 
 pub returns : goal.returns
 returns c = λ k h T A N a j.
     let r = rules_of h in
-    (c.loop-a.invariant k h T (state_column A) N (c.start_active-active.ensures k T r.0 r.1)).filled a (omega (arith, j, A.few, c.loop-a-test.false)) j
+    (c.loop-a.invariant k h T A N (c.start_active-active.ensures k T r.0 r.1)).filled a (omega (arith, j, A.few, c.loop-a-test.false)) j

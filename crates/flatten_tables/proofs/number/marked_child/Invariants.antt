@@ -1,5 +1,4 @@
 use mathlib.Core.Path.{◌≡◌}
-use Prim.Native.Nat.{◌-◌}
 use Rattle.chart_records.specs.Chart.{Chart}
 use Rattle.chart_tree.specs.Table.{Tabled}
 use Rattle.flattening.specs.Flatten.{marked_child}
@@ -8,6 +7,3 @@ use Rattle.flatten_tables.proofs.number.marked_child.Given as goal
 
 abbrev pub invariant-loop-s : goal.invariant-loop-s
 invariant-loop-s l = (k : Chart) → Tabled k l.tree → marked_child k l.q 0 ≡ start_from k l.q l.s
-
-abbrev pub decreases-loop-s : goal.decreases-loop-s
-decreases-loop-s l = l.tree.states - l.s

@@ -1,6 +1,4 @@
 use mathlib.Core.Path.{◌≡◌}
-use Prim.Native.Nat.{◌-◌, ◌≤◌}
-use lib.ListN.{length}
 use Rattle.chart_records.specs.Chart.{Chart}
 use Rattle.flattening.specs.Flatten.{flatten}
 use Rattle.flattener.specs.Records.{location_record}
@@ -9,8 +7,4 @@ use Rattle.flattener.proofs.Records.{Listing}
 use Rattle.flattener.proofs.location.write_locations.Given as goal
 
 abbrev pub invariant-loop-i : goal.invariant-loop-i
-invariant-loop-i l = (l.places.count ≤ 192) × (l.i ≤ l.places.count) × (length l.out ≡ length l.initial.out)
-    × ((c : Chart) → Located c l.tree l.rows l.transitions l.places l.initials → l.clocks ≡ c.clocks → Listing (location_record l.clocks) (flatten c).locations l.initial.out l.at l.out l.place l.i)
-
-abbrev pub decreases-loop-i : goal.decreases-loop-i
-decreases-loop-i l = l.places.count - l.i
+invariant-loop-i l = (c : Chart) → Located c l.tree l.rows l.transitions l.places l.initials → l.clocks ≡ c.clocks → Listing (location_record l.clocks) (flatten c).locations l.initial.out l.at l.out l.place l.i

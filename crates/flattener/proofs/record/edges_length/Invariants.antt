@@ -1,5 +1,5 @@
 use mathlib.Core.List.{List}
-use Prim.Native.Nat.{◌*◌, ◌-◌, ◌≤◌}
+use Prim.Native.Nat.{◌*◌, ◌≤◌}
 use Rattle.network_records.specs.Network.{Edge}
 use Rattle.chart_records.specs.Chart.{Chart}
 use Rattle.flattener.specs.Records.{edge_record, Writable}
@@ -7,7 +7,4 @@ use Rattle.flattener.proofs.Records.{Adding}
 use Rattle.flattener.proofs.record.edges_length.Given as goal
 
 abbrev pub invariant-loop-i : goal.invariant-loop-i
-invariant-loop-i l = (l.i ≤ l.count) × (l.sum ≤ 65550 * l.i) × ((c : Chart) (es : List Edge) → Writable l.heads l.count l.rest l.offsets c es → Adding edge_record es l.sum l.i)
-
-abbrev pub decreases-loop-i : goal.decreases-loop-i
-decreases-loop-i l = l.count - l.i
+invariant-loop-i l = (l.sum ≤ 65550 * l.i) × ((c : Chart) (es : List Edge) → Writable l.heads l.count l.rest l.offsets c es → Adding edge_record es l.sum l.i)

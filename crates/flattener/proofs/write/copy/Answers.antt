@@ -1,24 +1,20 @@
 use native.Mathlib.Omega.{arith}
-use Rattle.flattener.proofs.Writing.{copying_none, copying_more, copying_all, part_not}
+use mathlib.Core.Path.{◌≡◌, ap, ◌∙◌}
+use Prim.Native.Nat.{ℕ, ◌+◌, ◌-◌}
+use lib.ListN.{take, drop}
+use Rattle.flattener.specs.Writing.{part}
+use Rattle.flattener.proofs.Writing.{part_written, part_not}
 use Rattle.flattener.proofs.write.copy.Goals as goal
-
-pub returns-then-from-size : goal.returns-then-from-size
-returns-then-from-size c h = absurd (omega arith)
-
-pub returns-then-from-size-2 : goal.returns-then-from-size-2
-returns-then-from-size-2 c h = absurd (omega arith)
+use Rattle.flattener.proofs.write.copy.Goals.{then-out-size-via-then-out-size, then-out-size-via-else-out-size+then-out-size-2}
 
 pub returns-then-out-size : goal.returns-then-out-size
-returns-then-out-size c h = part_not _ _ _ _ _ _ _ (omega arith) h
-
-pub returns-then-out-size-2 : goal.returns-then-out-size-2
-returns-then-out-size-2 c h = part_not _ _ _ _ _ _ _ (omega arith) h
-
-pub loop-i-init : goal.loop-i-init
-loop-i-init c = copying_none _ _ _ _ _ (omega arith) (omega arith)
-
-pub loop-i-preserved : goal.loop-i-preserved
-loop-i-preserved c = copying_more _ _ _ _ _ _ _ c.loop-i.invariant c.loop-i-test.true
+returns-then-out-size c h =
+    elim c.then-out-size.branch [
+      | then-out-size-via-then-out-size w ↦ part_not _ _ _ _ _ _ _ (omega arith) h
+      | then-out-size-via-else-out-size+then-out-size-2 w ↦ part_not _ _ _ _ _ _ _ (omega arith) h
+    ]
 
 pub returns : goal.returns
-returns c h = copying_all _ _ _ _ _ _ _ c.loop-i.invariant c.loop-i-test.false
+unfolding part
+returns c h = part_written _ _ _ _ _ h (omega arith)
+    (c.copy_from_slice.ensures.after ∙ ap (λ (n : ℕ). take n (drop c.args.start c.args.from.now)) (let z : c.args.start + c.args.size - c.args.start ≡ c.args.size = omega arith in z))

@@ -1,45 +1,28 @@
 use mathlib.Core.Path.{sym, ◌∙◌}
 use Rattle.reading.specs.Reading.{yield}
 use Rattle.labels.specs.Guard.{clock_guard, clock, holds}
-use Rattle.reading.specs.Places.{byte_of, word_of, byte_fault, word_fault}
-use Rattle.reading.proofs.Places.{handed_on, bind_got, bind_fault, answered}
+use Rattle.reading.proofs.Places.{bind_got, bind_fault, read_err}
 use Rattle.reading.proofs.Reading.{mapped_got, mapped_fault}
-use Rattle.labels.proofs.Guards.{relation_got, relation_fault}
 use Rattle.labels.proofs.guard.clock_guard_holds.Goals as goal
 
-pub returns-in_default : goal.returns-in_default
+pub returns-in_err-clock : goal.returns-in_err-clock
 unfolding clock_guard clock yield holds
-returns-in_default c =
-    let fails = answered (byte_of _) c.read_byte_below-c.ensures c.in_default.is in
-    λ vars.
-    handed_on byte_fault c.byte_fault.ensures c.in_default.is
-    (mapped_fault _ (bind_fault _ _ _ fails))
+returns-in_err-clock c = λ vars. read_err _ _ _ c.from_residual.ensures.1 (mapped_fault _ (bind_fault _ _ _ (sym c.in_err-clock.ensures.means)))
 
-pub returns-in_default-k : goal.returns-in_default-k
+pub returns-in_err-relation : goal.returns-in_err-relation
 unfolding clock_guard clock yield holds
-returns-in_default-k c =
-    let read-c = answered (byte_of _) c.read_byte_below-c.ensures c.in-Value.is in
-    let fails = answered (byte_of _) c.read_byte_below-k.ensures c.in_default-k.is in
-    λ vars.
-    handed_on byte_fault c.byte_fault-in_default-k.ensures c.in_default-k.is
-    (mapped_fault _ (bind_got _ _ _ read-c ∙ bind_fault _ _ _ (relation_fault _ fails)))
+returns-in_err-relation c = λ vars.
+    read_err _ _ _ c.from_residual-in_err-relation.ensures.1
+    (mapped_fault _ (bind_got _ _ _ (sym c.in_ok-clock.ensures.means) ∙ bind_fault _ _ _ (sym c.in_err-relation.ensures)))
 
-pub returns-in_default-w : goal.returns-in_default-w
+pub returns-in_err-n : goal.returns-in_err-n
 unfolding clock_guard clock yield holds
-returns-in_default-w c =
-    let read-c = answered (byte_of _) c.read_byte_below-c.ensures c.in-Value.is in
-    let read-k = answered (byte_of _) c.read_byte_below-k.ensures c.in-Value-k.is in
-    let fails = answered (word_of _) c.read_ticks-w.ensures c.in_default-w.is in
-    λ vars.
-    handed_on word_fault c.word_fault.ensures c.in_default-w.is
-    (mapped_fault _ (bind_got _ _ _ read-c ∙ bind_got _ _ _ (relation_got _ read-k) ∙ bind_fault _ _ _ fails))
+returns-in_err-n c = λ vars.
+    read_err _ _ _ c.from_residual-in_err-n.ensures.1
+    (mapped_fault _ (bind_got _ _ _ (sym c.in_ok-clock.ensures.means) ∙ bind_got _ _ _ (sym c.in_ok-relation.ensures) ∙ bind_fault _ _ _ (sym c.in_err-n.ensures)))
 
 pub returns : goal.returns
 unfolding clock_guard clock yield holds
-returns c =
-    let read-c = answered (byte_of _) c.read_byte_below-c.ensures c.in-Value.is in
-    let read-k = answered (byte_of _) c.read_byte_below-k.ensures c.in-Value-k.is in
-    let read-w = answered (word_of _) c.read_ticks-w.ensures c.in-Value-w.is in
-    λ vars.
-    rw (c.compare_clocks.ensures, c.time_of.ensures.means) (sym (mapped_got (holds vars _)
-    (bind_got _ _ _ read-c ∙ bind_got _ _ _ (relation_got _ read-k) ∙ bind_got _ _ _ read-w)))
+returns c = λ vars.
+    rw (c.compare_clocks-holds.ensures, c.time_of.ensures.means) (sym (mapped_got (holds vars _)
+    (bind_got _ _ _ (sym c.in_ok-clock.ensures.means) ∙ bind_got _ _ _ (sym c.in_ok-relation.ensures) ∙ bind_got _ _ _ (sym c.in_ok-n.ensures))))

@@ -1,53 +1,33 @@
 use mathlib.Core.Path.{sym, ◌∙◌}
 use Rattle.reading.specs.Reading.{yield}
 use Rattle.labels.specs.Guard.{data_guard, holds}
-use Rattle.expr.specs.Evaluation.{value_of, value_fault}
-use Rattle.reading.specs.Places.{byte_of, byte_fault}
-use Rattle.reading.proofs.Places.{handed_on, bind_got, bind_fault, answered}
+use Rattle.reading.proofs.Places.{bind_got, bind_fault, read_err}
 use Rattle.reading.proofs.Reading.{mapped_got, mapped_fault, mapped_at, fault_at}
-use Rattle.labels.proofs.Guards.{relation_got, relation_fault}
 use Rattle.labels.proofs.guard.data_guard_holds.Goals as goal
 
-pub returns-in_default : goal.returns-in_default
+pub returns-in_err-relation : goal.returns-in_err-relation
 unfolding data_guard yield holds
-returns-in_default c =
-    let fails = answered (byte_of _) c.read_byte_below-k.ensures c.in_default.is in
-    λ times.
-    handed_on byte_fault c.byte_fault.ensures c.in_default.is (mapped_fault _ (bind_fault _ _ _ (relation_fault _ fails)))
+returns-in_err-relation c = λ times. read_err _ _ _ c.from_residual.ensures.1 (mapped_fault _ (bind_fault _ _ _ (sym c.in_err-relation.ensures)))
 
-pub returns-in_default-v : goal.returns-in_default-v
+pub returns-in_err-x : goal.returns-in_err-x
 unfolding data_guard yield holds
-returns-in_default-v c =
-    let read-k = answered (byte_of _) c.read_byte_below-k.ensures c.in-Value.is in
-    let fails = answered (value_of _) c.value_at-v.ensures c.in_default-v.is in
-    λ times.
-    handed_on value_fault c.value_fault.ensures c.in_default-v.is
-    (mapped_fault _ (bind_got _ _ _ (relation_got _ read-k) ∙ bind_fault _ _ _ (fault_at _ _ fails)))
+returns-in_err-x c = λ times.
+    read_err _ _ _ c.from_residual-in_err-x.ensures.1
+    (mapped_fault _ (bind_got _ _ _ (sym c.in_ok-relation.ensures) ∙ bind_fault _ _ _ (fault_at _ _ (sym c.in_err-x.ensures))))
 
-pub returns-in_default-w : goal.returns-in_default-w
+pub returns-in_err-y : goal.returns-in_err-y
 unfolding data_guard yield holds
-returns-in_default-w c =
-    let read-k = answered (byte_of _) c.read_byte_below-k.ensures c.in-Value.is in
-    let read-v = answered (value_of _) c.value_at-v.ensures c.in-Value-v.is in
-    let fails = answered (value_of _) c.value_at-w.ensures c.in_default-w.is in
-    λ times.
-    handed_on value_fault c.value_fault-in_default-w.ensures c.in_default-w.is
-    (mapped_fault _ (bind_got _ _ _ (relation_got _ read-k)
-    ∙ bind_got _ _ _ (mapped_at _ _ read-v).1
-    ∙ bind_fault _ _ _ (fault_at _ _ fails)))
+returns-in_err-y c = λ times.
+    read_err _ _ _ c.from_residual-in_err-y.ensures.1
+    (mapped_fault _ (bind_got _ _ _ (sym c.in_ok-relation.ensures)
+    ∙ bind_got _ _ _ (mapped_at _ _ (sym c.in_ok-x.ensures)).1
+    ∙ bind_fault _ _ _ (fault_at _ _ (sym c.in_err-y.ensures))))
 
 pub returns : goal.returns
 unfolding data_guard yield holds
 returns c =
-    let read-k = answered (byte_of _) c.read_byte_below-k.ensures c.in-Value.is in
-    let read-v = answered (value_of _) c.value_at-v.ensures c.in-Value-v.is in
-    let read-w = answered (value_of _) c.value_at-w.ensures c.in-Value-w.is in
+    let x = mapped_at _ _ (sym c.in_ok-x.ensures) in
+    let y = mapped_at _ _ (sym c.in_ok-y.ensures) in
     λ times.
-    rw (
-      c.compare_values.ensures,
-      ← (mapped_at _ _ read-v).2,
-      ← (mapped_at _ _ read-w).2,
-    )
-    (sym (mapped_got (holds _ times) (bind_got _ _ _ (relation_got _ read-k)
-    ∙ bind_got _ _ _ (mapped_at _ _ read-v).1
-    ∙ bind_got _ _ _ (mapped_at _ _ read-w).1)))
+    rw (c.compare_values.ensures, ← x.2, ← y.2)
+    (sym (mapped_got (holds _ times) (bind_got _ _ _ (sym c.in_ok-relation.ensures) ∙ bind_got _ _ _ x.1 ∙ bind_got _ _ _ y.1)))

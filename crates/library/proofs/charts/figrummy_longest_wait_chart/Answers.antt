@@ -1,4 +1,6 @@
-use Rattle.std.proofs.Common.{sym, ◌∙◌}
+use Rattle.std.proofs.Common.{ℕ, sym, ap, ◌∙◌}
+use Rattle.reading.specs.Answer.{Answer}
+use Rattle.reading.specs.Verdict.{verdict_of, verdict_number, or_kept}
 use Rattle.chart_moves.specs.Machine.{longest_of}
 use Rattle.library.specs.Flags.{longest_lent}
 use Rattle.library.proofs.Lending.{told_flags, told_no_flags}
@@ -13,4 +15,4 @@ pub returns : goal.returns
 unfolding longest_lent
 returns c =
     told_flags _ _ (longest_of c.args.file.now) _ (sym c.are_flags.ensures ∙ c.if-not-are_flags.false) c.flags_of.ensures
-    (c.tell.ensures (longest_of _ _) c.longest.ensures)
+    (c.tell.ensures.0 ∙ ap (λ (a : Answer ℕ). verdict_number (verdict_of a)) c.longest.ensures, c.tell.ensures.1 ∙ ap (or_kept c.args.ticks.now) c.longest.ensures)

@@ -13,5 +13,5 @@ returns-then-not-are_flags c =
 pub returns : goal.returns
 unfolding step_lent
 returns c =
-    let q = lent_flags _ _ (λ σ. step_of c.args.file.now σ c.args.list.now) (sym c.are_flags.ensures ∙ c.if-not-are_flags.false) c.flags_of.ensures (c.store.ensures _ _ c.step.ensures) in
+    let q = lent_flags _ _ (λ σ. step_of c.args.file.now σ c.args.list.now) (sym c.are_flags.ensures ∙ c.if-not-are_flags.false) c.flags_of.ensures (c.store.ensures _ c.step.ensures) in
     record { number = q.0; after = q.1 }

@@ -13,5 +13,5 @@ returns-then-not-are_flags c =
 pub returns : goal.returns
 unfolding wait_lent
 returns c =
-    let q = lent_flags _ _ (λ σ. wait_of c.args.file.now σ c.args.ticks) (sym c.are_flags.ensures ∙ c.if-not-are_flags.false) c.flags_of.ensures (c.store.ensures _ _ c.wait.ensures) in
+    let q = lent_flags _ _ (λ σ. wait_of c.args.file.now σ c.args.ticks) (sym c.are_flags.ensures ∙ c.if-not-are_flags.false) c.flags_of.ensures (c.store.ensures _ c.wait.ensures) in
     record { number = q.0; after = q.1 }

@@ -1,8 +1,8 @@
 use Rattle.library.proofs.Lending.{stored_done, stored_refused}
 use Rattle.library.proofs.charts.store.Goals as goal
 
-pub returns-in_default : goal.returns-in_default
-returns-in_default c = λ σ a h. stored_refused σ a h _ c.in_default.is c.number_of.ensures
+pub returns-in-Ok : goal.returns-in-Ok
+returns-in-Ok c = λ a h. stored_done a _ h _ c.in-Ok.is c.bytes_of.ensures
 
-pub returns : goal.returns
-returns c = λ σ a h. stored_done σ a h _ c.in-Done.is c.bytes_of.ensures
+pub returns-in-Err : goal.returns-in-Err
+returns-in-Err c = λ a h. stored_refused a _ h _ c.in-Err.is c.number.ensures

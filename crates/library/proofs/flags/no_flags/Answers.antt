@@ -1,8 +1,9 @@
+use mathlib.Core.Path.{◌∙◌}
 use Rattle.library.proofs.Lending.{no_flags_passed, no_flags_refused}
 use Rattle.library.proofs.flags.no_flags.Goals as goal
 
-pub returns-in-Done : goal.returns-in-Done
-returns-in-Done c = no_flags_passed _ c.check-verdict.ensures c.in-Done.is
+pub returns-in-Ok : goal.returns-in-Ok
+returns-in-Ok c = c.number.ensures ∙ no_flags_passed _ c.in-Ok.ensures
 
-pub returns-in-Refused : goal.returns-in-Refused
-returns-in-Refused c = no_flags_refused _ c.check-verdict.ensures c.in-Refused.is
+pub returns-in-Err : goal.returns-in-Err
+returns-in-Err c = c.number-in-Err.ensures ∙ no_flags_refused _ c.in-Err.ensures

@@ -1,5 +1,4 @@
 use mathlib.Core.Path.{refl, sym, ◌∙◌}
-use Prim.Native.Nat.{◌-◌}
 use Rattle.lists.proofs.Loops.{filled_none, filled_more, filled_all}
 use Rattle.network.proofs.Borne.{transitions_length, transitions_at}
 use Rattle.network.proofs.bearing.transitions_at.Goals as goal

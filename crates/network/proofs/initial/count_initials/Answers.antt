@@ -1,5 +1,4 @@
 use mathlib.Core.Path.{sym, ◌∙◌}
-use Prim.Native.Nat.{◌-◌}
 use Rattle.lists.proofs.Lists.{counted_next, counted_left, counted_all}
 use Rattle.lists.proofs.Below.{below_next, below_end}
 use Rattle.network_records.specs.Network.{initials}

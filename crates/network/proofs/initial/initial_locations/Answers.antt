@@ -1,5 +1,4 @@
 use mathlib.Core.Path.{refl, sym, ◌∙◌}
-use Prim.Native.Nat.{◌-◌}
 use Rattle.lists.specs.Lists.{range, below}
 use Rattle.lists.proofs.Below.{get_d_mapped}
 use Rattle.lists.proofs.Loops.{filled_none, filled_more, filled_all}

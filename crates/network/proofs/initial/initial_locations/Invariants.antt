@@ -1,6 +1,5 @@
 use mathlib.Core.Bool.{cond}
 use mathlib.Core.List.{map}
-use Prim.Native.Nat.{◌-◌}
 use lib.Dec.{ltb}
 use lib.ListN.{get_or}
 use Rattle.lists.specs.Lists.{below}
@@ -11,6 +10,3 @@ use Rattle.network.proofs.initial.initial_locations.Given as goal
 
 abbrev pub invariant-loop-a : goal.invariant-loop-a
 invariant-loop-a l = (n : Network) → Located l.rest l.counts n → Filled 16 (map (λ b. cond (ltb b n.automata) (get_or (initials n b) 0 0) 0) (below 16)) l.locations l.a
-
-abbrev pub decreases-loop-a : goal.decreases-loop-a
-decreases-loop-a l = 16 - l.a

@@ -1,6 +1,5 @@
 use mathlib.Core.Path.{◌≡◌}
 use mathlib.Core.Bool.{◌&&◌}
-use Prim.Native.Nat.{◌-◌}
 use lib.Dec.{eqb}
 use lib.ListN.{length, drop}
 use Rattle.lists.specs.Lists.{below, keep}
@@ -10,6 +9,3 @@ use Rattle.network.proofs.initial.initial_of.Given as goal
 
 abbrev pub invariant-loop-i : goal.invariant-loop-i
 invariant-loop-i l = (n : Network) → Located l.rest l.counts n → initials n l.automaton ≡ keep (λ j. eqb (location_at n j).automaton l.automaton && eqb (location_at n j).initial 1) (drop l.i (below (length n.locations)))
-
-abbrev pub decreases-loop-i : goal.decreases-loop-i
-decreases-loop-i l = l.counts.locations - l.i

@@ -1,5 +1,4 @@
 use mathlib.Core.Path.{◌≡◌}
-use Prim.Native.Nat.{◌-◌}
 use lib.ListN.{length, drop}
 use Rattle.lists.specs.Lists.{below, all}
 use Rattle.network_records.specs.Layout.{Located}
@@ -9,6 +8,3 @@ use Rattle.network.proofs.initial.one_initial_each.Given as goal
 
 abbrev pub invariant-loop-a : goal.invariant-loop-a
 invariant-loop-a l = (n : Network) → Located l.rest l.counts n → all (λ b. eqb (length (initials n b)) 1) (below n.automata) ≡ all (λ b. eqb (length (initials n b)) 1) (drop l.a (below n.automata))
-
-abbrev pub decreases-loop-a : goal.decreases-loop-a
-decreases-loop-a l = l.counts.automata - l.a

@@ -1,5 +1,4 @@
 use mathlib.Core.Path.{refl, sym, ap₂, ◌∙◌}
-use Prim.Native.Nat.{◌-◌}
 use native.Mathlib.Omega.{arith}
 use Rattle.network_records.specs.Network.{lex_less}
 use Rattle.network.proofs.Offsets.{kept_key, ascend_next, ascend_stop, ascend_end}

@@ -1,5 +1,4 @@
 use mathlib.Core.Path.{refl, sym, ap, ◌∙◌}
-use Prim.Native.Nat.{◌-◌}
 use Rattle.lists.specs.Lists.{all}
 use Rattle.lists.proofs.Lists.{all_next, all_stop}
 use Rattle.network.proofs.Offsets.{edges_next, edges_end, edge_joins}

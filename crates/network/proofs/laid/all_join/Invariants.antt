@@ -1,5 +1,4 @@
 use mathlib.Core.Path.{◌≡◌}
-use Prim.Native.Nat.{◌-◌}
 use lib.Dec.{eqb}
 use lib.ListN.{drop}
 use Rattle.lists.specs.Lists.{all}
@@ -9,6 +8,3 @@ use Rattle.network.proofs.laid.all_join.Given as goal
 
 abbrev pub invariant-loop-i : goal.invariant-loop-i
 invariant-loop-i l = (n : Network) → Laid l.rest l.counts l.offsets n → all (λ e. eqb (owner_of n e) (location_at n e.target).automaton) n.edges ≡ all (λ e. eqb (owner_of n e) (location_at n e.target).automaton) (drop l.i n.edges)
-
-abbrev pub decreases-loop-i : goal.decreases-loop-i
-decreases-loop-i l = l.counts.edges - l.i

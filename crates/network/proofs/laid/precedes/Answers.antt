@@ -1,18 +1,43 @@
-use mathlib.Core.Path.{sym, ◌∙◌}
-use Rattle.network.proofs.Offsets.{lex_first, lex_same, lex_last}
+use mathlib.Core.Path.{◌≡◌, refl, ◌∙◌}
+use mathlib.Core.Bool.{Bool, true, false}
+use mathlib.Core.List.{List, [], ◌∷◌}
+use Prim.Native.Nat.{ℕ, ◌<◌}
+use native.Mathlib.Omega.{arith}
+use borrow.Author.Tests.{lt-ltb, le-ltb, eq-eqb, ne_eqb}
+use Rattle.std.specs.Prelude.{Option, Some, None}
+use Rattle.std.proofs.Common.{Ordering, Less, Equal, Greater}
+use Rattle.std.specs.Ordering.{nat_cmp, partial_ordering_then, is_some_and, is_lt}
+use Rattle.std.proofs.lemmas.Cmp.{ranked, by_ranked}
+use Rattle.network_records.specs.Network.{lex_less}
 use Rattle.network.proofs.laid.precedes.Goals as goal
 
-pub returns-then-x-y : goal.returns-then-x-y
-returns-then-x-y c = sym (lex_first _ _ c.if-x-y.true)
+-- whether one list comes before another, by what the numbers in front of them said
+before : Option Ordering → List ℕ → List ℕ → Bool
+before (Some Less) xs ys = true
+before (Some Equal) xs ys = lex_less xs ys
+before (Some Greater) xs ys = false
+before None xs ys = false
 
-pub returns-then-x-y-2 : goal.returns-then-x-y-2
-returns-then-x-y-2 c = sym (lex_same _ _ c.if-x-y.false ∙ lex_first _ _ c.if-x-y-2.true)
+first : (x y : ℕ) (xs ys : List ℕ) → before (Some (nat_cmp x y)) xs ys ≡ lex_less (x ∷ xs) (y ∷ ys)
+unfolding before lex_less
+first x y xs ys = by_ranked (x < y) (x ≡ y) (y < x) (nat_cmp x y) (ranked x y (nat_cmp x y) refl)
+    (λ e l. rw (e, lt-ltb x y l) refl)
+    (λ e l. rw (e, le-ltb x y (omega arith), eq-eqb x y l) refl)
+    (λ e l. rw (e, le-ltb x y (omega arith), ne_eqb x y (λ q. omega arith)) refl)
 
-pub returns-then-x-y-3 : goal.returns-then-x-y-3
-returns-then-x-y-3 c = sym (lex_same _ _ c.if-x-y.false ∙ lex_same _ _ c.if-x-y-2.false ∙ lex_first _ _ c.if-x-y-3.true)
+next : (p : Option Ordering) (x y : ℕ) (xs ys : List ℕ) → before (partial_ordering_then p (Some (nat_cmp x y))) xs ys ≡ before p (x ∷ xs) (y ∷ ys)
+unfolding before
+next (Some Less) x y xs ys = refl
+next (Some Equal) x y xs ys = first x y xs ys
+next (Some Greater) x y xs ys = refl
+next None x y xs ys = refl
 
-pub returns-then-x-y-4 : goal.returns-then-x-y-4
-returns-then-x-y-4 c = sym (lex_same _ _ c.if-x-y.false ∙ lex_same _ _ c.if-x-y-2.false ∙ lex_same _ _ c.if-x-y-3.false ∙ lex_first _ _ c.if-x-y-4.true)
+last : (p : Option Ordering) → is_some_and is_lt p ≡ before p [] []
+unfolding before lex_less
+last (Some Less) = refl
+last (Some Equal) = refl
+last (Some Greater) = refl
+last None = refl
 
 pub returns : goal.returns
-returns c = sym (lex_same _ _ c.if-x-y.false ∙ lex_same _ _ c.if-x-y-2.false ∙ lex_same _ _ c.if-x-y-3.false ∙ lex_same _ _ c.if-x-y-4.false ∙ lex_last _ _)
+returns c = c.lt.ensures ∙ last _ ∙ next _ _ _ _ _ ∙ next _ _ _ _ _ ∙ next _ _ _ _ _ ∙ next _ _ _ _ _ ∙ first _ _ _ _

@@ -1,34 +1,23 @@
-use mathlib.Core.Path.{sym, ap, ap₂, ◌∙◌}
+use mathlib.Core.Path.{sym, ap, ◌∙◌}
 use native.Mathlib.Omega.{arith}
-use Prim.Native.Nat.{ℕ, ◌≤◌}
-use lib.ListN.{length, length-replicate}
-use Rattle.reading.specs.Answer.{done, refused}
-use Rattle.network_machine.specs.Answers.{outcome_of, zero_configuration}
-use Rattle.network.specs.Checks.{finding_number}
-use Rattle.network_moves.specs.declared.configuration.Configuration.{Configuration}
-use Rattle.network.proofs.Checking.{found, not_found, found_fits}
+use Prim.Native.Nat.{ℕ}
+use lib.ListN.{length-replicate}
+use Rattle.reading.specs.Answer.{done}
+use Rattle.reading.specs.Verdict.{answer_of}
+use Rattle.reading.proofs.Places.{handed_on}
+use Rattle.network.proofs.Checking.{found}
 use Rattle.network_machine.proofs.Operations.{start_refused, start_done}
 use Rattle.network_machine.proofs.operation.start.Goals as goal
-use Rattle.network_machine.proofs.operation.start.Goals.{In-Counts}
 
--- the file is longer than version and length
-fits : (c : In-Counts) → 13 ≤ length c.args.file.now
-fits c = found_fits _ c.check-finding.ensures.within c.in-Counts.is
-
-pub returns-in_default : goal.returns-in_default
-returns-in_default c = let h = c.check-finding.ensures.means (length-replicate {A = ℕ} 1024 0) in
-    let numbered = c.finding_number.ensures ∙ ap finding_number c.in_default.is in
-    c.refused.ensures ∙ ap₂ (λ (x : Configuration) (m : ℕ). outcome_of x (refused m)) c.zero_configuration.ensures numbered
-    ∙ ap (outcome_of zero_configuration) (sym (start_refused _ (not_found _ _ h c.in_default.is)))
+pub returns-in_err-counts : goal.returns-in_err-counts
+returns-in_err-counts c = ap answer_of (handed_on _ c.from_residual.ensures.1) ∙ sym (start_refused _ (c.in_err-counts.ensures.means (length-replicate {A = ℕ} 1024 0)))
 
 pub slice_bounds-start-count : goal.slice_bounds-start-count
-slice_bounds-start-count c = omega (arith, fits c)
+slice_bounds-start-count c = omega (arith, c.in_ok-counts.ensures.within)
 
 pub slice_bounds-start-start : goal.slice_bounds-start-start
-slice_bounds-start-start c = omega (arith, fits c)
+slice_bounds-start-start c = omega (arith, c.in_ok-counts.ensures.within)
 
 pub returns : goal.returns
-returns c = let h = c.check-finding.ensures.means (length-replicate {A = ℕ} 1024 0) in
-    let w = found _ _ h c.in-Counts.is in
-    ap (λ (x : Configuration). outcome_of zero_configuration (done x)) (c.start.ensures w.0 w.2.located)
-    ∙ ap (outcome_of zero_configuration) (sym (start_done _ w.1))
+returns c = let w = found _ _ (c.in_ok-counts.ensures.means (length-replicate {A = ℕ} 1024 0)) in
+    ap done (c.start.ensures w.0 w.2.located) ∙ sym (start_done _ w.1)

@@ -1,6 +1,5 @@
 use mathlib.Core.Path.{◌≡◌}
-use Prim.Native.Nat.{◌-◌}
-use lib.ListN.{length, drop}
+use lib.ListN.{drop}
 use Rattle.lists.specs.Lists.{all}
 use Rattle.network_records.specs.Network.{Network, edge_at}
 use Rattle.network_moves.specs.Machine.{active_edge}
@@ -8,8 +7,5 @@ use Rattle.network_records.specs.Layout.{Laid}
 use Rattle.network_moves.specs.Choices.{Known}
 use Rattle.network_moves.proofs.active.all_active.Given as goal
 
-abbrev pub invariant-loop-i : goal.invariant-loop-i
-invariant-loop-i l = (n : Network) → Laid l.rest l.counts l.offsets n → Known l.counts l.list → all (λ m. active_edge n l.c (edge_at n m)) l.list ≡ all (λ m. active_edge n l.c (edge_at n m)) (drop l.i l.list)
-
-abbrev pub decreases-loop-i : goal.decreases-loop-i
-decreases-loop-i l = length l.list - l.i
+abbrev pub invariant-loop-m : goal.invariant-loop-m
+invariant-loop-m l = (n : Network) → Laid l.rest l.counts l.offsets n → Known l.counts l.list → all (λ m. active_edge n l.c (edge_at n m)) l.list ≡ all (λ m. active_edge n l.c (edge_at n m)) (drop l.m-index l.list)

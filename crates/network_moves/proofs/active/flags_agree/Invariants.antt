@@ -1,7 +1,7 @@
 use mathlib.Core.Path.{◌≡◌}
 use mathlib.Core.Bool.{Bool, beq}
 use mathlib.Core.List.{List}
-use Prim.Native.Nat.{ℕ, ◌-◌}
+use Prim.Native.Nat.{ℕ}
 use lib.ListN.{get_or, drop}
 use Rattle.lists.specs.Lists.{all, below, has, implies}
 use Rattle.network_records.specs.Network.{Edge}
@@ -13,7 +13,4 @@ abbrev agrees : List ℕ → Edge → ℕ → Bool
 agrees flags d b = implies (has d.tested b) (beq (has (get_or flags b 0) d.exit) (has d.needed b))
 
 abbrev pub invariant-loop-a : goal.invariant-loop-a
-invariant-loop-a l = (k : Counts) (s : List ℕ) (d : Edge) → Kept k s l.e d → all (agrees l.flags d) (below 16) ≡ all (agrees l.flags d) (drop l.a (below 16))
-
-abbrev pub decreases-loop-a : goal.decreases-loop-a
-decreases-loop-a l = 16 - l.a
+invariant-loop-a l = (k : Counts) (s : List ℕ) (d : Edge) → Kept k s l.e d → all (agrees l.c.flags d) (below 16) ≡ all (agrees l.c.flags d) (drop l.a (below 16))

@@ -1,6 +1,5 @@
 use mathlib.Core.Path.{◌≡◌}
 use mathlib.Core.List.{map}
-use Prim.Native.Nat.{◌-◌, ◌≤◌}
 use lib.ListN.{length, take}
 use Rattle.lists.specs.Lists.{below}
 use Rattle.network_records.specs.Network.{Network}
@@ -9,7 +8,4 @@ use Rattle.network_moves.specs.Choices.{receiver_at}
 use Rattle.network_moves.proofs.choice.active_receivers.Given as goal
 
 abbrev pub invariant-loop-m : goal.invariant-loop-m
-invariant-loop-m l = (length l.receivers ≡ 1024) × (l.m ≤ l.counts.edges) × ((n : Network) → Laid l.rest l.counts l.offsets n → take l.m l.receivers ≡ take l.m (map (receiver_at n l.c l.channel) (below l.counts.edges)))
-
-abbrev pub decreases-loop-m : goal.decreases-loop-m
-decreases-loop-m l = l.counts.edges - l.m
+invariant-loop-m l = (length l.receivers ≡ 1024) × ((n : Network) → Laid l.rest l.counts l.offsets n → take l.m l.receivers ≡ take l.m (map (receiver_at n l.c l.channel) (below l.counts.edges)))

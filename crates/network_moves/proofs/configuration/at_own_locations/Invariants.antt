@@ -1,5 +1,5 @@
 use mathlib.Core.Path.{◌≡◌}
-use Prim.Native.Nat.{ℕ, ◌-◌}
+use Prim.Native.Nat.{ℕ}
 use lib.Dec.{ltb, eqb}
 use lib.ListN.{length, drop}
 use Rattle.lists.specs.Lists.{below, all}
@@ -19,6 +19,3 @@ own n c b = is_of n (place c b) b
 
 abbrev pub invariant-loop-a : goal.invariant-loop-a
 invariant-loop-a l = (n : Network) → Located l.rest l.counts n → all (own n l.c) (below n.automata) ≡ all (own n l.c) (drop l.a (below n.automata))
-
-abbrev pub decreases-loop-a : goal.decreases-loop-a
-decreases-loop-a l = l.counts.automata - l.a

@@ -1,5 +1,4 @@
 use mathlib.Core.Path.{◌≡◌}
-use Prim.Native.Nat.{◌-◌}
 use lib.ListN.{drop}
 use Rattle.lists.specs.Lists.{below, all}
 use Rattle.network_records.specs.Layout.{Located}
@@ -10,6 +9,3 @@ use Rattle.network_moves.proofs.configuration.bounds_kept.Given as goal
 
 abbrev pub invariant-loop-a : goal.invariant-loop-a
 invariant-loop-a l = (n : Network) → Located l.rest l.counts n → bounds_kept n l.c ≡ all (λ b. keeps (location_at n (place l.c b)).bounds l.c.clocks) (drop l.a (below n.automata))
-
-abbrev pub decreases-loop-a : goal.decreases-loop-a
-decreases-loop-a l = l.counts.automata - l.a

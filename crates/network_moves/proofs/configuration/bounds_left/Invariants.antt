@@ -1,6 +1,6 @@
 use mathlib.Core.Path.{◌≡◌}
 use mathlib.Core.Bool.{Bool}
-use Prim.Native.Nat.{ℕ, ◌-◌}
+use Prim.Native.Nat.{ℕ}
 use lib.ListN.{drop}
 use Rattle.lists.specs.Lists.{all, below}
 use Rattle.clocks.specs.Clocks.{keeps, limit_left}
@@ -18,6 +18,3 @@ abbrev pub invariant-loop-a : goal.invariant-loop-a
 invariant-loop-a l = (n : Network) → Located l.rest l.counts n
     → (bounds_kept n l.c ≡ all (kept n l.c) (drop l.a (below n.automata)))
     × (ticks_under n l.c (below n.automata) (limit_left n.clocks l.c.clocks) ≡ ticks_under n l.c (drop l.a (below n.automata)) l.ticks)
-
-abbrev pub decreases-loop-a : goal.decreases-loop-a
-decreases-loop-a l = l.counts.automata - l.a

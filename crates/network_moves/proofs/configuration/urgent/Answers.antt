@@ -1,5 +1,4 @@
 use mathlib.Core.Path.{refl, sym, ap, ◌∙◌}
-use Prim.Native.Nat.{◌-◌}
 use Rattle.lists.specs.Lists.{any}
 use Rattle.lists.proofs.Lists.{any_next, any_stop}
 use Rattle.lists.proofs.Below.{below_next, below_end}

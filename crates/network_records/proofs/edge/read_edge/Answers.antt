@@ -1,45 +1,35 @@
 use mathlib.Core.Path.{sym, ap, ◌∙◌}
 use Rattle.reading.specs.Reading.{mapped}
-use Rattle.reading.specs.Places.{byte_of, byte_fault}
-use Rattle.reading.proofs.Places.{bind_got, bind_fault, answered}
+use Rattle.reading.proofs.Places.{bind_got, bind_fault, read_err}
 use Rattle.reading.proofs.Reading.{mapped_fault}
 use Rattle.network_records.specs.Network.{edge}
 use Rattle.network_records.specs.Edges.{edge_from_tested, keeps_once}
 use Rattle.network_records.proofs.edge.read_edge.Goals as goal
 
-pub returns-in_default : goal.returns-in_default
+pub returns-in_err-at1 : goal.returns-in_err-at1
 unfolding edge edge_from_tested
-returns-in_default c = λ g. rw (c.byte_fault.ensures ∙ ap byte_fault c.in_default.is)
-    (sym (mapped_fault keeps_once (bind_fault _ _ _ (answered (byte_of _) c.read_byte_below-a.ensures c.in_default.is))))
+returns-in_err-at1 c = λ g. read_err _ _ _ c.from_residual.ensures.1
+    (mapped_fault keeps_once (bind_fault _ _ _ (sym c.in_err-at1.ensures.means)))
 
-pub returns-in_default-b : goal.returns-in_default-b
+pub returns-in_err-at2 : goal.returns-in_err-at2
 unfolding edge edge_from_tested
-returns-in_default-b c = λ g.
-    rw (c.byte_fault-in_default-b.ensures ∙ ap byte_fault c.in_default-b.is)
-    (sym (mapped_fault keeps_once (bind_got _ _ _ (answered (byte_of _) c.read_byte_below-a.ensures c.in-Value.is)
-    ∙ bind_fault _ _ _ (answered (byte_of _) c.read_byte_below-b.ensures c.in_default-b.is))))
+returns-in_err-at2 c = λ g. read_err _ _ _ c.from_residual-in_err-at2.ensures.1
+    (mapped_fault keeps_once (bind_got _ _ _ (sym c.in_ok-at1.ensures.means) ∙ bind_fault _ _ _ (sym c.in_err-at2.ensures.means)))
 
-pub returns-in_default-t : goal.returns-in_default-t
+pub returns-in_err-at3 : goal.returns-in_err-at3
 unfolding edge edge_from_tested
-returns-in_default-t c = λ g.
-    rw (c.byte_fault-in_default-t.ensures ∙ ap byte_fault c.in_default-t.is)
-    (sym (mapped_fault keeps_once (bind_got _ _ _ (answered (byte_of _) c.read_byte_below-a.ensures c.in-Value.is)
-    ∙ bind_got _ _ _ (answered (byte_of _) c.read_byte_below-b.ensures c.in-Value-b.is)
-    ∙ bind_fault _ _ _ (answered (byte_of _) c.read_byte_or_none-t.ensures c.in_default-t.is))))
+returns-in_err-at3 c = λ g. read_err _ _ _ c.from_residual-in_err-at3.ensures.1
+    (mapped_fault keeps_once (bind_got _ _ _ (sym c.in_ok-at1.ensures.means) ∙ bind_got _ _ _ (sym c.in_ok-at2.ensures.means) ∙ bind_fault _ _ _ (sym c.in_err-at3.ensures)))
 
-pub returns-in_default-x : goal.returns-in_default-x
+pub returns-in_err-exit : goal.returns-in_err-exit
 unfolding edge edge_from_tested
-returns-in_default-x c = λ g.
-    rw (c.byte_fault-in_default-x.ensures ∙ ap byte_fault c.in_default-x.is)
-    (sym (mapped_fault keeps_once (bind_got _ _ _ (answered (byte_of _) c.read_byte_below-a.ensures c.in-Value.is)
-    ∙ bind_got _ _ _ (answered (byte_of _) c.read_byte_below-b.ensures c.in-Value-b.is)
-    ∙ bind_got _ _ _ (answered (byte_of _) c.read_byte_or_none-t.ensures c.in-Value-t.is)
-    ∙ bind_fault _ _ _ (answered (byte_of _) c.read_byte_or_none-x.ensures c.in_default-x.is))))
+returns-in_err-exit c = λ g. read_err _ _ _ c.from_residual-in_err-exit.ensures.1
+    (mapped_fault keeps_once (bind_got _ _ _ (sym c.in_ok-at1.ensures.means) ∙ bind_got _ _ _ (sym c.in_ok-at2.ensures.means) ∙ bind_got _ _ _ (sym c.in_ok-at3.ensures) ∙ bind_fault _ _ _ (sym c.in_err-exit.ensures)))
 
 pub returns : goal.returns
 unfolding edge edge_from_tested
-returns c = λ g.
-    c.read_from_tested.ensures g _ _ _ ∙ sym (ap (mapped keeps_once) (bind_got _ _ _ (answered (byte_of _) c.read_byte_below-a.ensures c.in-Value.is)
-    ∙ bind_got _ _ _ (answered (byte_of _) c.read_byte_below-b.ensures c.in-Value-b.is)
-    ∙ bind_got _ _ _ (answered (byte_of _) c.read_byte_or_none-t.ensures c.in-Value-t.is)
-    ∙ bind_got _ _ _ (answered (byte_of _) c.read_byte_or_none-x.ensures c.in-Value-x.is)))
+returns c = λ g. c.read_from_tested.ensures g _ _ _
+    ∙ sym (ap (mapped keeps_once) (bind_got _ _ _ (sym c.in_ok-at1.ensures.means)
+    ∙ bind_got _ _ _ (sym c.in_ok-at2.ensures.means)
+    ∙ bind_got _ _ _ (sym c.in_ok-at3.ensures)
+    ∙ bind_got _ _ _ (sym c.in_ok-exit.ensures)))

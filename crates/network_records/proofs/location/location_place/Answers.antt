@@ -3,16 +3,11 @@ use native.Mathlib.Omega.{arith}
 use native.Mathlib.Nat.{mul-le-mul}
 use Rattle.network_records.proofs.location.location_place.Goals as goal
 
--- src/location.rt:87:29
--- src/location.rt:87:25
--- src/location.rt:87:9
 pub overflow_mul-result-2 : goal.overflow_mul-result-2
 overflow_mul-result-2 c = let l = mul-le-mul {n₁ = c.args.i} {m₁ = 4 + 4 * c.args.clocks} {n₂ = 255} {m₂ = 1024} (omega arith) (omega arith) in omega arith
 
--- src/location.rt:87:5
 pub overflow_add-result-2 : goal.overflow_add-result-2
 overflow_add-result-2 c = let l = mul-le-mul {n₁ = c.args.i} {m₁ = 4 + 4 * c.args.clocks} {n₂ = 255} {m₂ = 1024} (omega arith) (omega arith) in omega arith
 
--- src/location.rt:87:5
 pub overflow_add-result-3 : goal.overflow_add-result-3
 overflow_add-result-3 c = let l = mul-le-mul {n₁ = c.args.i} {m₁ = 4 + 4 * c.args.clocks} {n₂ = 255} {m₂ = 1024} (omega arith) (omega arith) in omega arith

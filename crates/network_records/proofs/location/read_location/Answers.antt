@@ -1,33 +1,28 @@
 use mathlib.Core.Path.{sym, ap, ◌∙◌}
 use Rattle.reading.specs.Reading.{skipped}
 use Rattle.clocks.specs.Clocks.{row}
-use Rattle.reading.specs.Places.{byte_fault, byte_of}
-use Rattle.reading.proofs.Places.{bind_got, bind_fault, answered}
+use Rattle.reading.proofs.Places.{bind_got, bind_fault, reached_err}
 use Rattle.reading.proofs.Reading.{mapped_fault, mapped_yield}
 use Rattle.network_records.specs.Network.{location}
 use Rattle.network_records.proofs.location.read_location.Goals as goal
 
-pub returns-in_default : goal.returns-in_default
+pub returns-in_err-at1 : goal.returns-in_err-at1
 unfolding location skipped
-returns-in_default c = rw (c.byte_fault.ensures ∙ ap byte_fault c.in_default.is)
-    (sym (mapped_fault _ (bind_fault _ _ _ (answered (byte_of _) c.read_byte_below-a.ensures c.in_default.is))))
+returns-in_err-at1 c = reached_err _ _ _ _ c.from_residual.ensures.1
+    (mapped_fault _ (bind_fault _ _ _ (sym c.in_err-at1.ensures.means)))
 
-pub returns-in_default-u : goal.returns-in_default-u
+pub returns-in_err-at2 : goal.returns-in_err-at2
 unfolding location skipped
-returns-in_default-u c = rw (c.byte_fault-in_default-u.ensures ∙ ap byte_fault c.in_default-u.is)
-    (sym (mapped_fault _ (bind_got _ _ _ (answered (byte_of _) c.read_byte_below-a.ensures c.in-Value.is)
-    ∙ bind_fault _ _ _ (answered (byte_of _) c.read_byte_below-u.ensures c.in_default-u.is))))
+returns-in_err-at2 c = reached_err _ _ _ _ c.from_residual-in_err-at2.ensures.1
+    (mapped_fault _ (bind_got _ _ _ (sym c.in_ok-at1.ensures.means) ∙ bind_fault _ _ _ (sym c.in_err-at2.ensures.means)))
 
-pub returns-in_default-i : goal.returns-in_default-i
+pub returns-in_err-at3 : goal.returns-in_err-at3
 unfolding location skipped
-returns-in_default-i c = rw (c.byte_fault-in_default-i.ensures ∙ ap byte_fault c.in_default-i.is)
-    (sym (mapped_fault _ (bind_got _ _ _ (answered (byte_of _) c.read_byte_below-a.ensures c.in-Value.is)
-    ∙ bind_got _ _ _ (answered (byte_of _) c.read_byte_below-u.ensures c.in-Value-u.is)
-    ∙ bind_fault _ _ _ (answered (byte_of _) c.read_byte_below-i.ensures c.in_default-i.is))))
+returns-in_err-at3 c = reached_err _ _ _ _ c.from_residual-in_err-at3.ensures.1
+    (mapped_fault _ (bind_got _ _ _ (sym c.in_ok-at1.ensures.means) ∙ bind_got _ _ _ (sym c.in_ok-at2.ensures.means) ∙ bind_fault _ _ _ (sym c.in_err-at3.ensures.means)))
 
 pub returns : goal.returns
 unfolding location skipped
 returns c = c.read_bounds.ensures
-    ∙ sym (ap skipped (bind_got _ _ _ (answered (byte_of _) c.read_byte_below-a.ensures c.in-Value.is)
-    ∙ bind_got _ _ _ (answered (byte_of _) c.read_byte_below-u.ensures c.in-Value-u.is)
-    ∙ bind_got _ _ _ (answered (byte_of _) c.read_byte_below-i.ensures c.in-Value-i.is)) ∙ mapped_yield (λ l. tt) _ (row _) _)
+    ∙ sym (ap skipped (bind_got _ _ _ (sym c.in_ok-at1.ensures.means) ∙ bind_got _ _ _ (sym c.in_ok-at2.ensures.means) ∙ bind_got _ _ _ (sym c.in_ok-at3.ensures.means))
+    ∙ mapped_yield (λ l. tt) _ (row _) _)

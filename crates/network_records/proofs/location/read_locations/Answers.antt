@@ -1,19 +1,16 @@
-use mathlib.Core.Path.{sym, ap, ◌∙◌}
-use Prim.Native.Nat.{◌-◌}
-use Rattle.reading.specs.Places.{reached}
-use Rattle.reading.proofs.Places.{answered}
+use mathlib.Core.Path.{sym}
+use Rattle.reading.proofs.Places.{reached_err}
 use Rattle.reading.proofs.Skips.{skipping_none, skipping_more, skipping_stop, skipping_all}
 use Rattle.network_records.proofs.location.read_locations.Goals as goal
 
-pub loop-i-init : goal.loop-i-init
-loop-i-init c = skipping_none _ _ _
+pub loop-init : goal.loop-init
+loop-init c = skipping_none _ _ _
 
-pub returns-in_default : goal.returns-in_default
-returns-in_default c = ap (reached _ tt) c.in_default.is
-    ∙ sym (skipping_stop _ _ _ c.loop-i.invariant c.loop-i-test.true (answered (reached _ tt) c.location_at-q.ensures c.in_default.is))
+pub returns-in_err-place : goal.returns-in_err-place
+returns-in_err-place c = reached_err _ _ _ _ c.from_residual.ensures.1 (skipping_stop _ _ _ c.loop.invariant c.loop-test.true (sym c.in_err-place.ensures))
 
-pub loop-i-preserved : goal.loop-i-preserved
-loop-i-preserved c = skipping_more _ _ _ c.loop-i.invariant c.loop-i-test.true (answered (reached _ tt) c.location_at-q.ensures c.in-At.is)
+pub loop-preserved : goal.loop-preserved
+loop-preserved c = skipping_more _ _ _ c.loop.invariant c.loop-test.true (sym c.in_ok-place.ensures)
 
 pub returns : goal.returns
-returns c = sym (skipping_all _ _ _ c.loop-i.invariant c.loop-i-test.false)
+returns c = sym (skipping_all _ _ _ c.loop.invariant c.loop-test.false)

@@ -1,26 +1,13 @@
-use mathlib.Core.Path.{◌≡◌, ◌∙◌, sym, ap}
-use mathlib.Core.Bool.{true}
-use native.Mathlib.Omega.{arith}
-use Prim.Native.Nat.{◌<◌, ◌^◌}
-use lib.Signed.{mag}
+use mathlib.Core.Path.{sym, ap₂, ◌∙◌}
+use mir.Syntax.{w32}
+use mir.ValLaws.{to_z_pos}
+use Rattle.std.specs.Int.{int_div_euclid}
 use Rattle.lists.proofs.Bools.{cond_yes}
-use Rattle.numbers.specs.Integer.{is_divisor}
-use Rattle.numbers.proofs.Integers.{read_back, read_wide, floored_signed}
+use Rattle.numbers.proofs.Integers.{read_back, divisor_range, floored}
 use Rattle.numbers.proofs.signed.quotient.Goals as goal
-use Rattle.numbers.proofs.signed.quotient.Goals.{After-magnitude-m, Else-not-is_divisor}
-
--- The quotient of the magnitudes, with the sign.
-divides : (c : Else-not-is_divisor) → is_divisor c.args.d ≡ true
-divides c = sym c.is_divisor.ensures ∙ c.if-not-is_divisor.false
-
-measured : (c : After-magnitude-m) → (c.magnitude-m.result ≡ mag c.args.x) × (c.magnitude-m.result < 2 ^ 31)
-measured c =
-    let e : c.magnitude-m.result ≡ mag c.args.x = c.magnitude-m.ensures ∙ ap mag (read_wide c.args.x c.ranges.x) in
-    (e, omega (arith, c.ranges.x.sfits))
 
 pub returns : goal.returns
 returns c =
-    read_back _ c.with_sign.type_inv
-    ∙ c.with_sign.ensures
-    ∙ rw (c.is_negative.ensures, read_back c.args.x c.ranges.x.sfits, (measured (goal.at.returns c).After-magnitude-m).0) (floored_signed c.args.x c.args.d)
-    ∙ sym (cond_yes _ _ (divides (goal.at.returns c).Else-not-is_divisor))
+    read_back _ c.div_euclid.type_inv ∙ c.div_euclid.ensures
+    ∙ ap₂ int_div_euclid (read_back c.args.x c.ranges.x.sfits) (to_z_pos w32 c.args.d (divisor_range c.args.d (sym c.if-not-is_divisor.ensures)).1)
+    ∙ floored _ _ ∙ sym (cond_yes _ _ (sym c.if-not-is_divisor.ensures))

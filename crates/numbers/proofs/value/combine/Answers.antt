@@ -1,26 +1,36 @@
+use borrow.Author.Rules.{rules}
+use native.Mathlib.Omega.{arith}
 use mathlib.Core.Path.{◌∙◌}
 use lib.IntN.{◌+ℤ◌, ◌-ℤ◌, ◌*ℤ◌}
 use mir.Syntax.{w32}
 use mir.Val.{SFits}
 use Rattle.numbers.specs.Value.{exactly}
 use Rattle.numbers.proofs.Integers.{read_both}
-use Rattle.numbers.proofs.Values.{combined_left, combined_right, combined_sum, combined_difference, combined_product}
+use Rattle.numbers.proofs.Values.{exactly_if, combined_left, combined_right, combined_sum, combined_difference, combined_product}
 use Rattle.numbers.proofs.value.combine.Goals as goal
+use Rattle.numbers.proofs.value.combine.Goals.{In_ok-b}
 
-pub returns-in_default : goal.returns-in_default
-returns-in_default c = combined_left _ _ c.in_default.is
+-- the arguments are of 32 bits
+fits : (c : In_ok-b) → SFits w32 c.in_ok-a.a × SFits w32 c.in_ok-b.b
+fits c = (search rules, search rules)
 
-pub returns-in_default-y : goal.returns-in_default-y
-returns-in_default-y c = combined_right _ _ c.in-Number.is c.in_default-y.is
+pub returns-in_err-a : goal.returns-in_err-a
+returns-in_err-a c = c.from_residual.ensures ∙ combined_left _ _ c.in_err-a.was
+
+pub returns-in_err-b : goal.returns-in_err-b
+returns-in_err-b c = c.from_residual-in_err-b.ensures ∙ combined_right _ _ c.in_ok-a.was c.in_err-b.was
 
 pub returns-in-2 : goal.returns-in-2
 returns-in-2 c =
-    c.sum.ensures ∙ read_both (λ x y. exactly (x +ℤ y)) ((let first : SFits w32 c.in-Number.a = record { sfits = c.in-Number.known_told-1-own.given.0.1 } in first)) ((let second : SFits w32 c.in-Number-y.b = record { sfits = c.in-Number-y.known_told-in-Number-y-1-own.given.0.1 } in second)) ∙ combined_sum c.in-Number.is c.in-Number-y.is c.in-2.is
+    let f = fits (goal.at.returns-in-2 c).In_ok-b in
+    exactly_if _ _ c.checked_add.ensures ∙ read_both (λ x y. exactly (x +ℤ y)) f.0 f.1 ∙ combined_sum c.in_ok-a.was c.in_ok-b.was c.in-2.is
 
 pub returns-in-3 : goal.returns-in-3
 returns-in-3 c =
-    c.difference.ensures ∙ read_both (λ x y. exactly (x -ℤ y)) ((let first : SFits w32 c.in-Number.a = record { sfits = c.in-Number.known_told-1-own.given.0.1 } in first)) ((let second : SFits w32 c.in-Number-y.b = record { sfits = c.in-Number-y.known_told-in-Number-y-1-own.given.0.1 } in second)) ∙ combined_difference c.in-Number.is c.in-Number-y.is c.in-3.is
+    let f = fits (goal.at.returns-in-3 c).In_ok-b in
+    exactly_if _ _ c.checked_sub.ensures ∙ read_both (λ x y. exactly (x -ℤ y)) f.0 f.1 ∙ combined_difference c.in_ok-a.was c.in_ok-b.was c.in-3.is
 
-pub returns-in_default-code : goal.returns-in_default-code
-returns-in_default-code c =
-    c.product.ensures ∙ read_both (λ x y. exactly (x *ℤ y)) ((let first : SFits w32 c.in-Number.a = record { sfits = c.in-Number.known_told-1-own.given.0.1 } in first)) ((let second : SFits w32 c.in-Number-y.b = record { sfits = c.in-Number-y.known_told-in-Number-y-1-own.given.0.1 } in second)) ∙ combined_product c.in-Number.is c.in-Number-y.is c.in_default-code.in_default-code-own.rest.0.1 c.in_default-code.in_default-code-own.rest.1
+pub returns-in_default : goal.returns-in_default
+returns-in_default c =
+    let f = fits (goal.at.returns-in_default c).In_ok-b in
+    exactly_if _ _ c.checked_mul.ensures ∙ read_both (λ x y. exactly (x *ℤ y)) f.0 f.1 ∙ combined_product c.in_ok-a.was c.in_ok-b.was (omega arith) (omega arith)

@@ -13,6 +13,6 @@ returns c =
       means = λ n h few.
           let is = c.transitions_of-transitions.ensures ∙ ap (λ (d : Answer Network). transitions_in d c.args.list.now) h in
           let kept = c.tabled-count.ensures (ap length is ∙ transitions_length n _) (length-replicate {A = ℕ} 1024 0) in
-          ap₂ (λ (k : ℕ) (l : List ℕ). take k l) c.least.ensures (c.first_sixteen.ensures kept.long) ∙ carried_list n _ is few kept;
-      few = omega (arith, c.least.ensures);
+          ap₂ (λ (k : ℕ) (l : List ℕ). take k l) c.min.ensures (c.first_sixteen.ensures kept.long) ∙ carried_list n _ is few kept;
+      few = omega (arith, c.min.ensures);
     }

@@ -1,7 +1,7 @@
-use Rattle.reading.specs.Places.{short_of, short_fault}
-use Rattle.reading.proofs.Places.{handed_on, framed_fault, answered}
+use mathlib.Core.Path.{sym, ap, ◌∙◌}
+use Rattle.reading.specs.Places.{part_of}
+use Rattle.reading.proofs.Places.{framed_fault, handed_on}
 use Rattle.reading.proofs.field.read_long_frame.Goals as goal
 
-pub returns-in_default-clause-means : goal.returns-in_default-clause-means
-returns-in_default-clause-means c =
-    let fails = answered (short_of _) c.read_short-h.ensures.means c.in_default.is in handed_on short_fault c.short_fault.ensures c.in_default.is (framed_fault _ _ fails)
+pub returns-in_err-size-clause-means : goal.returns-in_err-size-clause-means
+returns-in_err-size-clause-means c = ap (part_of _) (handed_on _ c.from_residual.ensures.1) ∙ sym (framed_fault _ _ (sym c.in_err-size.ensures.means))

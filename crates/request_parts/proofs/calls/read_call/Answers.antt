@@ -1,15 +1,12 @@
 use mathlib.Core.Path.{sym, ap, ◌∙◌}
-use native.Mathlib.Omega.{arith}
-use Rattle.reading.specs.Reading.{fault}
-use Rattle.reading.specs.Places.{byte_of, byte_fault, fault_of}
-use Rattle.reading.proofs.Places.{answered, bind_got, bind_fault}
-use Rattle.request_parts.specs.Calls.{call}
+use Rattle.reading.proofs.Places.{bind_got, bind_fault, handed_on}
+use Rattle.request_parts.specs.Calls.{call, call_of}
 use Rattle.request_parts.proofs.calls.read_call.Goals as goal
 
-pub returns-in_default : goal.returns-in_default
+pub returns-in_err-kind-clause-means : goal.returns-in_err-kind-clause-means
 unfolding call
-returns-in_default c = record { means = ap (λ f. fault (fault_of f)) (c.byte_fault.ensures ∙ ap byte_fault c.in_default.is) ∙ sym (bind_fault _ _ _ (answered (byte_of _) c.read_below-b.ensures.means c.in_default.is)); within = omega arith }
+returns-in_err-kind-clause-means c = ap (call_of _) (handed_on _ c.from_residual.ensures.1) ∙ sym (bind_fault _ _ _ (sym c.in_err-kind.ensures.means))
 
-pub returns : goal.returns
+pub returns-clause-means : goal.returns-clause-means
 unfolding call
-returns c = record { means = c.read_body.ensures.means ∙ sym (bind_got _ _ _ (answered (byte_of _) c.read_below-b.ensures.means c.in-Value.is)); within = c.read_body.ensures.within }
+returns-clause-means c = c.read_body.ensures.means ∙ sym (bind_got _ _ _ (sym c.in_ok-kind.ensures.means))

@@ -1,25 +1,18 @@
 use mathlib.Core.Path.{refl, sym, ap, ◌∙◌}
-use native.Mathlib.Omega.{arith}
-use Rattle.reading.specs.Reading.{fault, yield}
-use Rattle.reading.specs.Places.{short_of, short_end, short_fault, fault_of}
-use Rattle.reading.proofs.Places.{answered, bind_got, bind_fault}
-use Rattle.request_parts.specs.Calls.{stepped}
+use Rattle.reading.specs.Reading.{yield}
+use Rattle.reading.proofs.Places.{bind_got, bind_fault, handed_on}
+use Rattle.request_parts.specs.Calls.{stepped, call_of}
 use Rattle.request_parts.proofs.Numbers.{numbers_some, numbers_none}
 use Rattle.request_parts.proofs.calls.read_step.Goals as goal
 
-pub returns-in_default : goal.returns-in_default
+pub returns-in_err-count-clause-means : goal.returns-in_err-count-clause-means
 unfolding stepped
-returns-in_default c = record { means = ap (λ f. fault (fault_of f)) (c.short_fault.ensures ∙ ap short_fault c.in_default.is) ∙ sym (bind_fault _ _ _ (answered (short_of _) c.read_short-h.ensures.means c.in_default.is)); within = omega arith }
+returns-in_err-count-clause-means c = ap (call_of _) (handed_on _ c.from_residual.ensures.1) ∙ sym (bind_fault _ _ _ (sym c.in_err-count.ensures.means))
 
-pub overflow_sub-s : goal.overflow_sub-s
-overflow_sub-s c = omega (arith, ap short_end c.in-Value.is, c.read_short-h.ensures.within)
-
-pub returns-then-s-from : goal.returns-then-s-from
+pub returns-then-s-from-clause-means : goal.returns-then-s-from-clause-means
 unfolding stepped
-returns-then-s-from c = record { means = sym (bind_got _ _ _ (answered (short_of _) c.read_short-h.ensures.means c.in-Value.is) ∙ bind_fault _ _ _ (numbers_none _ _ _ refl c.if-s-from.true)); within = omega arith }
+returns-then-s-from-clause-means c = sym (bind_got _ _ _ (sym c.in_ok-count.ensures.means) ∙ bind_fault _ _ _ (numbers_none _ _ _ refl c.if-s-from.true))
 
-pub returns : goal.returns
+pub returns-else-s-from-clause-means : goal.returns-else-s-from-clause-means
 unfolding stepped yield
-returns c =
-    let count = answered (short_of _) c.read_short-h.ensures.means c.in-Value.is in
-    record { means = sym (bind_got _ _ _ count ∙ bind_got _ _ _ (numbers_some _ _ _ refl c.if-s-from.false)); within = omega (arith, ap short_end c.in-Value.is, c.read_short-h.ensures.within) }
+returns-else-s-from-clause-means c = sym (bind_got _ _ _ (sym c.in_ok-count.ensures.means) ∙ bind_got _ _ _ (numbers_some _ _ _ refl c.if-s-from.false))

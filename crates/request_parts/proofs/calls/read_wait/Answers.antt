@@ -1,15 +1,13 @@
 use mathlib.Core.Path.{sym, ap, ◌∙◌}
-use native.Mathlib.Omega.{arith}
-use Rattle.reading.specs.Reading.{fault, yield}
-use Rattle.reading.specs.Places.{word_of, word_end, word_fault, fault_of}
-use Rattle.reading.proofs.Places.{answered, bind_got, bind_fault}
-use Rattle.request_parts.specs.Calls.{waited}
+use Rattle.reading.specs.Reading.{yield}
+use Rattle.reading.proofs.Places.{bind_got, bind_fault, handed_on}
+use Rattle.request_parts.specs.Calls.{waited, call_of}
 use Rattle.request_parts.proofs.calls.read_wait.Goals as goal
 
-pub returns-in_default : goal.returns-in_default
+pub returns-in_err-ticks-clause-means : goal.returns-in_err-ticks-clause-means
 unfolding waited
-returns-in_default c = record { means = ap (λ f. fault (fault_of f)) (c.word_fault.ensures ∙ ap word_fault c.in_default.is) ∙ sym (bind_fault _ _ _ (answered (word_of _) c.read_word-w.ensures.means c.in_default.is)); within = omega arith }
+returns-in_err-ticks-clause-means c = ap (call_of _) (handed_on _ c.from_residual.ensures.1) ∙ sym (bind_fault _ _ _ (sym c.in_err-ticks.ensures.means))
 
-pub returns : goal.returns
+pub returns-clause-means : goal.returns-clause-means
 unfolding waited yield
-returns c = record { means = sym (bind_got _ _ _ (answered (word_of _) c.read_word-w.ensures.means c.in-Value.is)); within = omega (arith, ap word_end c.in-Value.is, c.read_word-w.ensures.within) }
+returns-clause-means c = sym (bind_got _ _ _ (sym c.in_ok-ticks.ensures.means))

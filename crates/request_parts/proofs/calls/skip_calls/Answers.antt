@@ -1,16 +1,15 @@
 use mathlib.Core.Path.{sym, ap, ◌∙◌}
-use native.Mathlib.Omega.{arith}
-use Rattle.reading.specs.Reading.{fault, skipped}
-use Rattle.reading.specs.Places.{short_of, short_end, short_fault, fault_of}
-use Rattle.reading.proofs.Places.{answered, bind_got, bind_fault}
+use Rattle.reading.specs.Reading.{skipped}
+use Rattle.reading.specs.Places.{reached}
+use Rattle.reading.proofs.Places.{bind_got, bind_fault, handed_on}
 use Rattle.reading.proofs.Reading.{mapped_fault}
 use Rattle.request_parts.specs.Calls.{calls}
 use Rattle.request_parts.proofs.calls.skip_calls.Goals as goal
 
-pub returns-in_default : goal.returns-in_default
+pub returns-in_err-count-clause-means : goal.returns-in_err-count-clause-means
 unfolding calls skipped
-returns-in_default c = record { means = ap (λ f. fault (fault_of f)) (c.short_fault.ensures ∙ ap short_fault c.in_default.is) ∙ sym (mapped_fault _ (bind_fault _ _ _ (answered (short_of _) c.read_short-h.ensures.means c.in_default.is))); within = omega arith }
+returns-in_err-count-clause-means c = ap (reached _ tt) (handed_on _ c.from_residual.ensures.1) ∙ sym (mapped_fault _ (bind_fault _ _ _ (sym c.in_err-count.ensures.means)))
 
-pub returns : goal.returns
+pub returns-clause-means : goal.returns-clause-means
 unfolding calls
-returns c = record { means = c.skip_many.ensures.means ∙ ap skipped (sym (bind_got _ _ _ (answered (short_of _) c.read_short-h.ensures.means c.in-Value.is))); within = c.skip_many.ensures.within (omega (arith, ap short_end c.in-Value.is, c.read_short-h.ensures.within)) }
+returns-clause-means c = c.skip_many.ensures.means ∙ ap skipped (sym (bind_got _ _ _ (sym c.in_ok-count.ensures.means)))

@@ -1,16 +1,7 @@
-use Prim.Native.Nat.{◌-◌}
-use native.Mathlib.Omega.{arith}
 use borrow.Author.Rules.{rules}
-use Rattle.lists.proofs.Loops.{filled_all}
-use Rattle.request_parts.proofs.Fills.{fill_none, fill_more}
 use Rattle.request_parts.specs.Parts.{byte_at}
+use Rattle.request_parts.proofs.Fills.{made_by}
 use Rattle.request_parts.proofs.input.bytes.Goals as goal
 
-pub loop-i-init : goal.loop-i-init
-loop-i-init c = fill_none 16 _ _ (search rules)
-
-pub loop-i-preserved : goal.loop-i-preserved
-loop-i-preserved c = fill_more 16 _ _ _ 0 _ c.loop-i.invariant (omega arith) c.byte_at.ensures
-
 pub returns : goal.returns
-returns c = filled_all 16 _ _ _ c.loop-i.invariant (omega arith)
+returns c = made_by _ (byte_at c.args.s.now) _ (λ i y q k. search rules) 0 _ 16 c.from_fn.ensures.items

@@ -1,16 +1,8 @@
-use Prim.Native.Nat.{◌-◌}
-use native.Mathlib.Omega.{arith}
-use borrow.Author.Rules.{rules}
-use Rattle.lists.proofs.Loops.{filled_all}
-use Rattle.request_parts.proofs.Fills.{fill_none, fill_more}
 use mathlib.Core.Bool.{false}
+use borrow.Author.Rules.{rules}
+use Rattle.request_parts.specs.Parts.{mark_at}
+use Rattle.request_parts.proofs.Fills.{made_by}
 use Rattle.request_parts.proofs.input.marks.Goals as goal
 
-pub loop-i-init : goal.loop-i-init
-loop-i-init c = fill_none 48 _ _ (search rules)
-
-pub loop-i-preserved : goal.loop-i-preserved
-loop-i-preserved c = fill_more 48 _ _ _ false _ c.loop-i.invariant (omega arith) c.mark.ensures
-
 pub returns : goal.returns
-returns c = filled_all 48 _ _ _ c.loop-i.invariant (omega arith)
+returns c = made_by _ (mark_at c.args.s.now) _ (λ i y q k. search rules) false _ 48 c.from_fn.ensures.items

@@ -1,7 +1,7 @@
+use mathlib.Core.Path.{◌≡◌}
 use native.Mathlib.Omega.{arith}
 use Rattle.reading.specs.Reading.{yield}
 use Rattle.requests.specs.Requests.{operations, operation}
-use Rattle.requests.proofs.Requests.{number_last}
 use Rattle.requests.proofs.request.read_operation.Goals as goal
 
 pub returns-in-0 : goal.returns-in-0
@@ -51,7 +51,5 @@ returns-in-10 c = record { means = rw c.in-10.is c.read_longest-in-10.ensures.me
 pub returns-in_default : goal.returns-in_default
 unfolding operation operations
 returns-in_default c =
-    let z =
-    number_last _ c.requires.1 c.in_default.in_default-own.rest.0.0.0.0.0.0.0.0.0.0.1 c.in_default.in_default-own.rest.0.0.0.0.0.0.0.0.0.1 c.in_default.in_default-own.rest.0.0.0.0.0.0.0.0.1 c.in_default.in_default-own.rest.0.0.0.0.0.0.0.1 c.in_default.in_default-own.rest.0.0.0.0.0.0.1
-    c.in_default.in_default-own.rest.0.0.0.0.0.1 c.in_default.in_default-own.rest.0.0.0.0.1 c.in_default.in_default-own.rest.0.0.0.1 c.in_default.in_default-own.rest.0.0.1 c.in_default.in_default-own.rest.0.1 c.in_default.in_default-own.rest.1 in
+    let z : c.args.code ≡ 11 = omega arith in
     record { means = rw z c.read_window.ensures.means; within = c.read_window.ensures.within }

@@ -1,40 +1,41 @@
 use mathlib.Core.Path.{sym, ap, ◌∙◌}
 use native.Mathlib.Omega.{arith}
 use borrow.Author.Tests.{ltb-true}
-use Rattle.reading.specs.Reading.{fault, byte}
-use Rattle.reading.specs.Places.{byte_of, byte_fault, frame_of, frame_fault, fault_of}
+use Rattle.reading.specs.Reading.{byte}
 use Rattle.reading.proofs.Reading.{such_at}
-use Rattle.reading.proofs.Places.{answered, bind_fault, frame_fits}
-use Rattle.requests.specs.Requests.{operation_of, operation_end, request}
+use Rattle.reading.proofs.Places.{bind_fault, handed_on}
+use Rattle.requests.specs.Requests.{request, request_of}
 use Rattle.requests.proofs.Requests.{file_fault, request_got, request_fault, request_past}
 use Rattle.requests.proofs.request.read_request.Goals as goal
 
-pub returns-in_default : goal.returns-in_default
+pub returns-in_err-code : goal.returns-in_err-code
 unfolding request
-returns-in_default c = record { means = ap (λ f. fault (fault_of f)) (c.byte_fault.ensures ∙ ap byte_fault c.in_default.is) ∙ sym (bind_fault _ _ _ (answered (byte_of _) c.read_below-b.ensures.means c.in_default.is)); within = omega arith; beyond = tt }
+returns-in_err-code c =
+    let e = handed_on _ c.from_residual.ensures.1 in
+    record { means = ap (request_of _) e ∙ sym (bind_fault _ _ _ (sym c.in_err-code.ensures.means)); within = rw e (omega arith); beyond = rw e tt }
 
-pub returns-in_default-f : goal.returns-in_default-f
-returns-in_default-f c =
-    let kind = answered (byte_of _) c.read_below-b.ensures.means c.in-Value.is in
-    let read = answered (frame_of _) c.read_file-f.ensures.means c.in_default-f.is in
-    record { means = ap (λ f. fault (fault_of f)) (c.frame_fault.ensures ∙ ap frame_fault c.in_default-f.is) ∙ sym (file_fault _ kind read); within = omega arith; beyond = tt }
+pub returns-in_err-file : goal.returns-in_err-file
+returns-in_err-file c =
+    let e = handed_on _ c.from_residual-in_err-file.ensures.1 in
+    record {
+      means = ap (request_of _) e ∙ sym (file_fault _ (sym c.in_ok-code.ensures.means) (sym c.in_err-file.ensures.means));
+      within = rw e (omega arith);
+      beyond = rw e tt;
+    }
 
-pub read_operation-o-requires : goal.read_operation-o-requires
-read_operation-o-requires c =
-    let kind = answered (byte_of _) c.read_below-b.ensures.means c.in-Value.is in
-    ((frame_fits _ c.read_file-f.ensures.within c.in-Part.is).1, ltb-true _ 12 (such_at byte _ _ kind).0)
+pub read_operation-requires : goal.read_operation-requires
+read_operation-requires c = (c.in_ok-file.ensures.within, ltb-true _ 12 (such_at byte _ _ (sym c.in_ok-code.ensures.means)).0)
 
-pub returns-in-Value-o : goal.returns-in-Value-o
-returns-in-Value-o c =
-    let kind = answered (byte_of _) c.read_below-b.ensures.means c.in-Value.is in
-    let frame = answered (frame_of _) c.read_file-f.ensures.means c.in-Part.is in
-    let e = request_got _ kind frame (answered (operation_of _) c.read_operation-o.ensures.means c.in-Value-o.is) in
-    let l = ap operation_end c.in-Value-o.is in
-    record { means = sym e; within = omega (arith, l, c.read_operation-o.ensures.within); beyond = request_past _ _ _ e (omega (arith, l, c.read_operation-o.ensures.within)) }
+pub returns-in_err-operation : goal.returns-in_err-operation
+returns-in_err-operation c =
+    let e = handed_on _ c.from_residual-in_err-operation.ensures.1 in
+    record {
+      means = ap (request_of _) e ∙ sym (request_fault _ (sym c.in_ok-code.ensures.means) (sym c.in_ok-file.ensures.means) (sym c.in_err-operation.ensures.means));
+      within = rw e (omega arith);
+      beyond = rw e tt;
+    }
 
-pub returns-in-Fault : goal.returns-in-Fault
-returns-in-Fault c =
-    let kind = answered (byte_of _) c.read_below-b.ensures.means c.in-Value.is in
-    let frame = answered (frame_of _) c.read_file-f.ensures.means c.in-Part.is in
-    let fails = answered (operation_of _) c.read_operation-o.ensures.means c.in-Fault.is in
-    record { means = sym (request_fault _ kind frame fails); within = omega arith; beyond = tt }
+pub returns : goal.returns
+returns c =
+    let e = request_got _ (sym c.in_ok-code.ensures.means) (sym c.in_ok-file.ensures.means) (sym c.in_ok-operation.ensures.means) in
+    record { means = sym e; within = c.in_ok-operation.ensures.within; beyond = request_past _ _ _ e c.in_ok-operation.ensures.within }

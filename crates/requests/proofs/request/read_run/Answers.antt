@@ -1,12 +1,11 @@
-use mathlib.Core.Path.{sym, ap}
-use native.Mathlib.Omega.{arith}
-use Rattle.reading.specs.Places.{reached, reached_end}
-use Rattle.reading.proofs.Places.{answered}
+use mathlib.Core.Path.{sym, ap, ◌∙◌}
+use Rattle.reading.proofs.Places.{handed_on}
+use Rattle.requests.specs.Requests.{operation_of}
 use Rattle.requests.proofs.Requests.{run_got, run_fault}
 use Rattle.requests.proofs.request.read_run.Goals as goal
 
-pub returns-in-At : goal.returns-in-At
-returns-in-At c = record { means = sym (run_got _ (answered (reached _ tt) c.skip_calls-q.ensures.means c.in-At.is)); within = omega (arith, ap reached_end c.in-At.is, c.skip_calls-q.ensures.within) }
+pub returns-in_err-next-clause-means : goal.returns-in_err-next-clause-means
+returns-in_err-next-clause-means c = ap (operation_of _) (handed_on _ c.from_residual.ensures.1) ∙ sym (run_fault _ (sym c.in_err-next.ensures.means))
 
-pub returns-in-Fault : goal.returns-in-Fault
-returns-in-Fault c = record { means = sym (run_fault _ (answered (reached _ tt) c.skip_calls-q.ensures.means c.in-Fault.is)); within = omega arith }
+pub returns-clause-means : goal.returns-clause-means
+returns-clause-means c = sym (run_got _ (sym c.in_ok-next.ensures.means))

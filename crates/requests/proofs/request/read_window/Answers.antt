@@ -1,16 +1,13 @@
-use mathlib.Core.Path.{sym, ap}
-use native.Mathlib.Omega.{arith}
+use mathlib.Core.Path.{sym, ap, ◌∙◌}
 use Rattle.reading.specs.Reading.{yield}
-use Rattle.reading.specs.Places.{word_of, word_end}
-use Rattle.reading.proofs.Places.{answered, bind_got, bind_fault}
-use Rattle.requests.specs.Requests.{windowed}
+use Rattle.reading.proofs.Places.{bind_got, bind_fault, handed_on}
+use Rattle.requests.specs.Requests.{windowed, operation_of}
 use Rattle.requests.proofs.request.read_window.Goals as goal
 
-pub returns-in-Value : goal.returns-in-Value
-unfolding windowed yield
-returns-in-Value c =
-    record { means = sym (bind_got _ _ _ (answered (word_of _) c.read_word-w.ensures.means c.in-Value.is)); within = omega (arith, ap word_end c.in-Value.is, c.read_word-w.ensures.within) }
-
-pub returns-in-Fault : goal.returns-in-Fault
+pub returns-in_err-window-clause-means : goal.returns-in_err-window-clause-means
 unfolding windowed
-returns-in-Fault c = record { means = sym (bind_fault _ _ _ (answered (word_of _) c.read_word-w.ensures.means c.in-Fault.is)); within = omega arith }
+returns-in_err-window-clause-means c = ap (operation_of _) (handed_on _ c.from_residual.ensures.1) ∙ sym (bind_fault _ _ _ (sym c.in_err-window.ensures.means))
+
+pub returns-clause-means : goal.returns-clause-means
+unfolding windowed yield
+returns-clause-means c = sym (bind_got _ _ _ (sym c.in_ok-window.ensures.means))

@@ -1,5 +1,4 @@
 use mathlib.Core.Path.{sym, ap, ◌∙◌}
-use Prim.Native.Nat.{◌-◌}
 use borrow.Author.Tests.{lt-ltb, le-ltb}
 use lib.ListN.{drop_of_length-le}
 use Rattle.lists.specs.Lists.{all}
@@ -7,12 +6,12 @@ use Rattle.lists.proofs.Parts.{drop_next}
 use Rattle.lists.proofs.Lists.{all_next, all_stop}
 use Rattle.steps.proofs.step.all_below.Goals as goal
 
-pub returns-then-list-i : goal.returns-then-list-i
-returns-then-list-i c = sym (c.loop-i.invariant ∙ all_stop _ (drop_next _ _ 0 c.loop-i-test.true) (le-ltb _ _ c.if-list-i.true))
+pub returns-then-m-count : goal.returns-then-m-count
+returns-then-m-count c = sym (c.loop-m.invariant ∙ all_stop _ (drop_next _ _ 0 c.loop-m-test.true) (le-ltb _ _ c.if-m-count.true))
 
-pub loop-i-preserved : goal.loop-i-preserved
-loop-i-preserved c = c.loop-i.invariant ∙ all_next _ (drop_next _ _ 0 c.loop-i-test.true) (lt-ltb _ _ c.if-list-i.false)
+pub loop-m-preserved : goal.loop-m-preserved
+loop-m-preserved c = c.loop-m.invariant ∙ all_next _ (drop_next _ _ 0 c.loop-m-test.true) (lt-ltb _ _ c.if-m-count.false)
 
 pub returns : goal.returns
 unfolding all
-returns c = sym (c.loop-i.invariant ∙ ap (all _) (drop_of_length-le _ c.loop-i-test.false))
+returns c = sym (c.loop-m.invariant ∙ ap (all _) (drop_of_length-le _ c.loop-m-test.false))

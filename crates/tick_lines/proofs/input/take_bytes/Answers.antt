@@ -1,45 +1,36 @@
 use mathlib.Core.Path.{refl}
 use mathlib.Core.List.{List}
-use Prim.Native.Nat.{ℕ, ◌+◌, ◌-◌}
-use native.Mathlib.Omega.{arith}
+use Prim.Native.Nat.{ℕ, ◌+◌}
 use borrow.Author.Rules.{rules}
 use lib.ListN.{take}
+use Rattle.std.specs.Prelude.{Ok, Err}
+use Rattle.reading.proofs.Places.{handed_on}
 use Rattle.tick_lines.specs.Rings.{Holds}
-use Rattle.tick_lines.specs.Inputs.{said, bytes_said, ReadTo}
-use Rattle.tick_lines.specs.declared.input.Read.TheVariants as Re
-use Rattle.tick_lines.proofs.Inputs.{on_holds, read_next, read_is, taken_stopped, taken_all_lem}
+use Rattle.tick_lines.specs.Inputs.{said, bytes_said, GoesOn}
+use Rattle.tick_lines.proofs.Inputs.{on_holds, read_next, taken_all_lem}
 use Rattle.tick_lines.proofs.input.take_bytes.Goals as goal
 
-pub loop-i-init : goal.loop-i-init
+pub loop-b-init : goal.loop-b-init
 unfolding bytes_said
-loop-i-init c = (c.requires.0, refl, omega arith, c.requires.1, λ ts H. (H, refl))
+loop-b-init c = (c.requires.0, refl, c.requires.1, λ ts H. (H, refl))
 
-pub take_byte-r-requires : goal.take_byte-r-requires
-take_byte-r-requires c = (c.loop-i.invariant.0, c.loop-i.invariant.3)
+pub take_byte-requires : goal.take_byte-requires
+take_byte-requires c = (c.loop-b.invariant.0, c.loop-b.invariant.2)
 
-pub returns-in_default : goal.returns-in_default
-returns-in_default c = λ ts H.
-    taken_stopped _ _ _ _ (c.loop-i.i + 1) _ (read_next _ _ _ _ _ _ _ _ c.loop-i-test.true (c.loop-i.invariant.4 ts H) c.take_byte-r.ensures) c.in_default.is
+pub returns-in_err-now : goal.returns-in_err-now
+returns-in_err-now c = λ ts H.
+    rw (handed_on _ c.from_residual.ensures.1)
+    (c.loop-b.b-index + 1, read_next c.args.window c.loop-b.ring c.take_byte.new.ring (said ts c.args.state.line) c.loop-b.now c.args.bytes.now c.loop-b.b-index (Err c.in_err-now.field-0.0) c.loop-b-test.true (c.loop-b.invariant.3 ts H) c.in_err-now.ensures)
 
-pub loop-i-preserved : goal.loop-i-preserved
-loop-i-preserved c =
+pub loop-b-preserved : goal.loop-b-preserved
+loop-b-preserved c =
     let next : (ts : List ℕ) → Holds c.args.window c.args.ring.now c.args.state.recent ts →
-    ReadTo c.args.window c.take_byte-r.new.ring (bytes_said (said ts c.args.state.line) (take (c.loop-i.i + 1) c.args.bytes.now)) (Re.On c.in-On.next) =
-    λ ts H. read_is
-    c.args.window
-    c.take_byte-r.new.ring
-    (bytes_said (said ts c.args.state.line) (take (c.loop-i.i + 1) c.args.bytes.now))
-    (read_next _ _ _ _ _ _ _ _ c.loop-i-test.true (c.loop-i.invariant.4 ts H) c.take_byte-r.ensures)
-    c.in-On.is
+    GoesOn c.args.window c.take_byte.new.ring (bytes_said (said ts c.args.state.line) (take (c.loop-b.b-index + 1) c.args.bytes.now)) c.in_ok-now.now =
+    λ ts H. read_next c.args.window c.loop-b.ring c.take_byte.new.ring (said ts c.args.state.line) c.loop-b.now c.args.bytes.now c.loop-b.b-index (Ok c.in_ok-now.now) c.loop-b-test.true (c.loop-b.invariant.3 ts H) c.in_ok-now.ensures
     in
-    let holds = on_holds
-    c.args.window
-    c.take_byte-r.new.ring
-    (bytes_said (said c.requires.1.0 c.args.state.line) (take (c.loop-i.i + 1) c.args.bytes.now))
-    c.in-On.next
-    (next c.requires.1.0 c.requires.1.1)
-    in
-    (c.loop-i.invariant.0, search rules, omega arith, holds, next)
+    let said_then = bytes_said (said c.requires.1.0 c.args.state.line) (take (c.loop-b.b-index + 1) c.args.bytes.now) in
+    let holds = on_holds c.args.window c.take_byte.new.ring said_then c.in_ok-now.now (next c.requires.1.0 c.requires.1.1) in
+    (c.loop-b.invariant.0, search rules, holds, next)
 
 pub returns : goal.returns
-returns c = λ ts H. taken_all_lem _ _ _ _ _ _ c.loop-i-test.false (c.loop-i.invariant.4 ts H)
+returns c = λ ts H. taken_all_lem _ _ _ _ _ _ c.loop-b-test.false (c.loop-b.invariant.3 ts H)

@@ -4,5 +4,5 @@ use Rattle.tick_lines.proofs.line.tick_of.Goals as goal
 pub returns-then-n-gt4294967295 : goal.returns-then-n-gt4294967295
 returns-then-n-gt4294967295 c = number_bad _ c.if-n-gt4294967295.true
 
-pub returns : goal.returns
-returns c = number_tick _ c.if-n-gt4294967295.false
+pub returns-else-n-gt4294967295 : goal.returns-else-n-gt4294967295
+returns-else-n-gt4294967295 c = number_tick _ c.if-n-gt4294967295.false

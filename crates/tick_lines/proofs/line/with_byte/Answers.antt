@@ -14,7 +14,7 @@ pub returns-else-is_digit : goal.returns-else-is_digit
 returns-else-is_digit c = c.with_other.ensures ∙ blank_other _ c.in-Blank.is (sym c.is_digit.ensures ∙ c.if-is_digit.false)
 
 pub returns-else-is_digit-2 : goal.returns-else-is_digit-2
-returns-else-is_digit-2 c = c.with_other-in-Digits.ensures ∙ digits_other _ c.in-Digits.is (sym c.is_digit-in-Digits.ensures ∙ c.if-is_digit-2.false)
+returns-else-is_digit-2 c = c.with_other-else-is_digit-2.ensures ∙ digits_other _ c.in-Digits.is (sym c.is_digit-in-Digits.ensures ∙ c.if-is_digit-2.false)
 
 pub returns-in-Ended : goal.returns-in-Ended
 returns-in-Ended c = c.with_other-in-Ended.ensures ∙ ended_byte _ c.in-Ended.is

@@ -1,6 +1,5 @@
-use mathlib.Core.Path.{refl}
 use Rattle.tick_lines.proofs.Rings.{ring_more}
 use Rattle.tick_lines.proofs.recent.put.Goals as goal
 
-pub returns : goal.returns
-returns c = record { ticks = λ ts R. rw (c.next_place.ensures, c.least.ensures) (ring_more _ _ _ ts _ R); count = refl; first = refl }
+pub returns-clause-ticks : goal.returns-clause-ticks
+returns-clause-ticks c = λ ts R. rw (c.next_place.ensures, c.min.ensures) (ring_more _ _ _ ts _ R)

@@ -1,14 +1,12 @@
 use borrow.Author.Tests.{le-leb}
 use Rattle.lists.proofs.Bools.{cond_yes}
-use mathlib.Core.Path.{◌≡◌, refl, ap, ap₂, ◌∙◌}
-use mathlib.Core.List.{List}
+use mathlib.Core.Path.{◌≡◌, ap, ap₂, ◌∙◌}
 use lib.IntN.{ℤ, pos, ◌+ℤ◌}
 use Prim.Native.Nat.{◌≤◌}
 use mir.Syntax.{w32}
 use mir.Val.{to_z, of_z}
 use Rattle.numbers.specs.Integer.{floor_div, floor_mod}
-use Rattle.numbers.specs.Value.{exactly, is_number, number_of}
-use lib.ListN.{set}
+use Rattle.numbers.specs.Value.{exactly}
 use Rattle.numbers.proofs.Integers.{read_back}
 use Rattle.updates.specs.Update.{stays, updated, steps_after, remainder_after, total}
 use Rattle.updates.proofs.update.after_advance.Goals as goal
@@ -34,12 +32,7 @@ remained c h =
 
 pub returns : goal.returns
 unfolding stays updated
-returns c =
-    record {
-      reached = refl;
-      within = λ h. c.is_number.ensures ∙ ap is_number (stepped (goal.at.returns c).After-steps_after-steps h);
-      values = λ h. c.stored.ensures
-          ∙ ap₂ (λ (vs : List ℤ) (z : ℤ). set vs c.args.a.remainder z)
-          (c.stored-counted.ensures ∙ ap (λ (z : ℤ). set c.args.new c.args.a.steps z) (read_back _ c.number_of.type_inv ∙ c.number_of.ensures ∙ ap number_of (stepped (goal.at.returns c).After-steps_after-steps h)))
-          (remained (goal.at.returns c).After-remainder_after-kept h);
-    }
+returns c h =
+    let s = stepped (goal.at.returns c).After-steps_after-steps h in
+    let r = remained (goal.at.returns c).After-remainder_after-kept h in
+    rw (c.stored.ensures, c.after_assignment-counted.ensures, r, s)

@@ -1,47 +1,40 @@
 use mathlib.Core.Path.{sym, ◌∙◌}
 use Rattle.reading.specs.Reading.{yield}
-use Rattle.reading.specs.Places.{byte_of, byte_fault, short_of, short_fault}
-use Rattle.reading.proofs.Places.{handed_on, bind_got, bind_fault, answered}
+use Rattle.reading.proofs.Places.{bind_got, bind_fault, read_err}
 use Rattle.updates.specs.Update.{advanced}
 use Rattle.updates.proofs.update.read_advance.Goals as goal
 
-pub returns-in_default : goal.returns-in_default
+pub returns-in_err-steps : goal.returns-in_err-steps
 unfolding advanced
-returns-in_default c =
-    let fails = answered (byte_of _) c.read_byte_below-a.ensures c.in_default.is in
-    handed_on byte_fault c.byte_fault.ensures c.in_default.is (bind_fault _ _ _ fails)
+returns-in_err-steps c = read_err _ _ _ c.from_residual.ensures.1 (bind_fault _ _ _ (sym c.in_err-steps.ensures.means))
 
-pub returns-in_default-b : goal.returns-in_default-b
+pub returns-in_err-remainder : goal.returns-in_err-remainder
 unfolding advanced
-returns-in_default-b c =
-    let read_a = answered (byte_of _) c.read_byte_below-a.ensures c.in-Value.is in
-    let fails = answered (byte_of _) c.read_byte_below-b.ensures c.in_default-b.is in
-    handed_on byte_fault c.byte_fault-in_default-b.ensures c.in_default-b.is (bind_got _ _ _ read_a ∙ bind_fault _ _ _ fails)
+returns-in_err-remainder c =
+    read_err _ _ _ c.from_residual-in_err-remainder.ensures.1
+    (bind_got _ _ _ (sym c.in_ok-steps.ensures.means) ∙ bind_fault _ _ _ (sym c.in_err-remainder.ensures.means))
 
-pub returns-in_default-p : goal.returns-in_default-p
+pub returns-in_err-numerator : goal.returns-in_err-numerator
 unfolding advanced
-returns-in_default-p c =
-    let read_a = answered (byte_of _) c.read_byte_below-a.ensures c.in-Value.is in
-    let read-b = answered (byte_of _) c.read_byte_below-b.ensures c.in-Value-b.is in
-    let fails = answered (short_of _) c.read_short-p.ensures.means c.in_default-p.is in
-    handed_on short_fault c.short_fault.ensures c.in_default-p.is
-    (bind_got _ _ _ read_a ∙ bind_got _ _ _ read-b ∙ bind_fault _ _ _ fails)
+returns-in_err-numerator c =
+    read_err _ _ _ c.from_residual-in_err-numerator.ensures.1
+    (bind_got _ _ _ (sym c.in_ok-steps.ensures.means)
+    ∙ bind_got _ _ _ (sym c.in_ok-remainder.ensures.means)
+    ∙ bind_fault _ _ _ (sym c.in_err-numerator.ensures.means))
 
-pub returns-in_default-q : goal.returns-in_default-q
+pub returns-in_err-denominator : goal.returns-in_err-denominator
 unfolding advanced
-returns-in_default-q c =
-    let read_a = answered (byte_of _) c.read_byte_below-a.ensures c.in-Value.is in
-    let read-b = answered (byte_of _) c.read_byte_below-b.ensures c.in-Value-b.is in
-    let read-p = answered (short_of _) c.read_short-p.ensures.means c.in-Value-p.is in
-    let fails = answered (short_of _) c.read_denominator-q.ensures c.in_default-q.is in
-    handed_on short_fault c.short_fault-in_default-q.ensures c.in_default-q.is
-    (bind_got _ _ _ read_a ∙ bind_got _ _ _ read-b ∙ bind_got _ _ _ read-p ∙ bind_fault _ _ _ fails)
+returns-in_err-denominator c =
+    read_err _ _ _ c.from_residual-in_err-denominator.ensures.1
+    (bind_got _ _ _ (sym c.in_ok-steps.ensures.means)
+    ∙ bind_got _ _ _ (sym c.in_ok-remainder.ensures.means)
+    ∙ bind_got _ _ _ (sym c.in_ok-numerator.ensures.means)
+    ∙ bind_fault _ _ _ (sym c.in_err-denominator.ensures))
 
 pub returns : goal.returns
 unfolding advanced yield
 returns c =
-    let read_a = answered (byte_of _) c.read_byte_below-a.ensures c.in-Value.is in
-    let read-b = answered (byte_of _) c.read_byte_below-b.ensures c.in-Value-b.is in
-    let read-p = answered (short_of _) c.read_short-p.ensures.means c.in-Value-p.is in
-    let read-q = answered (short_of _) c.read_denominator-q.ensures c.in-Value-q.is in
-    sym (bind_got _ _ _ read_a ∙ bind_got _ _ _ read-b ∙ bind_got _ _ _ read-p ∙ bind_got _ _ _ read-q)
+    sym (bind_got _ _ _ (sym c.in_ok-steps.ensures.means)
+    ∙ bind_got _ _ _ (sym c.in_ok-remainder.ensures.means)
+    ∙ bind_got _ _ _ (sym c.in_ok-numerator.ensures.means)
+    ∙ bind_got _ _ _ (sym c.in_ok-denominator.ensures))

@@ -1,19 +1,12 @@
-use mathlib.Core.Path.{sym, ap, ◌∙◌}
-use Rattle.reading.specs.Places.{byte_of}
-use Rattle.reading.proofs.Places.{such_got, such_not, such_fault, answered}
+use mathlib.Core.Path.{sym, ◌∙◌}
+use Rattle.reading.proofs.Places.{such_got, such_not, such_fault, read_err}
 use Rattle.updates.proofs.update.read_first.Goals as goal
 
-pub returns-in_default : goal.returns-in_default
-returns-in_default c =
-    let fails = answered (byte_of _) c.read_byte-b.ensures.means c.in_default.is in
-    ap (byte_of _) c.in_default.is ∙ sym (such_fault _ _ _ fails)
+pub returns-in_err-first : goal.returns-in_err-first
+returns-in_err-first c = read_err _ _ _ c.from_residual.ensures.1 (such_fault _ _ _ (sym c.in_err-first.ensures.means))
 
 pub returns-then-opens : goal.returns-then-opens
-returns-then-opens c =
-    let read-b = answered (byte_of _) c.read_byte-b.ensures.means c.in-Value.is in
-    sym (such_got _ _ _ read-b (sym c.opens.ensures ∙ c.if-opens.true))
+returns-then-opens c = sym (such_got _ _ _ (sym c.in_ok-first.ensures.means) (sym c.opens.ensures ∙ c.if-opens.true))
 
 pub returns-else-opens : goal.returns-else-opens
-returns-else-opens c =
-    let read-b = answered (byte_of _) c.read_byte-b.ensures.means c.in-Value.is in
-    sym (such_not _ _ _ read-b (sym c.opens.ensures ∙ c.if-opens.false))
+returns-else-opens c = sym (such_not _ _ _ (sym c.in_ok-first.ensures.means) (sym c.opens.ensures ∙ c.if-opens.false))

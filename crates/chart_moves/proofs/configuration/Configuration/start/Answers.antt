@@ -1,8 +1,6 @@
-use lib.IntN.{pos}
-use lib.ListN.{replicate}
-use Rattle.chart_moves.specs.Machine.{start}
+use Rattle.chart_moves.specs.Machine.{zero_configuration, start}
 use Rattle.chart_moves.proofs.configuration.Configuration.start.Goals as goal
 
 pub returns : goal.returns
-unfolding start
-returns c = λ rest k R j. record { active = c.start_active.ensures k R.tabled R.parents R.entry_marks_lem j; variables = replicate 16 (pos 0); clocks = replicate 8 0 }
+unfolding start zero_configuration
+returns c = λ rest k R. rw (c.zero.ensures, c.start_active.ensures k R.tabled R.parents R.entry_marks_lem)

@@ -1,2 +1,0 @@
--- Laws of the loop that moves bytes to the front.
-pub mod Shifts
