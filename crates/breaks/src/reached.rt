@@ -16,7 +16,7 @@ fn breaks_before(ticks: &[u32], end: usize, window: u32) -> usize
     ensures { (1 ≤ result) × (result ≤ end) × (in_window window (at ticks.now (end - result)) (at ticks.now (end - 1)) ≡ true) }
 {
     let last = ticks[end - 1];
-    // Kept as a loop: `partition_point` promises nothing of ticks that do not climb.
+    // A search of its own: `partition_point` promises nothing of ticks that do not climb.
     let mut low = 0;
     let mut high = end - 1;
     while low < high {

@@ -36,7 +36,8 @@ fn transition_at(s: &[u8], at: usize, counts: Counts) -> Read<bool>
     Ok((once, next))
 }
 
-// The transitions that were read: whether all keep rule 13, and where their records stand.
+// The transitions that were read: whether all keep rule 13, and where their records stand. A flag, since the places are said also
+// where it is false (clause `placed`).
 #[derive(Clone, Copy)]
 pub struct Transitions {
     pub once: bool,

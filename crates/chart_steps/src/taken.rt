@@ -67,7 +67,8 @@ fn clocks_after(rest: &[u8], offsets: &[u32], list: &[u16], clocks: [u32; 8]) ->
     after
 }
 
-// The configuration after some transitions, and whether their updates stayed in the range.
+// The configuration after some transitions, and whether their updates stayed in the range: a flag, since the configuration is said
+// also where they did not (clause `configuration`).
 #[derive(Clone, Copy)]
 pub struct Next {
     pub configuration: Configuration,

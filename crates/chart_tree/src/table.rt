@@ -58,6 +58,7 @@ pub fn under(parents: &[u8], m: usize, s: usize) -> bool
     ensures { (c : Chart) → Rooted c parents.now → s < length c.states → result ≡ under c m s }
 {
     let mut x = s;
+    // A loop by `while`: it climbs from parent to parent, and counts no index.
     while x > m {
         let above = byte_at(parents, x) as usize;
         if above >= x {
@@ -68,8 +69,8 @@ pub fn under(parents: &[u8], m: usize, s: usize) -> bool
     x == m
 }
 
-// Whether x, which is not the root, is a child of s. The rules, which are judged on the bytes of the file, and flattening, which
-// asks it also of the root, have functions of their own.
+// Whether x, which is not the root, is a child of s. Flattening, which asks it also of the root, calls this one; the rules, which
+// are judged on the bytes of the file, have a function of their own.
 pub fn is_child(parents: &[u8], s: usize, x: usize) -> bool
     ensures { result ≡ eqb (get_or parents.now x 0) s }
 {

@@ -107,7 +107,7 @@ pub fn reset(bits: u8, clocks: [u32; 8]) -> [u32; 8]
     after
 }
 
-// Numbers of a width, and which of them is 0.
+// A type of numbers, and which of them is 0.
 pub trait IsZero: Copy {
     ghost zero: { Self → Bool };
 

@@ -1,4 +1,4 @@
-// What the programs for people share: printing, the sentences of the refusals, scripts of calls and the machines that they run, files.
+// What the programs share: printing, the lines of refusals, scripts of calls and the machines that they run, files.
 #![tactic(auto)]
 
 pub mod file;

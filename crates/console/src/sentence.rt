@@ -1,4 +1,4 @@
-// The refusals in words, as the README's table has them.
+// The line of a refusal: its number, and the sentence that reading has for it.
 use crate::print::text;
 use reading::refusal::Refusal;
 use std::io;

@@ -43,7 +43,7 @@ impl Case {
     }
 
     fn add_letter(&mut self, b: u8) {
-        if self.letter.is_none() && b != b' ' {
+        if self.letter.is_none() && b != b' ' && b != 0 {
             self.letter = Some(b);
         }
     }

@@ -22,7 +22,7 @@ fn enters(parents: &[u8; 48], entries: &[u16; 48], d: u8, e: u8, s: u8) -> bool
 {
     let top = d as usize;
     let mut x = s as usize;
-    // Kept: it climbs from parent to parent, and counts no index.
+    // A loop by `while`: it climbs from parent to parent, and counts no index.
     while x > top {
         if !has(marks_at(entries, x) as u32, e as u32) {
             return false;

@@ -120,7 +120,7 @@ pub fn from_source(
     }
     let mut sets = [0; 1024];
     let mut listed = [255, 0]; // no exit's
-    // Kept: it goes from departure to departure, and passes over the places between them.
+    // A loop by `while`: it goes from departure to departure, and passes over the places between them.
     while j < places {
         n = to_place(
             heads,

@@ -94,7 +94,10 @@ fn all_assigned(
     let mut place = at;
     for _ in 0..count {
         let Ok((after, next)) = update::updated_at(s, place, version, variables, old, values) else {
-            return unassigned(new);
+            return NewValues {
+                values: old,
+                within: false,
+            };
         };
         values = after.values;
         within = within & after.within;
@@ -157,7 +160,8 @@ fn read_channel(s: &[u8], at: usize, channels: u8, signal: u8) -> Read<u8>
     }
 }
 
-// What is kept of a label that was read: its first fields, where its body stands, and whether it keeps rule 13.
+// What is kept of a label that was read: its first fields, where its body stands, and whether it keeps rule 13: a flag, since the
+// fields are said also where it is false (`label_of`).
 #[derive(Clone, Copy)]
 pub struct Label {
     pub signal: u8,

@@ -56,7 +56,8 @@ fn assigned_by(rest: &[u8], counts: Counts, e: Edge, old: [i32; 16], new: [i32; 
     labels::label::assigned(rest, e.body, counts.limits(), old, new)
 }
 
-// The configuration after some edges, and whether their updates stayed in the range.
+// The configuration after some edges, and whether their updates stayed in the range: a flag, since the configuration is said also
+// where they did not (clause `configuration`).
 #[derive(Clone, Copy)]
 pub struct Next {
     pub configuration: Configuration,

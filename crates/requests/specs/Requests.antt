@@ -82,7 +82,7 @@ request = do
   o ← operation k
   yield (asked file o)
 
--- what the code answers: the parts of a request stand at places of s
+-- what the code answers: the file as a slice, and what is asked of it at places of s
 abbrev pub calls_of : Read (List Call) → List Call
 calls_of (got cs t) = cs
 calls_of (fault f) = []

@@ -147,7 +147,8 @@ fn stored(values: [i32; 16], variable: u8, z: i32) -> [i32; 16]
     next
 }
 
-// The variables after some updates, and whether these stayed in the range.
+// The variables after some updates, and whether these stayed in the range: a flag, since what the variables are is said also where
+// they did not (`new_values`).
 #[derive(Clone, Copy)]
 pub struct NewValues {
     pub values: [i32; 16],

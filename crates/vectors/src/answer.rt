@@ -8,7 +8,7 @@ use std::io;
 use std::io::Write;
 use window::tail;
 
-// Answers a request, whose parts stand at places of s.
+// Answers a request. What follows its file stands at places of s.
 pub fn answer<W: Write>(out: &mut W, s: &[u8], q: Request) -> io::Result<()> {
     let file = q.file;
     match q.operation {

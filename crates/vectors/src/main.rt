@@ -43,7 +43,7 @@ fn answer_whole<W: Write>(out: &mut W, s: &[u8]) -> io::Result<Result<usize, Fau
     ensures { IfOk result (λ r. reached_end r ≤ length s.now) }
 {
     let mut at = 0;
-    // Kept: each request says where the next one begins.
+    // A loop by `while`: each request says where the next one begins.
     while at < s.len() {
         match request::read_request(s, at) {
             Ok((asked, next)) => {

@@ -12,7 +12,7 @@ pub fn fill(input: &mut impl Read, bytes: &mut [u8]) -> io::Result<usize>
     ensures { ReadsAtMost result bytes.new }
 {
     let mut done = 0;
-    // Kept: each read says how many bytes are done.
+    // A loop by `while`: each read says how many bytes are done.
     while done < bytes.len() {
         let n = input.read(&mut bytes[done..])?;
         if n == 0 {
