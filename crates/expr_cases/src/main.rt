@@ -9,14 +9,15 @@ mod moves;
 mod show;
 
 use case::Case;
-use std::alloc::Global;
 use std::io;
 use std::io::Write;
 
 // Answers an operation, known by its first letter, on its numbers.
-fn answer(out: &mut impl Write, alloc: Global, case: &Case) -> io::Result<()> {
-    let numbers = case.bytes(alloc)?;
-    let s = numbers.as_slice();
+fn answer(out: &mut impl Write, case: &Case) -> io::Result<()> {
+    let count = case.count.min(32);
+    let bytes = case.bytes();
+    let shorts = case.shorts();
+    let s = &bytes[..count];
     match case.letter.unwrap_or(0) {
         b'v' => expressions::show_value(out, s),
         b'e' => expressions::show_expression(out, s),
@@ -29,32 +30,32 @@ fn answer(out: &mut impl Write, alloc: Global, case: &Case) -> io::Result<()> {
         b'r' => moves::show_reset(out, case.word(0)),
         b's' => moves::show_set(out, s),
         b'm' => moves::show_maximal(out, s),
-        _ => moves::show_known(out, case.shorts(alloc)?.as_slice()),
+        _ => moves::show_known(out, &shorts[..count]),
     }
 }
 
 // A byte more of a case: its name is shown as it is read, and the case is answered at the end of its line.
-fn read_on(out: &mut impl Write, alloc: Global, case: &mut Case, b: u8) -> io::Result<()> {
+fn read_on(out: &mut impl Write, case: &mut Case, b: u8) -> io::Result<()> {
     if !case.named {
         show::text(out, &[b])?;
         case.add_to_name(b);
         return Ok(());
     }
     if b != b'\n' {
-        case.add(b)?;
+        case.add(b);
         return Ok(());
     }
-    case.close_number()?;
-    answer(out, alloc, case)?;
+    case.close_number();
+    answer(out, case)?;
     show::text(out, b"\n")?;
-    *case = Case::new(alloc);
+    *case = Case::new();
     Ok(())
 }
 
-fn answer_all(out: &mut impl Write, alloc: Global, s: &[u8]) -> io::Result<()> {
-    let mut case = Case::new(alloc);
+fn answer_all(out: &mut impl Write, s: &[u8]) -> io::Result<()> {
+    let mut case = Case::new();
     for b in s {
-        read_on(out, alloc, &mut case, *b)?;
+        read_on(out, &mut case, *b)?;
     }
     Ok(())
 }
@@ -62,5 +63,5 @@ fn answer_all(out: &mut impl Write, alloc: Global, s: &[u8]) -> io::Result<()> {
 fn main(rt: HostRuntime) -> io::Result<()> {
     let mut buffer = [0; 65536];
     let n = window::fill(&mut rt.stdin(), &mut buffer)?;
-    answer_all(&mut rt.stdout(), rt.alloc(), &buffer[..n])
+    answer_all(&mut rt.stdout(), &buffer[..n])
 }
