@@ -1,7 +1,7 @@
 -- Laws of tables of ascending sets: one more is put in, and another order of the same sets makes no difference.
-use mathlib.Core.Path.{◌≡◌, refl, sym, ap, ap₂, ◌∙◌, subst}
+use mathlib.Core.Path.{◌≡◌, refl, sym, ap, ◌∙◌, subst}
 use mathlib.Core.Bool.{Bool, true, false, cond}
-use mathlib.Core.Logic.{inr, ⊎_elim}
+use mathlib.Core.Logic.{inr, ⊎_elim, ◌≢◌}
 use mathlib.Core.List.Memᴰ.{head as here}
 use mathlib.Core.List.Memᴰ.{tail as there}
 use mathlib.Core.List.{List, [], ◌∷◌, ◌++◌, map, append_assoc, map-append, Memᴰ as Mem}
@@ -15,27 +15,25 @@ use native.Mathlib.Omega.{arith}
 use native.Mathlib.Decide.{dec_lt}
 use native.Mathlib.Nat.{min-eq_left, min-eq_right, one-mul, mod-eq_of_lt}
 use native.Mathlib.Numerals.{add-one}
-use borrow.Author.Tests.{eqb-true, ne_eqb, lt-ltb, le-ltb}
-use lib.ListN.{length, get_or, set, take, drop, length-append, length-drop, length-set, length-map}
+use borrow.Author.Tests.{eqb-true, ne_eqb, lt-ltb, le-ltb, ltb-true, ltb-false}
+use lib.ListN.{length, get_or, set, take, drop, length-append, length-drop, length-set, length-map, drop_of_length-le}
 use lib.Bits.{bit_or}
-use lib.Seq.{take-suc, take-set-lt, set-append_seam, take-take, length-take-le, take_all}
-use Rattle.std.proofs.Common.{Ok, Err}
-use Rattle.std.specs.List.{copy_within}
-use Rattle.std.specs.List.Sorted.{IsBinarySearchResult}
-use Rattle.std.specs.Ordering.{nat_cmp}
-use Rattle.std.proofs.lemmas.List.Sorted.{searched}
-use Rattle.std.proofs.lemmas.List.Edits.{take-paste, length-paste}
-use Rattle.std.proofs.lemmas.List.{drop-take}
+use lib.Seq.{take-suc, take-suc-set, take-set-lt, drop-set-lt, take-take, get_or-take, length-take-le, take_all}
+use Rattle.std.specs.List.Sorted.{IsPartitionedBy, IsPartitionPoint}
+use Rattle.std.proofs.lemmas.List.{get_or_default}
+use Rattle.std.proofs.lemmas.List.Sorted.{IsPartitionedBy-ltb}
+use lib.Dec.{ltb}
 use Rattle.lists.specs.Lists.{has, ascending}
 use Rattle.lists.proofs.Ascending.{ascending_tail, ascending_above, ascending_once, ascending_same}
 use Rattle.lists.proofs.Lists.{get_d_mem}
 use Rattle.lists.proofs.Within.{Within, within_both, within_map}
+use Rattle.lists.proofs.Parts.{taken_next}
 use Rattle.lists.proofs.Once.{within_length}
 use Rattle.lists.proofs.Pairwise.{map_once}
 use Rattle.lists.proofs.Bits.{has_one, has_low_lt}
 use Rattle.flattening.specs.Flatten.{insert, sorted}
 use Rattle.flattening.proofs.Sums.{insert_by, sorted_by, sorted_at, sorted_ascending}
-use Rattle.flatten_alternatives.specs.Choosing.{Kept}
+use Rattle.flatten_alternatives.specs.Choosing.{Kept, Splits}
 
 -- one element inserted where it is not the first, by its order to that
 module _ (x y : ℕ) (ys : List ℕ) where
@@ -100,67 +98,95 @@ insert_within : (x : ℕ) (xs : List ℕ) → length (sorted xs) ≤ length (sor
 unfolding sorted
 insert_within x xs = within_length (sorted xs) (insert x (sorted xs)) (ascending_once _ (sorted_ascending xs)) (λ z m. insert_by x (sorted xs) (inr m))
 
--- the table with one more, by what a search for it answers
+-- a number on its way up through a table, from the place i to the place j
+pub record Carried (x : ℕ) (before items : List ℕ) (count i j value : ℕ) : Type 0 where
+  pub long : length items ≡ length before
+  pub so_far : take j items ++ (value ∷ drop j (take count items)) ≡ take i before ++ (x ∷ drop i (take count before))
+
+module _ (x : ℕ) (before : List ℕ) (count i : ℕ) (room : count < length before) (in_front : i ≤ count) where
+  pub carried_first : Carried x before before count i i x
+  carried_first = record { long = refl; so_far = refl }
+
+  module _ (items : List ℕ) (j value : ℕ) (w : Carried x before items count i j value) where
+    pub carried_next : j < count → Carried x before (set items j value) count i (j + 1) (get_or items j 0)
+    carried_next h =
+        let taken : take (j + 1) (set items j value) ≡ take j items ++ (value ∷ []) = rw add-one (take-suc-set items j value (omega (arith, w.long))) in
+        let rest : drop (j + 1) (take count (set items j value)) ≡ drop (j + 1) (take count items) =
+        ap (drop (j + 1)) (take-set-lt count items j value h) ∙ drop-set-lt (j + 1) (take count items) j value (omega arith) in
+        record {
+          long = length-set items j value ∙ w.long;
+          so_far = rw (taken, rest, append_assoc (take j items) (value ∷ []) (get_or items j 0 ∷ drop (j + 1) (take count items)))
+              (ap (λ (r : List ℕ). take j items ++ (value ∷ r)) (sym (taken_next items count (omega (arith, w.long)) j 0 h)) ∙ w.so_far);
+        }
+
+    pub carried_last : j ≡ count → take (count + 1) (set items count value) ≡ take i before ++ (x ∷ drop i (take count before))
+    carried_last e =
+        rw add-one (take-suc-set items count value (omega (arith, w.long)))
+        ∙ ap (λ (r : List ℕ). take count items ++ (value ∷ r)) (sym (drop_of_length-le (take count items) (omega (arith, length-take-le count items (omega (arith, w.long))))))
+        ∙ ap (λ (n : ℕ). take n items ++ (value ∷ drop n (take count items))) (sym e)
+        ∙ w.so_far
+
+-- the table with one more, by the place where it stands or would stand
 module _ (x : ℕ) (xs items : List ℕ) (count : ℕ) where
   pub kept_still : Kept items count xs → 1024 < count → Kept items count (x ∷ xs)
   kept_still k h = let o = kept_over k h in kept_many k.long o.0 (omega (arith, o.1, insert_within x xs))
 
-  -- a search for x answers where it stands, or where it would
-  module _ (room : count ≤ 1024) (k : Kept items count xs) (i : ℕ) where
+  module _ (room : count ≤ 1024) (k : Kept items count xs) where
     stand : take count items ≡ sorted xs
     stand = (kept_at k room).1
+
+    long : length (take count items) ≡ count
+    long = length-take-le count items (omega (arith, k.long))
 
     rise : (i j : ℕ) → i ≤ j → j < length (take count items) → get_or (take count items) i 0 ≤ get_or (take count items) j 0
     rise = rising (take count items) (subst (λ (l : List ℕ). ascending l ≡ true) (sym stand) (sorted_ascending xs))
 
-    pub kept_found : IsBinarySearchResult (λ y. nat_cmp y x) (take count items) (Ok i) → Kept items count (x ∷ xs)
-    kept_found f =
-        let s = searched (take count items) x (Ok i) f rise in
-        let m : Mem x xs = sorted_at xs (subst (λ (l : List ℕ). Mem x l) stand (subst (λ (y : ℕ). Mem y (take count items)) s.1 (get_d_mem (take count items) i 0 s.0))) in
-        kept_same (x ∷ xs) k (λ z n. there n) (λ z n. ⊎_elim (λ e. subst (λ (y : ℕ). Mem y xs) (sym e) m) (λ n. n) (cases_cons n))
+    -- what is asked of a search by the smaller ones
+    pub parted : IsPartitionedBy (λ y. ltb y x) (take count items)
+    parted = IsPartitionedBy-ltb (λ n. n) (take count items) x (λ i j d h l. omega (arith, rise i j h l, get_or_default (take count items) i d 0 (omega arith), get_or_default (take count items) j d 0 l))
 
-    module _ (f : IsBinarySearchResult (λ y. nat_cmp y x) (take count items) (Err i)) where
-      fits : i ≤ length (take count items)
-      fits = (searched (take count items) x (Err i) f rise).0
+    -- the end, where the last is smaller
+    pub splits_end : (count ≡ 0 → ⊥) → get_or items (count - 1) 0 < x → Splits x (take count items) count
+    splits_end d h = record {
+      fits = omega (arith, long);
+      before = λ i l. omega (arith, rise i (count - 1) (omega arith) (omega (arith, long)), (let z : get_or (take count items) (count - 1) 0 ≡ get_or items (count - 1) 0 = get_or-take count items (count - 1) 0 (omega arith) in z));
+      from = λ i l m. absurd (omega (arith, long));
+    }
 
-      inserted : sorted (x ∷ xs) ≡ take i (take count items) ++ (x ∷ drop i (take count items))
-      unfolding sorted
-      inserted = let s = searched (take count items) x (Err i) f rise in ap (insert x) (sym stand) ∙ insert_at x (take count items) i s.0 s.1 s.2
+    pub splits_none : count ≡ 0 → Splits x (take count items) count
+    splits_none e = record { fits = omega (arith, long); before = λ i l. absurd (omega arith); from = λ i l m. absurd (omega (arith, long)) }
 
-      longer : length (sorted (x ∷ xs)) ≡ count + 1
-      longer = ap length inserted ∙ omega (arith, fits, length-append (take i (take count items)) (x ∷ drop i (take count items)), length-take-le i (take count items) fits, length-drop i (take count items), length-take-le count items (omega (arith, k.long)))
+    -- the place that a search by the smaller ones finds
+    pub splits_by : (i : ℕ) → IsPartitionPoint (λ y. ltb y x ≡ true) (λ y. ltb y x ≡ false) (take count items) i → i ≤ length (take count items) → Splits x (take count items) i
+    splits_by i p h = record { fits = h; before = λ j l. ltb-true _ _ (p.0 j 0 (omega arith) l); from = λ j l m. ltb-false _ _ (p.1 j 0 l m) }
 
-      pub kept_full : count ≡ 1024 → Kept items 1025 (x ∷ xs)
-      kept_full e = kept_many k.long refl (omega (arith, longer))
+    module _ (i : ℕ) (s : Splits x (take count items) i) where
+      pub kept_found : i < count → get_or items i 0 ≡ x → Kept items count (x ∷ xs)
+      kept_found h e =
+          let at : get_or (take count items) i 0 ≡ x = get_or-take count items i 0 h ∙ e in
+          let m : Mem x xs = sorted_at xs (subst (λ (l : List ℕ). Mem x l) stand (subst (λ (y : ℕ). Mem y (take count items)) at (get_d_mem (take count items) i 0 (omega (arith, long))))) in
+          kept_same (x ∷ xs) k (λ z n. there n) (λ z n. ⊎_elim (λ e. subst (λ (y : ℕ). Mem y xs) (sym e) m) (λ n. n) (cases_cons n))
 
-      module _ (h : count ≡ 1024 → ⊥) {moved : List ℕ} (e : moved ≡ copy_within items i count (i + 1)) where
-        few : i ≤ count
-        few = omega (arith, fits, length-take-le count items (omega (arith, k.long)))
+      module _ (apart : i < count → get_or items i 0 ≡ x → ⊥) where
+        above : (j : ℕ) → i ≤ j → j < length (take count items) → x < get_or (take count items) j 0
+        above j l m =
+            let here : get_or (take count items) i 0 ≡ get_or items i 0 = get_or-take count items i 0 (omega (arith, long)) in
+            let less : get_or (take count items) i 0 ≢ x = λ e. apart (omega (arith, long)) (sym here ∙ e) in
+            omega (arith, s.from i (omega arith) (omega arith), rise i j l m, less)
 
-        front : take (i + 1) items ≡ take i (take count items) ++ (get_or items i 0 ∷ [])
-        front = rw (add-one, take-suc items i 0 (omega (arith, few, h, k.long))) (ap (λ (l : List ℕ). l ++ (get_or items i 0 ∷ [])) (sym (take-take i count items few)))
+        inserted : sorted (x ∷ xs) ≡ take i (take count items) ++ (x ∷ drop i (take count items))
+        unfolding sorted
+        inserted = ap (insert x) (sym stand) ∙ insert_at x (take count items) i s.fits s.before above
 
-        back : take (count - i) (drop i items) ≡ drop i (take count items)
-        back = sym (drop-take i (count - i) items) ∙ ap (λ (n : ℕ). drop i (take n items)) (let z : i + (count - i) ≡ count = omega (arith, few) in z)
+        longer : length (sorted (x ∷ xs)) ≡ count + 1
+        longer = ap length inserted ∙ omega (arith, s.fits, length-append (take i (take count items)) (x ∷ drop i (take count items)), length-take-le i (take count items) s.fits, length-drop i (take count items), long)
 
-        moved_up : take (count + 1) moved ≡ take i (take count items) ++ (get_or items i 0 ∷ drop i (take count items))
-        moved_up =
-            ap (λ (n : ℕ). take n moved) (let z : count + 1 ≡ i + 1 + (count - i) = omega (arith, few) in z)
-            ∙ ap (take (i + 1 + (count - i))) e
-            ∙ take-paste items (i + 1) (drop i items) (count - i) (omega (arith, few, h, k.long)) (omega (arith, length-drop i items, k.long))
-            ∙ ap₂ ◌++◌ front back
-            ∙ append_assoc (take i (take count items)) (get_or items i 0 ∷ []) (drop i (take count items))
+        pub kept_full : count ≡ 1024 → Kept items 1025 (x ∷ xs)
+        kept_full e = kept_many k.long refl (omega (arith, longer))
 
-        pub kept_more : Kept (set moved i x) (count + 1) (x ∷ xs)
-        kept_more = kept_few
-            (length-set moved i x ∙ ap length e ∙ length-paste items (i + 1) (drop i items) (count - i) (omega (arith, few, h, k.long)) (omega (arith, length-drop i items, k.long)) ∙ k.long)
-            (sym longer)
-            (omega arith)
-            (take-set-lt (count + 1) moved i x (omega (arith, few))
-            ∙ ap (λ (l : List ℕ). set l i x) moved_up
-            ∙ ap (λ (n : ℕ). set (take i (take count items) ++ (get_or items i 0 ∷ drop i (take count items))) n x) (sym (length-take-le i (take count items) fits))
-            ∙ set-append_seam (take i (take count items)) (get_or items i 0) (drop i (take count items)) x
-            ∙ sym inserted)
+        pub kept_more : (after : List ℕ) → length after ≡ 1024 → (count ≡ 1024 → ⊥) → take (count + 1) after ≡ take i items ++ (x ∷ drop i (take count items)) → Kept after (count + 1) (x ∷ xs)
+        kept_more after n h e = kept_few n (sym longer) (omega arith)
+            (e ∙ ap (λ (l : List ℕ). l ++ (x ∷ drop i (take count items))) (sym (take-take i count items (omega (arith, s.fits, long)))) ∙ sym inserted)
 
 -- an element in front, and at the end of the first part
 module _ (ps qs : List ℕ) where

@@ -26,6 +26,12 @@ pub record Kept (items : List ℕ) (count : ℕ) (xs : List ℕ) : Type 0 where
   pub counted : count ≡ min (length (sorted xs)) 1025
   pub stand : length (sorted xs) ≤ 1024 → take (length (sorted xs)) items ≡ sorted xs
 
+-- numbers with the smaller ones than x before a place, and none of them from it on
+pub record Splits (x : ℕ) (l : List ℕ) (i : ℕ) : Type 0 where
+  pub fits : i ≤ length l
+  pub before : (k : ℕ) → k < i → get_or l k 0 < x
+  pub from : (k : ℕ) → i ≤ k → k < length l → x ≤ get_or l k 0
+
 -- no automaton at or below s is in one of the sets
 pub record Clear (c : Chart) (s : ℕ) (xs : List ℕ) : Type 0 where
   pub clear : (x : ℕ) → Mem x xs → (q : ℕ) → q < length c.states → sequential c q ≡ true → under c s q ≡ true → has x (automaton c q) ≡ false

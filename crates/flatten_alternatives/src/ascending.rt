@@ -1,6 +1,32 @@
 // Tables of ascending numbers, each once.
-ghost use Rattle.std.specs.Prelude.{List, ◌∷◌, ℕ};
-ghost use Rattle.flatten_alternatives.specs.Choosing.{Kept};
+ghost use Rattle.std.specs.Prelude.{◌≡◌, ◌≤◌, ◌<◌, ◌+◌, ◌++◌, List, ◌∷◌, ℕ, take, drop};
+ghost use Rattle.flatten_alternatives.specs.Choosing.{Kept, Splits};
+
+// Where a number stands, or where it would. Most numbers come in ascending order, so the end is tried first.
+fn place_of(items: &[u16; 1024], count: usize, x: u16) -> usize
+    requires { count ≤ 1024 }
+    ensures within { result ≤ count }
+    ensures place { (xs : List ℕ) → Kept items.now count xs → Splits x (take count items.now) result }
+{
+    if count == 0 || items[count - 1] < x {
+        return count;
+    }
+    items[..count].partition_point(|y| *y < x)
+}
+
+// A number put in at a place; those from there on move up. At the end, where most are put, nothing moves.
+fn put_in(items: &mut [u16; 1024], count: usize, at: usize, x: u16)
+    requires { (at ≤ count) × (count < 1024) }
+    ensures { take (count + 1) items.new ≡ take at items.old ++ (x ∷ drop at (take count items.old)) }
+{
+    let mut value = x;
+    for i in at..count {
+        let above = items[i];
+        items[i] = value;
+        value = above;
+    }
+    items[count] = value;
+}
 
 // The numbers with one more; 1,025 of them if there are too many.
 pub fn with_number(items: &mut [u16; 1024], count: usize, x: u16) -> usize
@@ -9,13 +35,13 @@ pub fn with_number(items: &mut [u16; 1024], count: usize, x: u16) -> usize
     if count > 1024 {
         return count;
     }
-    match items[..count].binary_search(&x) {
-        Ok(_) => count,
-        Err(_) if count == 1024 => 1025,
-        Err(i) => {
-            items.copy_within(i..count, i + 1);
-            items[i] = x;
-            count + 1
-        }
+    let at = place_of(items, count, x);
+    if at < count && items[at] == x {
+        return count; // it stands there
     }
+    if count == 1024 {
+        return 1025;
+    }
+    put_in(items, count, at, x);
+    count + 1
 }

@@ -91,7 +91,7 @@ fn sets_by(
 pub fn bear(
     heads: &mut [u8; 13312],
     count: u16,
-    t: Tables,
+    t: &Tables,
     exits: &[u8; 192],
     homes: &[u8; 192],
     rest: &[u8],
@@ -102,7 +102,7 @@ pub fn bear(
     sets: &mut [u16; 1024],
     listed: &mut [usize; 2],
 ) -> u16
-    ensures { Bears t exits.now homes.now rest.now offsets.now i j u
+    ensures { Bears t.now exits.now homes.now rest.now offsets.now i j u
         heads.old count heads.new result
         sets.old listed.old sets.new listed.new }
 {

@@ -46,14 +46,14 @@ fn pair_position(states: &[u8; 64], marks: &[u8; 64], pairs: u8, state: u8, mark
 fn to_child(
     heads: &mut [u8; 13312],
     count: u16,
-    t: Tables,
+    t: &Tables,
     exits: &[u8; 192],
     homes: &[u8; 192],
     i: u8,
     q: u8,
     s: u8,
 ) -> u16
-    ensures { (c : Chart) → Tabulated c t → Spread c exits.now homes.now
+    ensures { (c : Chart) → Tabulated c t.now → Spread c exits.now homes.now
         → Mem (idle q) (all_places c) → i ≡ number c (idle q) → Mem (child s) (all_places c) → parent_of c s ≡ q
         → Adds heads.old count heads.new result (entry_edges c q s) }
 {
@@ -83,13 +83,13 @@ fn to_child(
 fn from_idle(
     heads: &mut [u8; 13312],
     count: u16,
-    t: Tables,
+    t: &Tables,
     exits: &[u8; 192],
     homes: &[u8; 192],
     i: u8,
     q: u8,
 ) -> u16
-    ensures { (c : Chart) → Tabulated c t → Spread c exits.now homes.now → Mem (idle q) (all_places c) → i ≡ number c (idle q) → Adds heads.old count heads.new result (from_place c (idle q)) }
+    ensures { (c : Chart) → Tabulated c t.now → Spread c exits.now homes.now → Mem (idle q) (all_places c) → i ≡ number c (idle q) → Adds heads.old count heads.new result (from_place c (idle q)) }
 {
     let mut n = count;
     for s in 0..t.tree.states {
@@ -104,14 +104,14 @@ fn from_idle(
 fn from_pre(
     heads: &mut [u8; 13312],
     count: u16,
-    t: Tables,
+    t: &Tables,
     exits: &[u8; 192],
     homes: &[u8; 192],
     i: u8,
     state: u8,
     mark: u8,
 ) -> u16
-    ensures { (c : Chart) (p : Pair) → Tabulated c t → Spread c exits.now homes.now
+    ensures { (c : Chart) (p : Pair) → Tabulated c t.now → Spread c exits.now homes.now
         → Mem (pre p) (all_places c) → i ≡ number c (pre p) → state ≡ p.state → mark ≡ p.mark
         → Adds heads.old count heads.new result (from_place c (pre p)) }
 {
@@ -136,13 +136,13 @@ fn from_pre(
 fn from_post(
     heads: &mut [u8; 13312],
     count: u16,
-    t: Tables,
+    t: &Tables,
     exits: &[u8; 192],
     homes: &[u8; 192],
     i: u8,
     u: u8,
 ) -> u16
-    ensures { (c : Chart) → Tabulated c t → Spread c exits.now homes.now → Mem (post u) (all_places c) → i ≡ number c (post u) → Adds heads.old count heads.new result (from_place c (post u)) }
+    ensures { (c : Chart) → Tabulated c t.now → Spread c exits.now homes.now → Mem (post u) (all_places c) → i ≡ number c (post u) → Adds heads.old count heads.new result (from_place c (post u)) }
 {
     let e = joining(
         exits,
@@ -168,13 +168,13 @@ fn from_post(
 fn to_idle(
     heads: &mut [u8; 13312],
     count: u16,
-    t: Tables,
+    t: &Tables,
     exits: &[u8; 192],
     homes: &[u8; 192],
     i: u8,
     s: u8,
 ) -> u16
-    ensures { (c : Chart) → Tabulated c t → Spread c exits.now homes.now
+    ensures { (c : Chart) → Tabulated c t.now → Spread c exits.now homes.now
         → Mem (child s) (all_places c) → i ≡ number c (child s)
         → Adds heads.old count heads.new result (exit_edges c s (parent_of c s)) }
 {
@@ -201,7 +201,7 @@ fn to_idle(
 fn from_child(
     heads: &mut [u8; 13312],
     count: u16,
-    t: Tables,
+    t: &Tables,
     exits: &[u8; 192],
     homes: &[u8; 192],
     rest: &[u8],
@@ -210,7 +210,7 @@ fn from_child(
     i: u8,
     s: u8,
 ) -> u16
-    ensures { (c : Chart) (n : Counts) → Tabulated c t → Spread c exits.now homes.now
+    ensures { (c : Chart) (n : Counts) → Tabulated c t.now → Spread c exits.now homes.now
         → Laid rest.now n offsets.now c → places ≡ length (all_places c)
         → Mem (child s) (all_places c) → i ≡ number c (child s)
         → Adds heads.old count heads.new result (from_place c (child s)) }
@@ -223,7 +223,7 @@ fn from_child(
 fn from_place(
     heads: &mut [u8; 13312],
     count: u16,
-    t: Tables,
+    t: &Tables,
     exits: &[u8; 192],
     homes: &[u8; 192],
     rest: &[u8],
@@ -234,7 +234,7 @@ fn from_place(
     value: u8,
     mark: u8,
 ) -> u16
-    ensures { (c : Chart) (n : Counts) (p : Place) → Tabulated c t → Spread c exits.now homes.now
+    ensures { (c : Chart) (n : Counts) (p : Place) → Tabulated c t.now → Spread c exits.now homes.now
         → Laid rest.now n offsets.now c → places ≡ length (all_places c)
         → Mem p (all_places c) → i ≡ number c p → kind ≡ kind_of p → value ≡ value_of p → mark ≡ mark_of p
         → Adds heads.old count heads.new result (from_place c p) }
@@ -252,12 +252,12 @@ fn from_place(
 // The edges of the network, one after the other: how many, or 1025 if they are too many.
 pub fn all_edges(
     heads: &mut [u8; 13312],
-    t: Tables,
+    t: &Tables,
     places: Places,
     rest: &[u8],
     offsets: &[u32],
 ) -> u16
-    ensures { (c : Chart) (n : Counts) → Tabulated c t → Listed c (all_places c) places → Laid rest.now n offsets.now c → length heads.old ≡ 13312 → Gathered heads.new result (flatten c).edges }
+    ensures { (c : Chart) (n : Counts) → Tabulated c t.now → Listed c (all_places c) places → Laid rest.now n offsets.now c → length heads.old ≡ 13312 → Gathered heads.new result (flatten c).edges }
 {
     let mut n = 0;
     for i in 0..places.count {

@@ -67,7 +67,7 @@ fn next_departure(departures: &[u8; 64], items: &[u8; 64], count: u8, from: u8) 
 fn to_place(
     heads: &mut [u8; 13312],
     count: u16,
-    t: Tables,
+    t: &Tables,
     exits: &[u8; 192],
     homes: &[u8; 192],
     rest: &[u8],
@@ -79,7 +79,7 @@ fn to_place(
     sets: &mut [u16; 1024],
     listed: &mut [usize; 2],
 ) -> u16
-    ensures { BearsAll t exits.now homes.now rest.now offsets.now items.now size i j
+    ensures { BearsAll t.now exits.now homes.now rest.now offsets.now items.now size i j
         heads.old count heads.new result
         sets.old listed.old sets.new listed.new }
 {
@@ -99,7 +99,7 @@ fn to_place(
 pub fn from_source(
     heads: &mut [u8; 13312],
     count: u16,
-    t: Tables,
+    t: &Tables,
     exits: &[u8; 192],
     homes: &[u8; 192],
     rest: &[u8],
@@ -108,7 +108,7 @@ pub fn from_source(
     i: u8,
     s: u8,
 ) -> u16
-    ensures { (c : Chart) (counts : Counts) → Tabulated c t → Spread c exits.now homes.now
+    ensures { (c : Chart) (counts : Counts) → Tabulated c t.now → Spread c exits.now homes.now
         → Laid rest.now counts offsets.now c → places ≡ length (all_places c) → i ≡ number c (child s)
         → Adds heads.old count heads.new result (concat (bearing_all c s) (all_places c)) }
 {

@@ -1,13 +1,12 @@
 -- Bytes written over others, one after the other.
-use mathlib.Core.Path.{◌≡◌, refl, sym, ap, ◌∙◌}
+use mathlib.Core.Path.{◌≡◌, refl, sym, ap, ◌∙◌, subst}
 use mathlib.Core.List.{List, [], ◌∷◌, ◌++◌, append_assoc}
 use Prim.Native.Nat.{ℕ, ◌+◌, ◌/◌, ◌%◌, ◌^◌, ◌≤◌, ◌<◌}
 use native.Mathlib.Omega.{arith}
-use native.Mathlib.Nat.{add-zero}
+use native.Mathlib.Nat.{add-zero, add_assoc}
 use native.Mathlib.Numerals.{add-one}
-use borrow.Rule.Slice.PartMut.{put_mid}
-use lib.ListN.{length, take, drop, set, length-append, length-drop, take-append-drop}
-use lib.Seq.{length-take-le, take_at, drop-append-add, drop-drop, set_split}
+use lib.ListN.{length, get_or, take, drop, set, length-set, length-append, length-drop, take-append-drop}
+use lib.Seq.{length-take-le, take_at, drop-append-add, drop-drop, set_split, take-suc, get_or-drop}
 use Rattle.flattening.specs.File.{out2, out4}
 use Rattle.flattener.specs.Writing.{overlay, Wrote, part}
 
@@ -70,22 +69,42 @@ wrote_then {s} {at} {xs} {t} {n} {ys} {u} {m} a b = record {
     fits : at + length (xs ++ ys) ≤ length s → n + length ys ≤ length t
     fits h = omega (arith, length-append xs ys, a.place (first h), ap length (a.bytes (first h)), overlay_length s at xs (first h))
 
--- a part of other bytes
+-- a part of other bytes, one byte after the other
+pub part_none : (s : List ℕ) (start : ℕ) → part s start 0 ≡ []
+unfolding part
+part_none s start = refl
+
+pub part_more : (s : List ℕ) (start i : ℕ) → start + i < length s → part s start (i + 1) ≡ part s start i ++ (get_or s (start + i) 0 ∷ [])
+unfolding part
+part_more s start i h = rw (add-one) (take-suc (drop start s) i 0 (omega (arith, length-drop start s)) ∙ ap (λ (b : ℕ). take i (drop start s) ++ (b ∷ [])) (get_or-drop start s i 0))
+
 pub part_length : (s : List ℕ) (start size : ℕ) → start + size ≤ length s → length (part s start size) ≡ size
 unfolding part
 part_length s start size h = length-take-le size (drop start s) (omega (arith, length-drop start s))
 
--- it is written over as many bytes
-pub part_written : (s : List ℕ) (at : ℕ) (from : List ℕ) (start size : ℕ) {k : ℕ} {ys : List ℕ} → start + size ≤ length from → k ≡ size → ys ≡ part from start size → Wrote s at (part from start size) (put_mid at k s ys) (at + size)
-unfolding overlay
-part_written s at from start size {k} {ys} h e f =
-    let long = part_length from start size h in
-    record {
-      bytes = λ z.
-          ap (λ (l : List ℕ). take at s ++ (l ++ drop k (drop at s))) f
-          ∙ ap (λ (l : List ℕ). take at s ++ (part from start size ++ l)) (drop-drop k at s ∙ ap (λ (i : ℕ). drop i s) (let z : at + k ≡ at + length (part from start size) = omega (arith, long) in z));
-      place = λ z. omega (arith, long);
-    }
+-- the first i bytes of a part of `size` are written over s, which is now t
+pub record Copying (s : List ℕ) (at : ℕ) (from : List ℕ) (start size : ℕ) (t : List ℕ) (i : ℕ) : Type 0 where
+  pub there : start + size ≤ length from
+  pub room : at + size ≤ length s
+  pub few : i ≤ size
+  pub long : length t ≡ length s
+  pub so_far : Wrote s at (part from start i) t (at + i)
+
+pub copying_none : (s : List ℕ) (at : ℕ) (from : List ℕ) (start size : ℕ) → start + size ≤ length from → at + size ≤ length s → Copying s at from start size s 0
+copying_none s at from start size h k = record { there = h; room = k; few = omega arith; long = refl; so_far = rw (part_none from start, add-zero at) (wrote_none s at) }
+
+pub copying_more : (s : List ℕ) (at : ℕ) (from : List ℕ) (start size : ℕ) (t : List ℕ) (i : ℕ) → Copying s at from start size t i → i < size
+    → Copying s at from start size (set t (at + i) (get_or from (start + i) 0)) (i + 1)
+copying_more s at from start size t i w h = record {
+  there = w.there;
+  room = w.room;
+  few = omega arith;
+  long = length-set t (at + i) (get_or from (start + i) 0) ∙ w.long;
+  so_far = rw (part_more from start i (omega (arith, w.there)), sym (add_assoc at i 1)) (wrote_then w.so_far (wrote_one t (at + i) (get_or from (start + i) 0) (omega (arith, w.long, w.room))));
+}
+
+pub copying_all : (s : List ℕ) (at : ℕ) (from : List ℕ) (start size : ℕ) (t : List ℕ) (i : ℕ) → Copying s at from start size t i → size ≤ i → Wrote s at (part from start size) t (at + size)
+copying_all s at from start size t i w h = subst (λ (n : ℕ). Wrote s at (part from start n) t (at + n)) (let z : i ≡ size = omega (arith, w.few) in z) w.so_far
 
 -- it does not fit
 pub part_not : (s : List ℕ) (at : ℕ) (from : List ℕ) (start size : ℕ) (t : List ℕ) (end : ℕ) → length s < at + size → start + size ≤ length from → Wrote s at (part from start size) t end

@@ -70,7 +70,7 @@ fn flatten_checked(
     let tables = tables_of(counts, tree, fixed, transitions, automata, enters, places);
     let summary = summary_of(counts, tables, places);
     let mut heads = [0; 13312];
-    let edges = all_edges(&mut heads, tables, places, rest, offsets);
+    let edges = all_edges(&mut heads, &tables, places, rest, offsets);
     deliver(out, summary, &heads, edges, rest, offsets)
 }
 

@@ -30,7 +30,7 @@ pub fn put_word(out: &mut [u8], at: usize, n: usize) -> usize
     put_short(out, next, n)
 }
 
-// So many bytes of others, from a place of theirs on.
+// So many bytes of others, from a place of theirs on. A loop, since a copy of std's would call C's memmove.
 pub fn copy(out: &mut [u8], at: usize, from: &[u8], start: usize, size: usize) -> usize
     ensures { start + size ≤ length from.now → Wrote out.old at (part from.now start size) out.new result }
 {
@@ -40,6 +40,8 @@ pub fn copy(out: &mut [u8], at: usize, from: &[u8], start: usize, size: usize) -
     if out.len() < size || out.len() - size < at {
         return at;
     }
-    out[at..at + size].copy_from_slice(&from[start..start + size]);
+    for i in 0..size {
+        out[at + i] = from[start + i];
+    }
     at + size
 }

@@ -1,9 +1,5 @@
 use native.Mathlib.Omega.{arith}
-use mathlib.Core.Path.{◌≡◌, ap, ◌∙◌}
-use Prim.Native.Nat.{ℕ, ◌+◌, ◌-◌}
-use lib.ListN.{take, drop}
-use Rattle.flattener.specs.Writing.{part}
-use Rattle.flattener.proofs.Writing.{part_written, part_not}
+use Rattle.flattener.proofs.Writing.{copying_none, copying_more, copying_all, part_not}
 use Rattle.flattener.proofs.write.copy.Goals as goal
 use Rattle.flattener.proofs.write.copy.Goals.{then-out-size-via-then-out-size, then-out-size-via-else-out-size+then-out-size-2}
 
@@ -14,7 +10,11 @@ returns-then-out-size c h =
       | then-out-size-via-else-out-size+then-out-size-2 w ↦ part_not _ _ _ _ _ _ _ (omega arith) h
     ]
 
+pub loop-i-init : goal.loop-i-init
+loop-i-init c = copying_none _ _ _ _ _ (omega arith) (omega arith)
+
+pub loop-i-preserved : goal.loop-i-preserved
+loop-i-preserved c = copying_more _ _ _ _ _ _ _ c.loop-i.invariant c.loop-i-test.true
+
 pub returns : goal.returns
-unfolding part
-returns c h = part_written _ _ _ _ _ h (omega arith)
-    (c.copy_from_slice.ensures.after ∙ ap (λ (n : ℕ). take n (drop c.args.start c.args.from.now)) (let z : c.args.start + c.args.size - c.args.start ≡ c.args.size = omega arith in z))
+returns c h = copying_all _ _ _ _ _ _ _ c.loop-i.invariant c.loop-i-test.false
