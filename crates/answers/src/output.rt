@@ -3,7 +3,6 @@ ghost use Rattle.std.specs.Prelude.{◌≡◌};
 ghost use Rattle.numbers.specs.Integer.{signed};
 
 use crate::checksum::checksum;
-use reading::refusal::Refusal;
 use std::io;
 use std::io::Write;
 
@@ -16,8 +15,9 @@ pub fn number(out: &mut impl Write, n: u64) -> io::Result<()> {
 }
 
 // A refusal is its number.
-pub fn refusal(out: &mut impl Write, r: Refusal) -> io::Result<()> {
-    writeln!(out, "{}", r.number())
+pub fn refusal(out: &mut impl Write, k: impl Into<u8>) -> io::Result<()> {
+    let k: u8 = k.into();
+    writeln!(out, "{k}")
 }
 
 // The end of a run on input that is not made of whole requests.

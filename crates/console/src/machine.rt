@@ -71,7 +71,7 @@ pub fn answer<M: Machine>(
 }
 
 // What a refused call leaves: the configuration that it was called on, and of a start none.
-fn kept<M: Machine>(c: M::Configuration, call: Call) -> M::Configuration
+pub fn kept<M: Machine>(c: M::Configuration, call: Call) -> M::Configuration
     ensures { result ≡ kept_by M.operations c call }
 {
     match call {

@@ -4,13 +4,18 @@ use reading::refusal::Refusal;
 use std::io;
 use std::io::Write;
 
-// A line with the number of a refusal and its sentence.
-pub fn refusal(out: &mut impl Write, r: Refusal) -> io::Result<()> {
-    writeln!(out, "refused {}: {r}", r.number())
+// A line with the number of a refusal and its sentence; with a number of none, there is no sentence.
+pub fn refusal(out: &mut impl Write, k: impl Into<u8>) -> io::Result<()> {
+    let k: u8 = k.into();
+    match Refusal::of(k) {
+        Some(r) => writeln!(out, "refused {k}: {r}"),
+        None => writeln!(out, "refused {k}: "),
+    }
 }
 
 // The same below the call that is refused.
-pub fn refused_call(out: &mut impl Write, r: Refusal) -> io::Result<()> {
+pub fn refused_call(out: &mut impl Write, k: impl Into<u8>) -> io::Result<()> {
+    let k: u8 = k.into();
     text(out, b"  ")?;
-    refusal(out, r)
+    refusal(out, k)
 }

@@ -14,7 +14,7 @@ use crate::guard;
 use reading::field;
 use reading::field::{Fault, Read};
 use updates::update;
-use updates::update::NewValues;
+pub use updates::update::NewValues;
 
 // What the labels of a file may hold: its version, and how many clocks and variables there are.
 #[derive(Clone, Copy)]

@@ -6,7 +6,7 @@
 // carries a transition is accepted. Of bytes that flattening did not write nothing is said, and each call ends all the same.
 ghost use Rattle.std.specs.Prelude.{◌≡◌, ◌-◌, ◌≤◌, List, []};
 ghost use Rattle.reading.specs.Answer.{done, refused};
-ghost use Rattle.reading.specs.Verdict.{answer_of, number};
+ghost use Rattle.reading.specs.Verdict.{answer_of, number, or_kept};
 ghost use Rattle.chart_records.specs.Chart.{Chart};
 ghost use Rattle.chart_records.specs.Rules.{chart_of};
 ghost use Rattle.network_records.specs.Network.{Network};
@@ -62,9 +62,11 @@ pub struct Followed {
     pub run: Run,
 }
 
-// Both machines start.
+// Both machines start. A start that is refused answers the configuration that is all 0.
 pub fn start(file: &[u8], bytes: &[u8]) -> Run
-    ensures { (c : Chart) (n : Network) → Flattening file.now bytes.now c n → Stands result (agreed.run c n []) }
+    ensures stands { (c : Chart) (n : Network) → Flattening file.now bytes.now c n → Stands result (agreed.run c n []) }
+    ensures network { result.network ≡ or_kept network.zero_configuration (network.start_of bytes.now) }
+    ensures chart { result.chart ≡ or_kept chart.zero_configuration (chart.start_of file.now) }
 {
     let network = network_machine::operation::start(bytes).unwrap_or(NetworkConfiguration::zero());
     let chart = chart_machine::operation::start(file).unwrap_or(ChartConfiguration::zero());

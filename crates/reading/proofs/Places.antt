@@ -2,11 +2,13 @@
 use mathlib.Core.Path.{◌≡◌, refl, sym, ap, ◌∙◌}
 use mathlib.Core.Bool.{Bool, true, false, cond}
 use mathlib.Core.List.{List}
-use Prim.Native.Nat.{ℕ, ◌+◌, ◌*◌, ◌-◌, ◌≤◌, ◌<◌}
+use Prim.Native.Nat.{ℕ, ◌+◌, ◌*◌, ◌-◌, ◌≤◌, ◌<◌, min}
 use native.Mathlib.Omega.{arith}
+use native.Mathlib.Decide.{dec_le}
+use native.Mathlib.Nat.{min-eq_left, min-eq_right}
 use borrow.Author.Tests.{le-leb, lt-leb, eq-eqb, ne_eqb, ltb-true, ltb-false}
 use lib.Dec.{ltb}
-use lib.ListN.{length, get_or, take, drop, length-drop}
+use lib.ListN.{length, get_or, take, drop, length-drop, drop_of_length-le}
 use lib.Seq.{get_or-drop, drop-drop, take_all}
 use Rattle.std.specs.Prelude.{Result, Ok, Err}
 use Rattle.std.specs.Result.{IsErrAnd}
@@ -35,6 +37,14 @@ get_d_here s at = get_d_onward s at 0 ∙ ap (λ (i : ℕ). get_or s i 0) (omega
 pub onward_all : (s : List ℕ) → onward s 0 ≡ s
 unfolding onward
 onward_all s = refl
+
+-- past the end nothing is left, so a place there stands for the end
+pub got_within : {A : Type 0} {a : A} (s : List ℕ) (at : ℕ) {from : ℕ} → from ≡ min at (length s) → got a (onward s at) ≡ got a (onward s from)
+unfolding onward
+got_within {a = a} s at {from} e = ap (got a) (elim (dec_le at (length s)) [
+  | yes h ↦ ap (λ (n : ℕ). drop n s) (sym (e ∙ min-eq_left h))
+  | no h ↦ drop_of_length-le s (omega arith) ∙ sym (drop_of_length-le s (let z : length s ≤ from = omega (arith, e ∙ min-eq_right (let y : length s ≤ at = omega arith in y)) in z))
+])
 
 pub length_onward : (s : List ℕ) (at : ℕ) → length (onward s at) ≡ length s - at
 unfolding onward

@@ -2,10 +2,42 @@
 use mathlib.Core.Path.{◌≡◌, refl, sym, ap, ◌∙◌}
 use Prim.Native.Nat.{ℕ}
 use native.Mathlib.Omega.{arith}
-use Rattle.std.specs.Prelude.{Result, Ok, Err}
+use Rattle.std.specs.Prelude.{get_or, Some, None, Result, Ok, Err}
 use Rattle.reading.specs.Answer.{Answer, done, refused}
-use Rattle.reading.specs.Verdict.{number, answer_of, verdict_of}
+use Rattle.reading.specs.Verdict.{number, refusals, answer_of, verdict_of}
 use Rattle.reading.specs.declared.refusal.Refusal.{Refusal}
+use Rattle.reading.specs.declared.refusal.Refusal.TheVariants as Rf
+
+-- the number of a refusal leads back to it
+pub refusal_again : (r : Refusal) → get_or refusals (number r) None ≡ Some r
+refusal_again Rf.ChartHeader = refl
+refusal_again Rf.ChartCount = refl
+refusal_again Rf.ChartLength = refl
+refusal_again Rf.ChartField = refl
+refusal_again Rf.Parent = refl
+refusal_again Rf.ManySequential = refl
+refusal_again Rf.NoSequential = refl
+refusal_again Rf.EntryMarks = refl
+refusal_again Rf.ExitMarks = refl
+refusal_again Rf.Siblings = refl
+refusal_again Rf.Exit = refl
+refusal_again Rf.Entry = refl
+refusal_again Rf.Updates = refl
+refusal_again Rf.Channel = refl
+refusal_again Rf.ManyEdges = refl
+refusal_again Rf.ShortBuffer = refl
+refusal_again Rf.ChartConfiguration = refl
+refusal_again Rf.List = refl
+refusal_again Rf.Inactive = refl
+refusal_again Rf.NotAllowed = refl
+refusal_again Rf.Bound = refl
+refusal_again Rf.Ticks = refl
+refusal_again Rf.NetworkHeader = refl
+refusal_again Rf.NetworkField = refl
+refusal_again Rf.NetworkConfiguration = refl
+refusal_again Rf.Urgent = refl
+refusal_again Rf.OutOfRange = refl
+refusal_again Rf.Window = refl
 
 -- what is done is not refused
 pub done_not : {A X : Type 0} {a : A} {k : ℕ} → done a ≡ refused k → X

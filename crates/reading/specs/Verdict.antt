@@ -1,5 +1,5 @@
 -- What the code says of an answer: its result, or its refusal by name. The definitions have the numbers of the refusals.
-use Rattle.std.specs.Prelude.{ℕ, Result, Ok, Err}
+use Rattle.std.specs.Prelude.{ℕ, List, [], ◌∷◌, Option, Some, None, Result, Ok, Err}
 use Rattle.reading.specs.Answer.{Answer, done, refused}
 use Rattle.reading.specs.declared.refusal.Refusal.{Refusal}
 use Rattle.reading.specs.declared.refusal.Refusal.TheVariants as Rf
@@ -34,6 +34,16 @@ number Rf.NetworkConfiguration = 26
 number Rf.Urgent = 27
 number Rf.OutOfRange = 28
 number Rf.Window = 29
+
+-- the refusals by their numbers; none has 0 or 23
+abbrev pub refusals : List (Option Refusal)
+refusals =
+    None ∷ Some Rf.ChartHeader ∷ Some Rf.ChartCount ∷ Some Rf.ChartLength ∷ Some Rf.ChartField ∷ Some Rf.Parent ∷
+    Some Rf.ManySequential ∷ Some Rf.NoSequential ∷ Some Rf.EntryMarks ∷ Some Rf.ExitMarks ∷ Some Rf.Siblings ∷
+    Some Rf.Exit ∷ Some Rf.Entry ∷ Some Rf.Updates ∷ Some Rf.Channel ∷ Some Rf.ManyEdges ∷ Some Rf.ShortBuffer ∷
+    Some Rf.ChartConfiguration ∷ Some Rf.List ∷ Some Rf.Inactive ∷ Some Rf.NotAllowed ∷ Some Rf.Bound ∷
+    Some Rf.Ticks ∷ None ∷ Some Rf.NetworkHeader ∷ Some Rf.NetworkField ∷ Some Rf.NetworkConfiguration ∷
+    Some Rf.Urgent ∷ Some Rf.OutOfRange ∷ Some Rf.Window ∷ []
 
 -- the answer that a result of the code is
 abbrev pub answer_of : {A : Type 0} → Result A Refusal → Answer A

@@ -160,12 +160,12 @@ pub fn word_at(s: &[u8], at: usize) -> u32
     }
 }
 
-// So many bytes from a place on, the length of a record having been read before it.
+// So many bytes from a place on, the length of a record having been read before it. Past the end there are none.
 pub fn part(s: &[u8], from: usize, size: usize) -> Read<&[u8]>
-    requires { from ≤ length s.now }
     ensures means { (q : Reader ℕ) (b : List ℕ) → q b ≡ got size (onward s.now from) → part_of s.now result ≡ framed q b }
     ensures within { end_of result ≤ length s.now }
 {
+    let from = from.min(s.len());
     if s.len() - from < size {
         Err(Fault::Length)
     } else {

@@ -1,6 +1,6 @@
 // What a call can be refused for. The numbers are those of the README's table; C and the programs tell them.
-ghost use Rattle.std.specs.Prelude.{◌≡◌};
-ghost use Rattle.reading.specs.Verdict.{number, answer_of, verdict_number};
+ghost use Rattle.std.specs.Prelude.{◌≡◌, get_or};
+ghost use Rattle.reading.specs.Verdict.{number, refusals, answer_of, verdict_number};
 
 use std::fmt;
 
@@ -42,6 +42,51 @@ impl Refusal {
         ensures { result ≡ number self }
     {
         self as u8
+    }
+
+    // The refusal of this number, if there is one.
+    pub fn of(number: u8) -> Option<Refusal>
+        ensures { result ≡ get_or refusals number None }
+    {
+        match number {
+            1 => Some(Refusal::ChartHeader),
+            2 => Some(Refusal::ChartCount),
+            3 => Some(Refusal::ChartLength),
+            4 => Some(Refusal::ChartField),
+            5 => Some(Refusal::Parent),
+            6 => Some(Refusal::ManySequential),
+            7 => Some(Refusal::NoSequential),
+            8 => Some(Refusal::EntryMarks),
+            9 => Some(Refusal::ExitMarks),
+            10 => Some(Refusal::Siblings),
+            11 => Some(Refusal::Exit),
+            12 => Some(Refusal::Entry),
+            13 => Some(Refusal::Updates),
+            14 => Some(Refusal::Channel),
+            15 => Some(Refusal::ManyEdges),
+            16 => Some(Refusal::ShortBuffer),
+            17 => Some(Refusal::ChartConfiguration),
+            18 => Some(Refusal::List),
+            19 => Some(Refusal::Inactive),
+            20 => Some(Refusal::NotAllowed),
+            21 => Some(Refusal::Bound),
+            22 => Some(Refusal::Ticks),
+            24 => Some(Refusal::NetworkHeader),
+            25 => Some(Refusal::NetworkField),
+            26 => Some(Refusal::NetworkConfiguration),
+            27 => Some(Refusal::Urgent),
+            28 => Some(Refusal::OutOfRange),
+            29 => Some(Refusal::Window),
+            _ => None,
+        }
+    }
+}
+
+impl From<Refusal> for u8 {
+    ghost from_gives = { λ refusal n. n ≡ number refusal };
+
+    fn from(refusal: Refusal) -> u8 {
+        refusal.number()
     }
 }
 

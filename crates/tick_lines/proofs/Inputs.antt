@@ -69,7 +69,7 @@ unfolding byte_said
 other_said ts l b e = cond_no _ (said ts (with_byte l b)) (ne_eqb b 10 e)
 
 -- a byte more
-read_more :
+pub read_more :
     (w : ℕ) (ring ring' : List ℕ) (a : Said) (s : State) (b : ℕ) (r : Result State Stopped) → GoesOn w ring a s →
     ((ts : List ℕ) → Holds w ring s.recent ts → ReadTo w ring' (byte_said (said ts s.line) b) r) → ReadTo w ring' (byte_said a b) r
 read_more w ring ring' (said ts l) s b r R f = subst (λ (k : Line). ReadTo w ring' (byte_said (said ts k) b) r) R.1 (f ts R.0)

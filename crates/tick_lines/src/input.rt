@@ -5,7 +5,8 @@ ghost use Rattle.tick_lines.specs.Rings.{no_ticks, Holds, AddedTo};
 ghost use Rattle.tick_lines.specs.declared.line.Line.TheVariants as Li;
 ghost use Rattle.tick_lines.specs.Inputs.{said, line_ended, byte_said, ReadTo, TakenTo};
 
-use crate::line::{Line, Stop, ended_tick, with_byte};
+pub use crate::line::Stop;
+use crate::line::{Line, ended_tick, with_byte};
 use crate::recent::{Recent, add, no_ticks};
 
 // The ticks of the lines that have ended, and the line that is being read, with its number.
