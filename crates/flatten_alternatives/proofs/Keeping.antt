@@ -1,7 +1,7 @@
 -- Laws of tables of ascending sets: one more is put in, and another order of the same sets makes no difference.
 use mathlib.Core.Path.{◌≡◌, refl, sym, ap, ◌∙◌, subst}
 use mathlib.Core.Bool.{Bool, true, false, cond}
-use mathlib.Core.Logic.{inr, ⊎_elim, ◌≢◌}
+use mathlib.Core.Logic.{◌⊎◌, inr, ⊎_elim, ◌≢◌}
 use mathlib.Core.List.Memᴰ.{head as here}
 use mathlib.Core.List.Memᴰ.{tail as there}
 use mathlib.Core.List.{List, [], ◌∷◌, ◌++◌, map, append_assoc, map-append, Memᴰ as Mem}
@@ -15,14 +15,10 @@ use native.Mathlib.Omega.{arith}
 use native.Mathlib.Decide.{dec_lt}
 use native.Mathlib.Nat.{min-eq_left, min-eq_right, one-mul, mod-eq_of_lt}
 use native.Mathlib.Numerals.{add-one}
-use borrow.Author.Tests.{eqb-true, ne_eqb, lt-ltb, le-ltb, ltb-true, ltb-false}
+use borrow.Author.Tests.{eqb-true, ne_eqb, lt-ltb, le-ltb}
 use lib.ListN.{length, get_or, set, take, drop, length-append, length-drop, length-set, length-map, drop_of_length-le}
 use lib.Bits.{bit_or}
 use lib.Seq.{take-suc, take-suc-set, take-set-lt, drop-set-lt, take-take, get_or-take, length-take-le, take_all}
-use Rattle.std.specs.List.Sorted.{IsPartitionedBy, IsPartitionPoint}
-use Rattle.std.proofs.lemmas.List.{get_or_default}
-use Rattle.std.proofs.lemmas.List.Sorted.{IsPartitionedBy-ltb}
-use lib.Dec.{ltb}
 use Rattle.lists.specs.Lists.{has, ascending}
 use Rattle.lists.proofs.Ascending.{ascending_tail, ascending_above, ascending_once, ascending_same}
 use Rattle.lists.proofs.Lists.{get_d_mem}
@@ -61,6 +57,10 @@ rising (x ∷ xs) h zero zero p q = omega arith
 rising (x ∷ xs) h zero (suc j) p q = omega (arith, ascending_above x xs h (get_d_mem xs j 0 (omega arith)))
 rising (x ∷ xs) h (suc i) zero p q = absurd (omega arith)
 rising (x ∷ xs) h (suc i) (suc j) p q = rising xs (ascending_tail x xs h) i j (omega arith) (omega arith)
+
+-- the element before the next place
+pub before_next : (l : List ℕ) (k x : ℕ) → get_or l k 0 < x → get_or l (k + 1 - 1) 0 < x
+before_next l k x h = subst (λ (j : ℕ). get_or l j 0 < x) (let z : k ≡ k + 1 - 1 = omega arith in z) h
 
 -- lists with the same elements are sorted alike, and one with more is no shorter
 pub sorted_same : (xs ys : List ℕ) → Within xs ys → Within ys xs → sorted xs ≡ sorted ys
@@ -141,24 +141,19 @@ module _ (x : ℕ) (xs items : List ℕ) (count : ℕ) where
     rise : (i j : ℕ) → i ≤ j → j < length (take count items) → get_or (take count items) i 0 ≤ get_or (take count items) j 0
     rise = rising (take count items) (subst (λ (l : List ℕ). ascending l ≡ true) (sym stand) (sorted_ascending xs))
 
-    -- what is asked of a search by the smaller ones
-    pub parted : IsPartitionedBy (λ y. ltb y x) (take count items)
-    parted = IsPartitionedBy-ltb (λ n. n) (take count items) x (λ i j d h l. omega (arith, rise i j h l, get_or_default (take count items) i d 0 (omega arith), get_or_default (take count items) j d 0 l))
-
-    -- the end, where the last is smaller
-    pub splits_end : (count ≡ 0 → ⊥) → get_or items (count - 1) 0 < x → Splits x (take count items) count
-    splits_end d h = record {
+    -- a place by the number before it and the number there
+    pub splits_at : (i : ℕ) → i ≤ count → (i ≡ 0) ⊎ (get_or items (i - 1) 0 < x) → (i ≡ count) ⊎ (x ≤ get_or items i 0) → Splits x (take count items) i
+    splits_at i h p q = record {
       fits = omega (arith, long);
-      before = λ i l. omega (arith, rise i (count - 1) (omega arith) (omega (arith, long)), (let z : get_or (take count items) (count - 1) 0 ≡ get_or items (count - 1) 0 = get_or-take count items (count - 1) 0 (omega arith) in z));
-      from = λ i l m. absurd (omega (arith, long));
+      before = λ j l. ⊎_elim
+          (λ e. absurd (omega arith))
+          (λ less. omega (arith, less, rise j (i - 1) (omega arith) (omega (arith, long)), (let z : get_or (take count items) (i - 1) 0 ≡ get_or items (i - 1) 0 = get_or-take count items (i - 1) 0 (omega arith) in z)))
+          p;
+      from = λ j l m. ⊎_elim
+          (λ e. absurd (omega (arith, long)))
+          (λ less. omega (arith, less, rise i j l m, (let z : get_or (take count items) i 0 ≡ get_or items i 0 = get_or-take count items i 0 (omega (arith, long)) in z)))
+          q;
     }
-
-    pub splits_none : count ≡ 0 → Splits x (take count items) count
-    splits_none e = record { fits = omega (arith, long); before = λ i l. absurd (omega arith); from = λ i l m. absurd (omega (arith, long)) }
-
-    -- the place that a search by the smaller ones finds
-    pub splits_by : (i : ℕ) → IsPartitionPoint (λ y. ltb y x ≡ true) (λ y. ltb y x ≡ false) (take count items) i → i ≤ length (take count items) → Splits x (take count items) i
-    splits_by i p h = record { fits = h; before = λ j l. ltb-true _ _ (p.0 j 0 (omega arith) l); from = λ j l m. ltb-false _ _ (p.1 j 0 l m) }
 
     module _ (i : ℕ) (s : Splits x (take count items) i) where
       pub kept_found : i < count → get_or items i 0 ≡ x → Kept items count (x ∷ xs)

